@@ -1,5 +1,6 @@
--- For the theorems on `exec` and `run`: the lines of the gauge, which are those that run_command prints, and how they
--- are said by trees, of a run that gives values.
+-- The lines of the gauge of `exec` and `gen`, by trees, of a run that gives values: as the lowest number of cells of each
+-- size how many of them the results and the lent arguments have, as the highest how many the arguments and the header's
+-- credits have.
 --
 -- The reversal of a list of three items has the lines
 --     cells of 2: 3 to 3
@@ -9,7 +10,7 @@ use Rattle.std.specs.Prelude.{ℕ, ◌+◌, List}
 use Rattle.command_library.specs.fip_language.Values.{Values, cells_of_all}
 use Rattle.command_library.specs.fip_base.declared.plain.Param.{Param}
 use Rattle.command_library.specs.session_semantics.Talk.{credits_of}
-pub use Rattle.worked_examples.specs.tree_refinement.LentValues.{lent_values}
+pub use Rattle.command_library.specs.machine_correctness.tree_refinement.LentValues.{lent_values}
 pub use Rattle.command_library.specs.command_run.GaugeText.{gauge_text, gauge_by_states, highest_stack, if_asked}
 
 -- most cells of size k: those of the arguments and of the header's credits

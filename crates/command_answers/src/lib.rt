@@ -1,8 +1,8 @@
-// The answer of every command: what words, files and an input come to, and what is stored and left. Definitions and
-// their laws; no code.
+// The commands, and what each answers by one relation: definitions and their laws.
 #![tactic(auto)]
 
-pub mod empty;
-pub mod members;
-pub mod runs;
 pub mod theorems;
+
+pub use command_library::{evaluator, generate, library, runner, source};
+pub use command_tasks::tasks;
+pub use command_trace::{replay, trace};

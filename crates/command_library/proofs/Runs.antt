@@ -1,6 +1,6 @@
 -- From a machine's run to what `gen` comes to.
-use Rattle.std.proofs.Common.{◌≡◌, ◌≢◌, ◌∙◌, ◌≤◌, ◌<◌, ℕ, false, List, [], ◌++◌, length, Some, None, option_map, refl, sym, ap, subst}
-use Rattle.std.specs.Prelude.{Result, Ok, Err}
+use Rattle.std.proofs.Common.{◌≡◌, ◌≢◌, ◌∙◌, ◌≤◌, ◌<◌, ℕ, true, false, List, [], ◌++◌, length, Option, Some, None, option_map, refl, sym, ap, subst}
+use Rattle.std.specs.Prelude.{Result, Ok, Err, IfSome}
 use Rattle.std.specs.declared.vec.Vec.{Vec}
 use Rattle.std.specs.declared.alloc.Global.{Global}
 use Rattle.std.proofs.lemmas.Option.{none-some, same_Some, slice_get-map}
@@ -14,6 +14,7 @@ use Rattle.fip_language.specs.declared.limits.TheConstants.{MOST_FILE_BYTES}
 use Rattle.task_semantics.specs.machine_semantics.Cells.{Store}
 use Rattle.task_semantics.specs.machine_semantics.States.{State}
 use Rattle.command_run.specs.separation.Codes.{HasLiterals}
+use Rattle.cell_store.specs.Made.{Stored}
 use Rattle.command_words.specs.Words.{Room}
 use Rattle.command_outcome.specs.declared.failure.Failure.{Failure}
 use Rattle.command_outcome.specs.declared.failure.Failure.TheVariants as F
@@ -34,13 +35,17 @@ use Rattle.command_run.specs.machine_correctness.Meant.{IsMeant, ArePrintable}
 use Rattle.command_run.specs.machine_correctness.Starts.{Begins}
 use Rattle.command_run.proofs.machine_correctness.EvaluatedEnds.{answers_as_meant}
 use Rattle.command_run.proofs.machine_correctness.Texts.{printable}
+use Rattle.command_run.specs.CodeRun.{is_run_failure}
 use Rattle.command_run.specs.ExecAnswer.{Execs, Misspelt, Small, Ran, RunsOn, TellsRun, answer_of, frames_for, words_of}
 use Rattle.command_run.specs.GaugeText.{if_asked}
+use Rattle.command_run.specs.Leaving.{IsLastStore, LeavesOf}
+use Rattle.command_run.specs.declared.running.Left.{Left}
 use Rattle.command_run.specs.Starting.{IsStarted, TellsEnded, failure_for, gauge_lines}
 use Rattle.command_run.proofs.ExecOnce.{same_answer, answers_alike}
 use Rattle.command_run.proofs.Execs as X
 use Rattle.command_run.proofs.Entry as N
 use Rattle.command_run.proofs.Entry.{IsEntry}
+use Rattle.command_run.proofs.Leaving.{left_by}
 use Rattle.command_run.proofs.Ran as P
 use Rattle.command_library.specs.GenAnswer.{tree_source, build, gen_room, Makes, LongInput, NoTree, Made, Refused, Ran as Done, Generates}
 use Rattle.command_library.specs.MadeTree.{gen_input, lines_of_results}
@@ -52,6 +57,13 @@ failed_told tb types room behind s given M.Value failure e = absurd (none-some f
 failed_told tb types room behind s given (M.Trap kind line col) failure e = ap Err (sym (same_Some (F.Trap kind line col) failure e))
 failed_told tb types room behind s given M.Out failure e = ap Err (sym (same_Some (F.OutOfCalls room.calls) failure e))
 failed_told tb types room behind s given M.Deep failure e = ap Err (sym (same_Some (F.OutOfFrames room.frames) failure e))
+
+-- and it is the end of a run
+pub run_failed : (o : Ended) (calls frames : ℕ) (failure : Failure) → failure_for o calls frames ≡ Some failure → is_run_failure failure ≡ true
+run_failed M.Value calls frames failure e = absurd (none-some failure e)
+run_failed (M.Trap kind line col) calls frames failure e = ap is_run_failure (sym (same_Some (F.Trap kind line col) failure e))
+run_failed M.Out calls frames failure e = ap is_run_failure (sym (same_Some (F.OutOfCalls calls) failure e))
+run_failed M.Deep calls frames failure e = ap is_run_failure (sym (same_Some (F.OutOfFrames frames) failure e))
 
 -- one that gave a value
 pub is_value : (o : Ended) (calls frames : ℕ) → failure_for o calls frames ≡ None → o ≡ M.Value
@@ -174,3 +186,8 @@ module _ (seed count : ℕ) (text : List ℕ) (same : text ≡ tree_source) wher
   kept_text (F.Refused r) h = Refused r (subst (λ t. Refuses t (Compiled build) r) same h)
   kept_text F.NoMemory h = tt
   kept_text f h = absurd h
+
+-- what is left of a run of a code of the library's text
+pub left_of : (text : List ℕ) → text ≡ tree_source → (input : List ℕ) (room : Room) (r : Chosen) (cells : Option Stored) (left : Option Left) → IsEntryOf text build r → IfSome cells (IsLastStore r input room) → IfSome left (λ l. (l.verified ≡ r.checked) × (cells ≡ Some l.cells)) → IfSome left (LeavesOf (IsEntryOf tree_source build) input room)
+left_of text same input room r cells None is h k = tt
+left_of text same input room r cells (Some l) is h k = (r, subst (λ t. IsEntryOf t build r) same is, left_by r input room cells (Some l) h k)

@@ -1,22 +1,25 @@
 // The run that makes a tree, and what is told of it.
-ghost use Rattle.std.specs.Prelude.{◌≡◌, ◌⊎◌, ℕ, List, slice_get, Some, IfOk, IfErr};
+ghost use Rattle.std.specs.Prelude.{◌≡◌, ◌⊎◌, ℕ, List, slice_get, is_some, Some, IfOk, IfErr, IfSome};
 ghost use Rattle.fip_language.specs.Values.{Values};
 ghost use Rattle.fip_machine.specs.cell_code.declared.code.Function.{Function as a_function};
 ghost use Rattle.command_outcome.specs.Stages.{IsOfSource, IsOfRun};
 ghost use Rattle.fip_machine.specs.machine_cells.Small.{IsSmall};
 ghost use Rattle.command_run.specs.machine_correctness.Meant.{ArePrintable};
+ghost use Rattle.command_run.specs.CodeRun.{is_run_end};
+ghost use Rattle.command_run.specs.Leaving.{IsLastStore, LeavesOf};
 ghost use Rattle.command_run.specs.command_source.ProgramCode.{IsEntryOf};
 ghost use Rattle.command_run.specs.command_source.Wanted.{Compiled, IsReady};
 ghost use Rattle.command_run.specs.command_eval.EvalAnswer.{OrNoMemory};
-ghost use Rattle.command_library.specs.GenAnswer.{build, Makes, Generates};
-ghost use Rattle.command_library.specs.MadeTree.{keys_of_first, lines_of_keys, lines_of_results};
+ghost use Rattle.command_library.specs.GenAnswer.{build, gen_room, tree_source, Makes, Generates};
+ghost use Rattle.command_library.specs.MadeTree.{gen_input, keys_of_first, lines_of_keys, lines_of_results};
 ghost use Rattle.command_library.specs.Reading.{ints};
 
 use crate::arguments::arguments;
 use crate::keys::{ends_of, first_keys};
+use cell_store::Sealed;
 use command_outcome::{Failure, tree_lines};
 use command_run::source::{Ready, exec_entry};
-use command_run::{failure_of, started, types_of};
+use command_run::{Left, failure_of, leave, started, types_of};
 use command_words::Room;
 use fip_base::plain::NoMemory;
 use fip_language::limits::{MOST_FILE_BYTES, MOST_STORE_WORDS};
@@ -66,43 +69,74 @@ fn tree_of(
     lines_of(alloc, count, keys.as_slice())
 }
 
-// The lines of the tree that a run of the entry makes of so many keys of a seed.
-fn make(alloc: Global, ready: &Ready, seed: u64, count: u64) -> Result<Vec<u8>, Failure>
+// The lines of the tree that a run of the entry makes of so many keys of a seed, and the cells as the run left them:
+// just where a run ended, with a tree, in a trap, or out of calls or of frames.
+fn make(
+    alloc: Global,
+    ready: &Ready,
+    seed: u64,
+    count: u64,
+) -> (Result<Vec<u8>, Failure>, Option<Sealed>)
     ensures makes { (source : List ℕ) → IsReady source (Compiled build) → IsEntryOf source build ready.now →
-        OrNoMemory (Makes source seed count) result }
-    ensures stage { IfErr result IsOfRun }
+        OrNoMemory (Makes source seed count) result.0 }
+    ensures meant { (source : List ℕ) → IsReady source (Compiled build) → IsEntryOf source build ready.now →
+        IfSome result.1 (IsLastStore ready.now (gen_input seed count) gen_room) }
+    ensures some { is_some result.1 ≡ is_run_end result.0 }
+    ensures stage { IfErr result.0 IsOfRun }
 {
     prove!(ready.entry() < ready.verified().code().functions.len());
-    let input = arguments(alloc, seed, count)?;
+    let input = match arguments(alloc, seed, count) {
+        Ok(input) => input,
+        Err(NoMemory) => return (Err(Failure::NoMemory), None),
+    };
     if input.len() > MOST_FILE_BYTES {
-        return Err(Failure::BadInput {
-            at: MOST_FILE_BYTES,
-        });
+        let at = MOST_FILE_BYTES;
+        return (Err(Failure::BadInput { at }), None);
     }
     let room = Room {
         calls: CALLS,
         frames: FRAMES,
         words: WORDS,
     };
-    let mut machine = started(alloc, ready, input.as_slice(), room)?;
+    let mut machine = match started(alloc, ready, input.as_slice(), room) {
+        Ok(machine) => machine,
+        Err(failure) => return (Err(failure), None),
+    };
     let mut seen = Gauge::new();
     let ended = machine.run(CALLS, &mut seen);
     match failure_of(ended, CALLS, FRAMES) {
-        Some(failure) => Err(failure),
-        None => Ok(tree_of(alloc, ready, &machine, count)?),
+        Some(failure) => (Err(failure), Some(machine.into_sealed())),
+        None => match tree_of(alloc, ready, &machine, count) {
+            Ok(text) => (Ok(text), Some(machine.into_sealed())),
+            Err(NoMemory) => (Err(Failure::NoMemory), None),
+        },
     }
 }
 
 /// The four lines of the red-black tree that is made of so many keys of a seed: how many keys and nodes, the least and
 /// the greatest key. It is what `build` of the library's text `rbtree` gives for these keys, a pad for each, and no
-/// node. What keeps the text from being run, or its run from a tree, is told as `exec` tells it.
-pub fn generate(alloc: Global, seed: u64, count: u64) -> Result<Vec<u8>, Failure>
+/// node. What keeps the text from being run, or its run from a tree, is told as `exec` tells it. The code and the cells
+/// are left just where a run ended, with a tree, in a trap, or out of calls or of frames.
+pub fn generate(
+    alloc: Global,
+    seed: u64,
+    count: u64,
+    left: &mut Option<Left>,
+) -> Result<Vec<u8>, Failure>
     ensures generates { OrNoMemory (Generates seed count) result }
+    // What is left is a code of that text, and the cells of the last state of its run from where the keys are loaded.
+    ensures left { IfSome left.new (LeavesOf (IsEntryOf tree_source build) (gen_input seed count) gen_room) }
+    ensures some { is_some left.new ≡ is_run_end result }
     ensures stage { IfErr result (λ f. IsOfSource f ⊎ IsOfRun f) }
 {
+    *left = None;
     match text("rbtree") {
         Some(source) => match exec_entry(alloc, source.as_bytes(), "build") {
-            Ok(ready) => make(alloc, &ready, seed, count),
+            Ok(ready) => {
+                let (end, cells) = make(alloc, &ready, seed, count);
+                leave(ready, cells, left);
+                end
+            }
             Err(failure) => Err(failure),
         },
         // The library has this text.

@@ -35,6 +35,7 @@ fn main(rt: HostRuntime) -> ExitCode {
     let mut folder = FileFolder::new(rt.alloc(), &rt);
     let mut input = StdSource::new(rt.stdin());
     let mut out = StdSink::new(rt.stdout());
+    let mut left = None;
     let status = fp2(
         rt.alloc(),
         words.as_slice(),
@@ -42,6 +43,7 @@ fn main(rt: HostRuntime) -> ExitCode {
         &mut input,
         &mut out,
         &mut err,
+        &mut left,
     );
     ExitCode::from(status.0)
 }

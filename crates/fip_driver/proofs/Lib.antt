@@ -2,11 +2,8 @@ mod WholeAnswer
 mod Telling
 mod SourceEnds
 mod CodeEnds
-mod OneCommand
-pub mod OneCode
-pub mod OneEnd
 mod Outcomes
 mod Unread
+mod Remains
 mod Storing
 mod Counted
-mod OneAnswer

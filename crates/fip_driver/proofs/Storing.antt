@@ -8,7 +8,10 @@ use Rattle.command_outcome.specs.declared.failure.Failure.{Failure}
 use Rattle.command_outcome.specs.declared.failure.Failure.TheVariants as F
 use Rattle.command_outcome.specs.declared.failure.Object.TheVariants as O
 use Rattle.fip_driver.specs.Fetched.{StoreFails, StoreKeeps}
-use Rattle.fip_driver.specs.Unread.{Outcome, IsMadeBy, AreKept}
+use Rattle.command_answers.specs.Stored.{IsMadeBy, Stores}
+use Rattle.fip_driver.specs.Delivered.{Outcome}
+use Rattle.fip_driver.specs.Faults.{end_of}
+use Rattle.fip_driver.specs.Outcome.{AreKept}
 use Rattle.fip_driver.proofs.SourceEnds.{rose_later}
 
 pub unstored : (c : Command) (left : Option (List ℕ)) (name : List ℕ) (rose : Type 0) (old new : Option (List File)) (f : Failure) → new ≡ old → AreKept c left (Some name) rose old new (Err f)
@@ -33,3 +36,19 @@ stored_kept c left name bytes old mid new before between now o same le made fail
     by (Err (F.Fault O.Out)) fails k = k
     by (Err (F.Fault O.Err)) fails k = k
     by (Err f) fails k = k
+
+-- where the folder didn't fail, the files are those of the answer
+pub stored_as : (c : Command) (name : Option (List ℕ)) (files : List File) (input : List ℕ) (rose : Type 0) (new : Option (List File)) (o : Outcome) → (rose → ⊥) → AreKept c (Some input) name rose (Some files) new o → Stores c files input name (end_of o) new
+stored_as c None files input rose new o no h = h
+stored_as c (Some name) files input rose new (Ok text) no h = h
+stored_as c (Some name) files input rose new (Err (F.Fault O.Folder)) no (inl same) = same
+stored_as c (Some name) files input rose new (Err (F.Fault O.Folder)) no (inr h) = absurd (no h.0)
+stored_as c (Some name) files input rose new (Err (F.Fault O.Input)) no h = h
+stored_as c (Some name) files input rose new (Err (F.Fault O.Out)) no h = h
+stored_as c (Some name) files input rose new (Err (F.Fault O.Err)) no h = h
+stored_as c (Some name) files input rose new (Err f) no h = h
+
+-- a failure leaves all as they were
+pub failed_kept : (c : Command) (name : Option (List ℕ)) (files : List File) (input : List ℕ) (new : Option (List File)) (f : Failure) → Stores c files input name (Err f) new → new ≡ Some files
+failed_kept c None files input new f h = h
+failed_kept c (Some name) files input new f h = h

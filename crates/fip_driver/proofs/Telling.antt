@@ -6,7 +6,7 @@ use Rattle.std.proofs.lemmas.List.{length-append, length-replicate}
 use Rattle.std.proofs.lemmas.Slice.Eq.{bytes_eq-Decides}
 use Rattle.fip_outside.specs.Files.{File, file_of, HoldsFile, HoldsLonger}
 use Rattle.fip_outside.specs.Takes.{Takes}
-use Rattle.fip_driver.specs.Answered.{IsTold}
+use Rattle.command_answers.specs.Stored.{IsTold}
 use Rattle.fip_driver.specs.Fetched.{FetchFails, ReadFails}
 use Rattle.command_outcome.specs.declared.failure.Failure.{Failure}
 use Rattle.command_outcome.specs.declared.failure.Failure.TheVariants as F

@@ -8,10 +8,11 @@ use Rattle.command_words.specs.Words.{Command, Exec, Run, Eval, Trace, Session, 
 use Rattle.command_outcome.specs.Stages.{IsOfSource, IsOfRun, IsOfTasks, IsOfTrace}
 use Rattle.command_outcome.specs.Failures.{failure_status, failure_text}
 use Rattle.command_outcome.specs.Texts.{no_memory_text}
-use Rattle.fip_driver.specs.Delivered.{Seen, Told, ToldFailure, Delivered}
-use Rattle.fip_driver.specs.Commands.{ReadsInput, CallsNoFolder}
+use Rattle.fip_driver.specs.Delivered.{Seen, Told, ToldFailure, Delivered, Outcome}
+use Rattle.fip_driver.specs.Faults.{IsBeforeSource, IsBeforeInput, IsBeforeTrace, IsBeforeInputOf, HadInput, HadFolder, LeavesInput, IsEarly, MayHaveRead, HasRead, HasCalled, AreAfter}
+use Rattle.fip_driver.specs.Outcome.{AreKept}
+use Rattle.command_answers.specs.Asks.{ReadsInput, CallsNoFolder, ComesToInput}
 use Rattle.fip_driver.specs.Fetched.{FetchFails, StoreFails, ReadFails, IsEarlyFailure, IsLateFailure}
-use Rattle.fip_driver.specs.Unread.{Outcome, IsBeforeSource, IsBeforeInput, IsBeforeTrace, IsBeforeInputOf, FindsSource, WaitsOr, HadInput, HadFolder, LeavesInput, AreKept, IsEarly, MayHaveRead, HasRead, HasCalled, AreAfter}
 use Rattle.command_outcome.specs.declared.failure.Failure.{Failure}
 use Rattle.command_outcome.specs.declared.failure.Failure.TheVariants as F
 use Rattle.command_outcome.specs.declared.failure.Object.TheVariants as O
@@ -179,16 +180,12 @@ calls_or_not (Library name) = inl tt
 calls_or_not (Gen seed count) = inl tt
 calls_or_not c = inr (λ b. b)
 
-waits_or_finds : (same : Type 0) (c : Command) (files : Option (List File)) → WaitsOr same c files → same ⊎ FindsSource c files
-waits_or_finds same (Trace file entry out room) files h = h
-waits_or_finds same c files h = inr tt
-
 module _ (words : List (List ℕ)) (c : Command) (asked : IsCommand words c) (o : Outcome) where
-  pub input_turn : (same : Type 0) (files : Option (List File)) → ((ReadsInput c → ⊥) → same) → (IsBeforeInputOf c o → same) → WaitsOr same c files → same ⊎ HadInput words files o
+  pub input_turn : (same : Type 0) (files : Option (List File)) → ((ReadsInput c → ⊥) → same) → (IsBeforeInputOf c o → same) → same ⊎ ComesToInput c files → same ⊎ HadInput words files o
   input_turn same files unread before waits = elim (reads_or_not c) [
     | inl reads ↦ elim (before_or_not c o) [
       | inl b ↦ inl (before b)
-      | inr late ↦ elim (waits_or_finds same c files waits) [ inl e ↦ inl e | inr finds ↦ inr (c, asked, reads, late, finds) ]
+      | inr late ↦ elim waits [ inl e ↦ inl e | inr came ↦ inr (c, asked, reads, late, came) ]
     ]
     | inr never ↦ inl (unread never)
   ]

@@ -1,6 +1,6 @@
 -- What a host finds after a command's result, or what kept it from one, was handed to its sinks: the status, and what
 -- out and err hold more. A sink that isn't written to stays as it is.
-use Rattle.std.specs.Prelude.{◌≡◌, ℕ, List, ◌⊎◌, Option, Result, Ok, Err}
+use Rattle.std.specs.Prelude.{◌≡◌, ◌⊎◌, ℕ, List, Option, Result, Ok, Err}
 use Rattle.std.specs.Io.KnownBytes.{Appends}
 use Rattle.std.specs.declared.vec.Vec.{Vec}
 use Rattle.std.specs.declared.alloc.Global.{Global}
@@ -11,6 +11,10 @@ use Rattle.command_outcome.specs.Texts.{no_memory_text, out_fault_text, err_faul
 use Rattle.command_outcome.specs.declared.failure.Failure.{Failure}
 use Rattle.command_outcome.specs.declared.failure.Failure.TheVariants as F
 
+-- what a command comes to: a text for out, or what keeps it from one
+abbrev pub Outcome : Type 0
+Outcome = Result (Vec ℕ Global) Failure
+
 -- a sink: the bytes that were written, where they are told, and the count of faults
 pub record Seen : Type 0 where
   pub written : Option (List ℕ)
@@ -18,10 +22,6 @@ pub record Seen : Type 0 where
 
 abbrev pub seen : Option (List ℕ) → ℕ → Seen
 seen written faults = record { written = written; faults = faults }
-
--- a count of faults that didn't rise, and doesn't stand at its greatest
-abbrev pub NotRisen : ℕ → ℕ → Type 0
-NotRisen before now = Rose before now → ⊥
 
 -- A text was tried once: it stands on the sink, or the sink failed behind a front part of it.
 abbrev pub Tried : Seen → Seen → List ℕ → Type 0
@@ -43,7 +43,7 @@ ToldFailure old new failure s = Told old new (failure_status failure) (failure_t
     ⊎ Told old new 10 no_memory_text s
 
 -- A result stands on out; or out failed behind a front part of it, which was tried to be told on err.
-abbrev pub Delivered : Seen → Seen → Seen → Seen → Result (Vec ℕ Global) Failure → ℕ → Type 0
+abbrev pub Delivered : Seen → Seen → Seen → Seen → Outcome → ℕ → Type 0
 Delivered out out' err err' (Ok text) s =
     ((s ≡ 0) × Appends out.written out'.written text.items × (err' ≡ err))
     ⊎ ((s ≡ 9) × Rose out.faults out'.faults × WritesPrefix out.written out'.written text.items

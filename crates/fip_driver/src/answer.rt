@@ -1,18 +1,21 @@
 // What a command comes to: one arm for each, which says in what order the objects of a host are called.
-ghost use Rattle.std.specs.Prelude.{◌≡◌, ℕ, List, OnOk};
+ghost use Rattle.std.specs.Prelude.{◌≡◌, ◌⊎◌, ℕ, List, OnOk};
 ghost use Rattle.std.specs.Io.KnownBytes.{IsAtEnd};
 ghost use Rattle.fip_outside.specs.Faults.{Rose};
 ghost use Rattle.command_words.specs.Words.{IsCommand};
 ghost use Rattle.command_words.specs.View.{command_of};
-ghost use Rattle.fip_driver.specs.Commands.{ReadsInput, CallsNoFolder, stored_name};
-ghost use Rattle.fip_driver.specs.Outcome.{CommandOutcome, IsCounted};
-ghost use Rattle.fip_driver.specs.Unread.{IsBeforeSource, IsBeforeInputOf, AreKept, WaitsOr};
+ghost use Rattle.command_answers.specs.Asks.{ReadsInput, CallsNoFolder, ComesToInput, stored_name};
+ghost use Rattle.command_answers.specs.command_library.command_run.CodeRun.{is_run_end};
+ghost use Rattle.fip_driver.specs.Faults.{IsCounted, IsBeforeSource, IsBeforeInputOf};
+ghost use Rattle.fip_driver.specs.Left.{Leaves};
+ghost use Rattle.fip_driver.specs.Outcome.{CommandOutcome, AreKept};
 
 use crate::commands::{check, compile, eval, upgrade, verify};
 use crate::derivations::{audit, derive};
 use crate::exec::{exec, run};
 use crate::sessions::{session, tasks};
 use crate::traces::{replay, trace};
+use command_answers::runner::Left;
 use command_outcome::Failure;
 use command_words::Command;
 use fip_outside::outside::{Folder, Source};
@@ -24,6 +27,7 @@ pub fn answer<F: Folder, S: Source>(
     command: &Command<'_>,
     folder: &mut F,
     input: &mut S,
+    left: &mut Option<Left>,
 ) -> Result<Vec<u8>, Failure>
     requires asked { (words : List (List ℕ)) × IsCommand words (command_of command.now) }
     ensures outcome { CommandOutcome (command_of command.now) (F.files folder.old) (S.left input.old)
@@ -31,34 +35,37 @@ pub fn answer<F: Folder, S: Source>(
     ensures read { OnOk result (ReadsInput (command_of command.now) → IsAtEnd (S.left input.new)) }
     ensures unread { (ReadsInput (command_of command.now) → ⊥) → input.new ≡ input.old }
     ensures before { IsBeforeInputOf (command_of command.now) result → input.new ≡ input.old }
-    ensures waits { WaitsOr (input.new ≡ input.old) (command_of command.now) (F.files folder.old) }
+    ensures waits { (input.new ≡ input.old) ⊎ ComesToInput (command_of command.now) (F.files folder.old) }
     ensures uncalled { CallsNoFolder (command_of command.now) → folder.new ≡ folder.old }
     ensures unfetched { IsBeforeSource result → folder.new ≡ folder.old }
     ensures files { AreKept (command_of command.now) (S.left input.old) (stored_name (command_of command.now))
         (Rose (F.faults folder.old) (F.faults folder.new)) (F.files folder.old) (F.files folder.new) result }
     ensures counted { IsCounted (F.files folder.old) (Rose (F.faults folder.old) (F.faults folder.new)) result }
+    ensures left { Leaves (command_of command.now) (F.files folder.old) (S.left input.old) (is_run_end result)
+        left.new }
 {
+    *left = None;
     match command {
         Command::Check { file } => check(alloc, file, folder),
         Command::Compile { file, out } => compile(alloc, file, out, folder),
         Command::Verify { file } => verify(alloc, file, folder),
         Command::Upgrade { file, out } => upgrade(alloc, file, out, folder),
-        Command::Exec { request } => exec(alloc, request, folder, input),
-        Command::Run { request } => run(alloc, request, folder, input),
+        Command::Exec { request } => exec(alloc, request, folder, input, left),
+        Command::Run { request } => run(alloc, request, folder, input, left),
         Command::Eval {
             file,
             entry,
             calls,
             frames,
         } => eval(alloc, file, entry, *calls, *frames, folder, input),
-        Command::Library { name } => command_library::library(alloc, name),
-        Command::Gen { seed, count } => command_library::generate(alloc, *seed, *count),
+        Command::Library { name } => command_answers::library(alloc, name),
+        Command::Gen { seed, count } => command_answers::generate(alloc, *seed, *count, left),
         Command::Trace {
             file,
             entry,
             out,
             room,
-        } => trace(alloc, file, entry, out, *room, folder, input),
+        } => trace(alloc, file, entry, out, *room, folder, input, left),
         Command::Session { file, room } => session(alloc, file, *room, folder, input),
         Command::Tasks {
             file,

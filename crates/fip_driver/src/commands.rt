@@ -1,18 +1,19 @@
 // What the commands come to that fetch one file: which object is called when.
-ghost use Rattle.std.specs.Prelude.{◌≡◌, ◌≤◌, ℕ, List, Option, OnOk, Some};
+ghost use Rattle.std.specs.Prelude.{◌≡◌, ◌⊎◌, ◌≤◌, ℕ, List, Option, OnOk, Some};
 ghost use Rattle.std.specs.Io.KnownBytes.{IsAtEnd};
 ghost use Rattle.fip_language.specs.declared.limits.TheConstants.{MOST_FRAMES};
 ghost use Rattle.fip_outside.specs.Faults.{Rose};
 ghost use Rattle.fip_trees.specs.TreeView as V;
 ghost use Rattle.command_words.specs.Words as W;
-ghost use Rattle.command_library.specs.command_source.Entries.{IsRootedIn};
-ghost use Rattle.command_library.specs.command_eval.EvalAnswer.{Evaluates};
-ghost use Rattle.fip_driver.specs.Outcome.{FileOutcome, IsCounted, ReadOutcome, end_of};
-ghost use Rattle.fip_driver.specs.Unread.{AreKept, IsBeforeSource, IsBeforeInput};
+ghost use Rattle.command_answers.specs.command_library.command_source.Entries.{IsRootedIn};
+ghost use Rattle.command_answers.specs.command_library.command_eval.EvalAnswer.{Evaluates};
+ghost use Rattle.command_answers.specs.Asks.{ComesToInput};
+ghost use Rattle.fip_driver.specs.Faults.{IsCounted, end_of, IsBeforeSource, IsBeforeInput};
+ghost use Rattle.fip_driver.specs.Outcome.{FileOutcome, ReadOutcome, AreKept};
 
 use crate::fetched::{fetch_code, fetch_source, read_input};
 use crate::stored::store;
-use command_library::source::Evaluable;
+use command_answers::source::Evaluable;
 use command_outcome::Failure;
 use fip_outside::outside::{Folder, Source};
 use std::alloc::Global;
@@ -26,7 +27,7 @@ pub fn check<F: Folder>(alloc: Global, file: &str, folder: &mut F) -> Result<Vec
     ensures files { F.files folder.new ≡ F.files folder.old }
 {
     match fetch_source(alloc, folder, file) {
-        Ok(bytes) => command_library::source::check(alloc, bytes.as_slice()),
+        Ok(bytes) => command_answers::source::check(alloc, bytes.as_slice()),
         Err(failure) => Err(failure),
     }
 }
@@ -46,7 +47,7 @@ pub fn compile<F: Folder>(
     ensures understood { IsBeforeSource result → ⊥ }
 {
     match fetch_source(alloc, folder, file) {
-        Ok(bytes) => match command_library::source::compile(alloc, bytes.as_slice()) {
+        Ok(bytes) => match command_answers::source::compile(alloc, bytes.as_slice()) {
             Ok(compiled) => store(folder, out, compiled),
             Err(failure) => Err(failure),
         },
@@ -63,7 +64,7 @@ pub fn verify<F: Folder>(alloc: Global, file: &str, folder: &mut F) -> Result<Ve
     ensures files { F.files folder.new ≡ F.files folder.old }
 {
     match fetch_code(folder, file) {
-        Ok(bytes) => command_library::source::verify_file(alloc, bytes.as_slice()),
+        Ok(bytes) => command_answers::source::verify_file(alloc, bytes.as_slice()),
         Err(failure) => Err(failure),
     }
 }
@@ -83,7 +84,7 @@ pub fn upgrade<F: Folder>(
     ensures understood { IsBeforeSource result → ⊥ }
 {
     match fetch_code(folder, file) {
-        Ok(bytes) => match command_library::source::upgrade(alloc, bytes.as_slice()) {
+        Ok(bytes) => match command_answers::source::upgrade(alloc, bytes.as_slice()) {
             Ok(compiled) => store(folder, out, compiled),
             Err(failure) => Err(failure),
         },
@@ -108,7 +109,7 @@ fn evaluate<S: Source>(
     ensures late { IsBeforeInput result → ⊥ }
 {
     match read_input(alloc, input) {
-        Ok(bytes) => command_library::evaluator::evaluate(
+        Ok(bytes) => command_answers::evaluator::evaluate(
             alloc,
             program,
             bytes.as_slice(),
@@ -135,12 +136,13 @@ pub fn eval<F: Folder, S: Source>(
         (end_of result) }
     ensures read { OnOk result (IsAtEnd (S.left input.new)) }
     ensures before { IsBeforeInput result → input.new ≡ input.old }
+    ensures waits { (input.new ≡ input.old) ⊎ ComesToInput (W.Eval file.now entry.now calls frames) (F.files folder.old) }
     ensures counted { IsCounted (F.files folder.old) (Rose (F.faults folder.old) (F.faults folder.new)) result }
     ensures understood { IsBeforeSource result → ⊥ }
     ensures files { F.files folder.new ≡ F.files folder.old }
 {
     match fetch_source(alloc, folder, file) {
-        Ok(source) => match command_library::source::eval_entry(alloc, source.as_slice(), entry) {
+        Ok(source) => match command_answers::source::eval_entry(alloc, source.as_slice(), entry) {
             Ok(program) => evaluate(alloc, program, calls, frames, input),
             Err(failure) => Err(failure),
         },

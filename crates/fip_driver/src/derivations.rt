@@ -5,10 +5,10 @@ ghost use Rattle.fip_outside.specs.Files.{HoldsFile};
 ghost use Rattle.command_words.specs.Words as W;
 ghost use Rattle.command_outcome.specs.Successes.{derived_text};
 ghost use Rattle.fip_trees.specs.TreeView as V;
-ghost use Rattle.command_library.specs.command_source.Judged.{IsProofOf, IsRejectedOf};
+ghost use Rattle.command_answers.specs.command_library.command_source.Judged.{IsProofOf, IsRejectedOf};
 ghost use Rattle.fip_driver.specs.Fetched.{JudgeFails};
-ghost use Rattle.fip_driver.specs.Outcome.{AuditOutcome, FileOutcome, IsCounted, end_of};
-ghost use Rattle.fip_driver.specs.Unread.{AreKept, IsBeforeSource};
+ghost use Rattle.fip_driver.specs.Faults.{IsCounted, end_of, IsBeforeSource};
+ghost use Rattle.fip_driver.specs.Outcome.{AuditOutcome, FileOutcome, AreKept};
 
 use crate::fetched::{fetch_proof, fetch_source};
 use crate::stored::store;
@@ -32,7 +32,7 @@ pub fn derive<F: Folder>(
     ensures understood { IsBeforeSource result → ⊥ }
 {
     match fetch_source(alloc, folder, file) {
-        Ok(bytes) => match command_library::source::derive(alloc, bytes.as_slice()) {
+        Ok(bytes) => match command_answers::source::derive(alloc, bytes.as_slice()) {
             Ok(derived) => store(folder, out, derived),
             Err(failure) => Err(failure),
         },
@@ -58,7 +58,7 @@ fn judge<F: Folder>(
     ensures files { F.files folder.new ≡ F.files folder.old }
 {
     match fetch_proof(alloc, folder, proof) {
-        Ok(bytes) => command_library::source::audit(alloc, typed, bytes.as_slice()),
+        Ok(bytes) => command_answers::source::audit(alloc, typed, bytes.as_slice()),
         Err(failure) => Err(failure),
     }
 }
@@ -78,7 +78,7 @@ pub fn audit<F: Folder>(
     ensures files { F.files folder.new ≡ F.files folder.old }
 {
     match fetch_source(alloc, folder, file) {
-        Ok(source) => match command_library::source::typed_of(alloc, source.as_slice()) {
+        Ok(source) => match command_answers::source::typed_of(alloc, source.as_slice()) {
             Ok(typed) => judge(alloc, &typed, proof, folder),
             Err(failure) => Err(failure),
         },

@@ -1,20 +1,23 @@
 // What running an entry comes to: a source's and a code's.
-ghost use Rattle.std.specs.Prelude.{◌≡◌, ◌≤◌, ℕ, List, OnOk};
+ghost use Rattle.std.specs.Prelude.{◌≡◌, ◌⊎◌, ◌≤◌, ℕ, List, OnOk};
 ghost use Rattle.std.specs.Io.KnownBytes.{IsAtEnd};
 ghost use Rattle.fip_language.specs.declared.limits.TheConstants.{MOST_FRAMES, MOST_STORE_WORDS};
 ghost use Rattle.fip_outside.specs.Faults.{Rose};
 ghost use Rattle.command_words.specs.View.{room_of, request_of};
 ghost use Rattle.command_words.specs.Words as W;
-ghost use Rattle.command_library.specs.command_source.Entries.{IsFunctionOf};
-ghost use Rattle.command_library.specs.command_source.ProgramCode.{IsEntryOf};
-ghost use Rattle.command_library.specs.command_source.Wanted.{Compiled, IsReady};
-ghost use Rattle.command_library.specs.command_run.CodeRun.{RunsCode};
-ghost use Rattle.command_library.specs.command_run.ExecAnswer.{Execs};
-ghost use Rattle.fip_driver.specs.Outcome.{FileOutcome, ReadOutcome, IsCounted, end_of};
-ghost use Rattle.fip_driver.specs.Unread.{IsBeforeSource, IsBeforeInput};
+ghost use Rattle.command_answers.specs.command_library.command_source.Entries.{IsFunctionOf};
+ghost use Rattle.command_answers.specs.command_library.command_source.ProgramCode.{IsEntryOf};
+ghost use Rattle.command_answers.specs.command_library.command_source.Wanted.{Compiled, IsReady};
+ghost use Rattle.command_answers.specs.command_library.command_run.CodeRun.{is_run_end, RunsCode};
+ghost use Rattle.command_answers.specs.command_library.command_run.ExecAnswer.{Execs};
+ghost use Rattle.command_answers.specs.Asks.{ComesToInput};
+ghost use Rattle.fip_driver.specs.Faults.{IsCounted, end_of, IsBeforeSource, IsBeforeInput};
+ghost use Rattle.fip_driver.specs.Left.{LeftOn, Leaves, Remains};
+ghost use Rattle.fip_driver.specs.Outcome.{FileOutcome, ReadOutcome};
 
 use crate::fetched::{fetch_code, fetch_source, read_input};
-use command_library::source::Ready;
+use command_answers::runner::{self, Left};
+use command_answers::source::Ready;
 use command_outcome::Failure;
 use command_words::{Room, RunRequest};
 use fip_outside::outside::{Folder, Source};
@@ -27,6 +30,7 @@ fn run_ready<S: Source>(
     room: Room,
     gauge: bool,
     input: &mut S,
+    left: &mut Option<Left>,
 ) -> Result<Vec<u8>, Failure>
     requires words { room.words ≤ MOST_STORE_WORDS }
     requires frames { room.frames ≤ MOST_FRAMES }
@@ -38,9 +42,14 @@ fn run_ready<S: Source>(
         (Rose (S.faults input.old) (S.faults input.new)) (end_of result) }
     ensures read { OnOk result (IsAtEnd (S.left input.new)) }
     ensures late { IsBeforeInput result → ⊥ }
+    ensures meant { (source name : List ℕ) → IsReady source (Compiled name) → IsEntryOf source name ready →
+        Remains (LeftOn (IsEntryOf source name) (S.left input.old) (room_of room)) (is_run_end result) left.new }
+    ensures coded { (code name : List ℕ) → IsFunctionOf code name ready →
+        Remains (LeftOn (IsFunctionOf code name) (S.left input.old) (room_of room)) (is_run_end result) left.new }
 {
+    *left = None;
     match read_input(alloc, input) {
-        Ok(bytes) => command_library::runner::run(alloc, ready, bytes.as_slice(), room, gauge),
+        Ok(bytes) => runner::run(alloc, ready, bytes.as_slice(), room, gauge, left),
         Err(failure) => Err(failure),
     }
 }
@@ -51,6 +60,7 @@ pub fn exec<F: Folder, S: Source>(
     request: &RunRequest<'_>,
     folder: &mut F,
     input: &mut S,
+    left: &mut Option<Left>,
 ) -> Result<Vec<u8>, Failure>
     requires words { request.now.room.words ≤ MOST_STORE_WORDS }
     requires frames { request.now.room.frames ≤ MOST_FRAMES }
@@ -59,17 +69,21 @@ pub fn exec<F: Folder, S: Source>(
         (end_of result) }
     ensures read { OnOk result (IsAtEnd (S.left input.new)) }
     ensures before { IsBeforeInput result → input.new ≡ input.old }
+    ensures waits { (input.new ≡ input.old) ⊎ ComesToInput (W.Exec (request_of request.now)) (F.files folder.old) }
     ensures counted { IsCounted (F.files folder.old) (Rose (F.faults folder.old) (F.faults folder.new)) result }
     ensures understood { IsBeforeSource result → ⊥ }
     ensures files { F.files folder.new ≡ F.files folder.old }
+    ensures left { Leaves (W.Exec (request_of request.now)) (F.files folder.old) (S.left input.old) (is_run_end result)
+        left.new }
 {
+    *left = None;
     match fetch_source(alloc, folder, request.file) {
-        Ok(source) => match command_library::source::exec_entry(
+        Ok(source) => match command_answers::source::exec_entry(
             alloc,
             source.as_slice(),
             request.entry,
         ) {
-            Ok(ready) => run_ready(alloc, ready, request.room, request.gauge, input),
+            Ok(ready) => run_ready(alloc, ready, request.room, request.gauge, input, left),
             Err(failure) => Err(failure),
         },
         Err(failure) => Err(failure),
@@ -82,6 +96,7 @@ pub fn run<F: Folder, S: Source>(
     request: &RunRequest<'_>,
     folder: &mut F,
     input: &mut S,
+    left: &mut Option<Left>,
 ) -> Result<Vec<u8>, Failure>
     requires words { request.now.room.words ≤ MOST_STORE_WORDS }
     requires frames { request.now.room.frames ≤ MOST_FRAMES }
@@ -90,17 +105,21 @@ pub fn run<F: Folder, S: Source>(
         (end_of result) }
     ensures read { OnOk result (IsAtEnd (S.left input.new)) }
     ensures before { IsBeforeInput result → input.new ≡ input.old }
+    ensures waits { (input.new ≡ input.old) ⊎ ComesToInput (W.Run (request_of request.now)) (F.files folder.old) }
     ensures counted { IsCounted (F.files folder.old) (Rose (F.faults folder.old) (F.faults folder.new)) result }
     ensures understood { IsBeforeSource result → ⊥ }
     ensures files { F.files folder.new ≡ F.files folder.old }
+    ensures left { Leaves (W.Run (request_of request.now)) (F.files folder.old) (S.left input.old) (is_run_end result)
+        left.new }
 {
+    *left = None;
     match fetch_code(folder, request.file) {
-        Ok(bytes) => match command_library::source::run_entry(
+        Ok(bytes) => match command_answers::source::run_entry(
             alloc,
             bytes.as_slice(),
             request.entry,
         ) {
-            Ok(ready) => run_ready(alloc, ready, request.room, request.gauge, input),
+            Ok(ready) => run_ready(alloc, ready, request.room, request.gauge, input, left),
             Err(failure) => Err(failure),
         },
         Err(failure) => Err(failure),

@@ -4,10 +4,10 @@ ghost use Rattle.std.specs.Io.KnownBytes.{Consumes, IsAtEnd};
 ghost use Rattle.fip_language.specs.declared.limits.TheConstants.{MOST_FILE_BYTES, MOST_SOURCE_BYTES};
 ghost use Rattle.fip_outside.specs.Files.{HoldsFile};
 ghost use Rattle.command_outcome.specs.declared.failure.Failure.TheVariants.{BadCode, BadTrace};
-ghost use Rattle.command_library.specs.command_source.Judged.{IsBadProof};
+ghost use Rattle.command_answers.specs.command_library.command_source.Judged.{IsBadProof};
 ghost use Rattle.fip_driver.specs.Fetched.{FetchFails, FileFails, JudgeFails, ReadFails, IsEarlyFailure};
 
-use command_library::source::bad_proof;
+use command_answers::source::bad_proof;
 use command_outcome::{Failure, Object};
 use fip_base::plain::Detail;
 use fip_base::refusal::{Refusal, Rule};

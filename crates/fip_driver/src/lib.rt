@@ -12,5 +12,6 @@ mod sessions;
 mod stored;
 mod traces;
 
+pub use command_answers::runner::Left;
 pub use delivery::tell_no_memory;
 pub use program::fp2;

@@ -1,18 +1,19 @@
 // What sessions and tasks come to: which object is called when.
-ghost use Rattle.std.specs.Prelude.{◌≡◌, ◌≤◌, ℕ, List, OnOk};
+ghost use Rattle.std.specs.Prelude.{◌≡◌, ◌⊎◌, ◌≤◌, ℕ, List, OnOk};
 ghost use Rattle.std.specs.Io.KnownBytes.{IsAtEnd};
 ghost use Rattle.fip_language.specs.declared.limits.TheConstants.{MOST_FRAMES, MOST_STORE_WORDS};
 ghost use Rattle.fip_outside.specs.Faults.{Rose};
 ghost use Rattle.command_words.specs.View.{room_of};
 ghost use Rattle.command_words.specs.Words as W;
-ghost use Rattle.command_tasks.specs.Fronts.{IsFrontOf};
-ghost use Rattle.command_tasks.specs.TasksAnswer.{TakesTurns};
-ghost use Rattle.fip_driver.specs.Ends.{IsSessionEnd};
-ghost use Rattle.fip_driver.specs.Outcome.{FileOutcome, InputOutcome, IsCounted, ReadOutcome, end_of};
-ghost use Rattle.fip_driver.specs.Unread.{IsBeforeSource, IsBeforeInput};
+ghost use Rattle.command_answers.specs.command_tasks.Fronts.{IsFrontOf};
+ghost use Rattle.command_answers.specs.command_tasks.TasksAnswer.{TakesTurns};
+ghost use Rattle.command_answers.specs.Asks.{ComesToInput};
+ghost use Rattle.command_answers.specs.Ends.{Replies};
+ghost use Rattle.fip_driver.specs.Faults.{IsCounted, end_of, IsBeforeSource, IsBeforeInput};
+ghost use Rattle.fip_driver.specs.Outcome.{FileOutcome, ReadOutcome};
 
 use crate::fetched::{fetch_source, read_input};
-use command_library::source::Front;
+use command_answers::source::Front;
 use command_outcome::Failure;
 use command_words::Room;
 use fip_base::plain::NoMemory;
@@ -45,8 +46,8 @@ fn talk<S: Source>(
     room: Room,
     input: &mut S,
 ) -> Result<Vec<u8>, Failure>
-    ensures outcome { InputOutcome IsSessionEnd (S.left input.old) (Rose (S.faults input.old) (S.faults input.new))
-        (end_of result) }
+    ensures outcome { (source : List ℕ) → ReadOutcome (λ bytes. Replies source bytes (room_of room)) (S.left input.old)
+        (Rose (S.faults input.old) (S.faults input.new)) (end_of result) }
     ensures read { OnOk result (IsAtEnd (S.left input.new)) }
     ensures late { IsBeforeInput result → ⊥ }
 {
@@ -69,12 +70,13 @@ pub fn session<F: Folder, S: Source>(
         (end_of result) }
     ensures read { OnOk result (IsAtEnd (S.left input.new)) }
     ensures before { IsBeforeInput result → input.new ≡ input.old }
+    ensures waits { (input.new ≡ input.old) ⊎ ComesToInput (W.Session file.now (room_of room)) (F.files folder.old) }
     ensures counted { IsCounted (F.files folder.old) (Rose (F.faults folder.old) (F.faults folder.new)) result }
     ensures understood { IsBeforeSource result → ⊥ }
     ensures files { F.files folder.new ≡ F.files folder.old }
 {
     match fetch_source(alloc, folder, file) {
-        Ok(source) => match command_library::source::front(alloc, source.as_slice()) {
+        Ok(source) => match command_answers::source::front(alloc, source.as_slice()) {
             Ok(front) => talk(alloc, &front, room, input),
             Err(failure) => Err(failure),
         },
@@ -100,7 +102,7 @@ fn take_turns<S: Source>(
     ensures late { IsBeforeInput result → ⊥ }
 {
     match read_input(alloc, input) {
-        Ok(bytes) => command_tasks::tasks(alloc, front, bytes.as_slice(), seed, turns, room),
+        Ok(bytes) => command_answers::tasks(alloc, front, bytes.as_slice(), seed, turns, room),
         Err(failure) => Err(failure),
     }
 }
@@ -122,12 +124,13 @@ pub fn tasks<F: Folder, S: Source>(
         (end_of result) }
     ensures read { OnOk result (IsAtEnd (S.left input.new)) }
     ensures before { IsBeforeInput result → input.new ≡ input.old }
+    ensures waits { (input.new ≡ input.old) ⊎ ComesToInput (W.Tasks file.now seed turns (room_of room)) (F.files folder.old) }
     ensures counted { IsCounted (F.files folder.old) (Rose (F.faults folder.old) (F.faults folder.new)) result }
     ensures understood { IsBeforeSource result → ⊥ }
     ensures files { F.files folder.new ≡ F.files folder.old }
 {
     match fetch_source(alloc, folder, file) {
-        Ok(source) => match command_library::source::front(alloc, source.as_slice()) {
+        Ok(source) => match command_answers::source::front(alloc, source.as_slice()) {
             Ok(front) => take_turns(alloc, &front, seed, turns, room, input),
             Err(failure) => Err(failure),
         },

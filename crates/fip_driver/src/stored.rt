@@ -1,9 +1,9 @@
 // Storing a file before the text of a command goes out.
 ghost use Rattle.std.specs.Prelude.{◌≡◌, IfOk, IfErr};
 ghost use Rattle.fip_driver.specs.Fetched.{StoreFails, StoreKeeps};
-ghost use Rattle.fip_driver.specs.Unread.{IsBeforeSource};
+ghost use Rattle.fip_driver.specs.Faults.{IsBeforeSource};
 
-use command_library::source::Compiled;
+use command_answers::source::Compiled;
 use command_outcome::{Failure, Object};
 use fip_outside::outside::{Folder, StoreError};
 

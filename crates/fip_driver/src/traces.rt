@@ -1,20 +1,25 @@
 // What the commands on traces come to: which object is called when.
-ghost use Rattle.std.specs.Prelude.{◌≡◌, ◌≤◌, ℕ, List, Option, IfOk, IfErr, OnOk, Some};
+ghost use Rattle.std.specs.Prelude.{◌≡◌, ◌⊎◌, ◌≤◌, ℕ, List, Option, IfOk, IfErr, OnOk, OnErr, None, Some};
 ghost use Rattle.std.specs.Io.KnownBytes.{IsAtEnd};
 ghost use Rattle.fip_language.specs.declared.limits.TheConstants.{MOST_FRAMES, MOST_STORE_WORDS};
 ghost use Rattle.fip_outside.specs.Faults.{Rose};
 ghost use Rattle.command_words.specs.View.{room_of};
 ghost use Rattle.command_words.specs.Words as W;
-ghost use Rattle.command_library.specs.command_source.ProgramCode.{IsEntryOf};
-ghost use Rattle.command_library.specs.command_source.Wanted.{Compiled as compiled_entry, IsReady};
-ghost use Rattle.fip_driver.specs.Ends.{TracesTo};
-ghost use Rattle.fip_driver.specs.Fetched.{IsLateFailure};
-ghost use Rattle.fip_driver.specs.Outcome.{FileOutcome, ReadOutcome, IsCounted, end_of, compiled_end};
-ghost use Rattle.fip_driver.specs.Unread.{AreKept, IsBeforeSource, IsBeforeTrace, IsTraceFile, WaitsOr};
+ghost use Rattle.command_answers.specs.command_library.command_source.ProgramCode.{IsEntryOf};
+ghost use Rattle.command_answers.specs.command_library.command_source.Wanted.{Compiled as compiled_entry, IsReady};
+ghost use Rattle.command_answers.specs.command_library.command_run.CodeRun.{is_run_end};
+ghost use Rattle.command_answers.specs.Asks.{ComesToInput};
+ghost use Rattle.command_answers.specs.Ends.{TracesTo};
+ghost use Rattle.command_answers.specs.Stored.{IsTraceFile};
+ghost use Rattle.fip_driver.specs.Fetched.{IsLateFailure, StoreFails, StoreKeeps};
+ghost use Rattle.fip_driver.specs.Faults.{IsCounted, end_of, IsBeforeSource, IsBeforeTrace};
+ghost use Rattle.fip_driver.specs.Left.{LeftOn, Leaves, Remains};
+ghost use Rattle.fip_driver.specs.Outcome.{FileOutcome, ReadOutcome, compiled_end, AreKept};
 
 use crate::fetched::{fetch_source, fetch_trace, read_input};
 use crate::stored::store;
-use command_library::source::{Compiled, Ready};
+use command_answers::runner::Left;
+use command_answers::source::{Compiled, Ready};
 use command_outcome::Failure;
 use command_words::Room;
 use fip_outside::outside::{Folder, Source};
@@ -26,6 +31,7 @@ fn traced<S: Source>(
     ready: Ready,
     room: Room,
     input: &mut S,
+    left: &mut Option<Left>,
 ) -> Result<Compiled, Failure>
     requires words { room.words ≤ MOST_STORE_WORDS }
     requires frames { room.frames ≤ MOST_FRAMES }
@@ -36,10 +42,36 @@ fn traced<S: Source>(
         IfOk result (λ c. IsTraceFile source name (room_of room) (S.left input.old) c.file.items) }
     ensures read { OnOk result (IsAtEnd (S.left input.new)) }
     ensures fails { IfErr result IsLateFailure }
+    ensures left { (source name : List ℕ) → IsReady source (compiled_entry name) → IsEntryOf source name ready →
+        Remains (LeftOn (IsEntryOf source name) (S.left input.old) (room_of room)) (is_run_end result) left.new }
 {
+    *left = None;
     match read_input(alloc, input) {
-        Ok(bytes) => command_trace::trace(alloc, ready, bytes.as_slice(), room),
+        Ok(bytes) => command_answers::trace(alloc, ready, bytes.as_slice(), room, left),
         Err(failure) => Err(failure),
+    }
+}
+
+// Stores the trace, and gives the text that is printed. Where that fails, nothing is left of the run.
+fn store_leaving<F: Folder>(
+    folder: &mut F,
+    name: &str,
+    compiled: Compiled,
+    left: &mut Option<Left>,
+) -> Result<Vec<u8>, Failure>
+    ensures told { IfOk result (λ v. v.items ≡ compiled.text.items) }
+    ensures fails { IfErr result (StoreFails (F.faults folder.old) (F.faults folder.new)) }
+    ensures kept { StoreKeeps name.now compiled.file.items (F.files folder.old) (F.files folder.new) result }
+    ensures understood { IsBeforeSource result → ⊥ }
+    ensures left { OnOk result (left.new ≡ left.old) }
+    ensures none { OnErr result (left.new ≡ None) }
+{
+    match store(folder, name, compiled) {
+        Ok(text) => Ok(text),
+        Err(failure) => {
+            *left = None;
+            Err(failure)
+        }
     }
 }
 
@@ -52,6 +84,7 @@ pub fn trace<F: Folder, S: Source>(
     room: Room,
     folder: &mut F,
     input: &mut S,
+    left: &mut Option<Left>,
 ) -> Result<Vec<u8>, Failure>
     requires words { room.words ≤ MOST_STORE_WORDS }
     requires frames { room.frames ≤ MOST_FRAMES }
@@ -60,17 +93,20 @@ pub fn trace<F: Folder, S: Source>(
         (Rose (S.faults input.old) (S.faults input.new)) (end_of result) }
     ensures read { OnOk result (IsAtEnd (S.left input.new)) }
     ensures before { IsBeforeTrace result → input.new ≡ input.old }
-    ensures waits { WaitsOr (input.new ≡ input.old) (W.Trace file.now entry.now out.now (room_of room))
-        (F.files folder.old) }
+    ensures waits { (input.new ≡ input.old)
+        ⊎ ComesToInput (W.Trace file.now entry.now out.now (room_of room)) (F.files folder.old) }
     ensures kept { AreKept (W.Trace file.now entry.now out.now (room_of room)) (S.left input.old) (Some out.now)
         (Rose (F.faults folder.old) (F.faults folder.new)) (F.files folder.old) (F.files folder.new) result }
     ensures counted { IsCounted (F.files folder.old) (Rose (F.faults folder.old) (F.faults folder.new)) result }
     ensures understood { IsBeforeSource result → ⊥ }
+    ensures left { Leaves (W.Trace file.now entry.now out.now (room_of room)) (F.files folder.old) (S.left input.old)
+        (is_run_end result) left.new }
 {
+    *left = None;
     match fetch_source(alloc, folder, file) {
-        Ok(source) => match command_library::source::exec_entry(alloc, source.as_slice(), entry) {
-            Ok(ready) => match traced(alloc, ready, room, input) {
-                Ok(compiled) => store(folder, out, compiled),
+        Ok(source) => match command_answers::source::exec_entry(alloc, source.as_slice(), entry) {
+            Ok(ready) => match traced(alloc, ready, room, input, left) {
+                Ok(compiled) => store_leaving(folder, out, compiled, left),
                 Err(failure) => Err(failure),
             },
             Err(failure) => Err(failure),
@@ -93,7 +129,7 @@ pub fn replay<F: Folder>(
     ensures files { F.files folder.new ≡ F.files folder.old }
 {
     match fetch_trace(folder, name) {
-        Ok(bytes) => command_trace::replay(alloc, bytes.as_slice(), step),
+        Ok(bytes) => command_answers::replay(alloc, bytes.as_slice(), step),
         Err(failure) => Err(failure),
     }
 }

@@ -340,3 +340,27 @@ fn operators_trap_where_the_exact_result_is_outside(rt: HostRuntime) -> Result<(
     );
     Ok(())
 }
+
+// Over `LISTS`: how many cells of 2 fields a command leaves, where it leaves any.
+const LEFT: &[(&str, &str, Option<usize>)] = &[
+    ("exec a.fp rev", ARGUMENTS, Some(3)),
+    ("exec a.fp rev --calls 3", ARGUMENTS, Some(3)),
+    ("exec a.fp len", "Cons(7, Cons(8, Nil))\n0\n", Some(0)),
+    ("exec a.fp inc --frames 2", LIST, Some(3)),
+    ("exec a.fp div", "1\n0\n", Some(0)),
+    ("exec a.fp div", "1\n", None),
+    ("exec a.fp rev --words 8", ARGUMENTS, None),
+    ("exec a.fp nope", ARGUMENTS, None),
+    ("eval a.fp rev", ARGUMENTS, None),
+    ("trace a.fp rev b.fpc", ARGUMENTS, Some(3)),
+    ("check a.fp", "", None),
+];
+
+#[test]
+fn a_run_that_ended_leaves_its_cells(rt: HostRuntime) -> Result<(), Fail> {
+    for (words, input, cells) in LEFT {
+        let host = host_of(LISTS.as_bytes(), input.as_bytes());
+        assert_eq!(rt; run(rt.alloc(), words, host)?.cells, *cells);
+    }
+    Ok(())
+}

@@ -1,5 +1,6 @@
 // What a host hands in, and what it finds afterwards.
 
+use cell_store::Cells;
 use fip_driver::fp2;
 use fip_outside::memory::{MemFolder, MemSink, MemSource};
 use std::alloc::{AllocError, Global};
@@ -63,6 +64,8 @@ pub struct Seen {
     pub stored: Option<Vec<u8>>,
     /// Whether the files that were there before are as they were.
     pub same_files: bool,
+    /// How many cells of 2 fields, which aren't released, a run left; none where none left anything.
+    pub cells: Option<usize>,
 }
 
 // The words of the command line: the program's name, and these, which are parted by one blank each.
@@ -132,6 +135,7 @@ pub fn run(alloc: Global, words: &str, host: Host<'_>) -> Result<Seen, AllocErro
     let mut input = input_of(alloc, &host)?;
     let mut out = sink_of(alloc, host.room, host.pieces, host.out_fails)?;
     let mut err = sink_of(alloc, 1000, host.pieces, host.err_fails)?;
+    let mut left = None;
     let status = fp2(
         alloc,
         words.as_slice(),
@@ -139,6 +143,7 @@ pub fn run(alloc: Global, words: &str, host: Host<'_>) -> Result<Seen, AllocErro
         &mut input,
         &mut out,
         &mut err,
+        &mut left,
     );
     let out = Vec::from_slice(alloc, out.bytes())?;
     let err = Vec::from_slice(alloc, err.bytes())?;
@@ -149,5 +154,9 @@ pub fn run(alloc: Global, words: &str, host: Host<'_>) -> Result<Seen, AllocErro
         left: input.bytes().len(),
         stored: stored_in(alloc, &folder)?,
         same_files: has_file(&folder, "a.fp", host.file) && has_file(&folder, "other", host.other),
+        cells: match left {
+            Some(left) => Some(left.cells.count(2)),
+            None => None,
+        },
     })
 }

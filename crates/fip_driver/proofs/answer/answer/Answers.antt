@@ -1,9 +1,12 @@
-use Rattle.std.proofs.Common.{◌≡◌, sym, subst}
+use Rattle.std.proofs.Common.{◌≡◌, refl, sym, subst, inl, inr}
+use Rattle.std.specs.Prelude.{◌⊎◌}
 use Rattle.fip_outside.specs.Faults.{Rose}
 use Rattle.command_words.specs.View.{command_of}
-use Rattle.fip_driver.specs.Commands.{stored_name}
-use Rattle.fip_driver.specs.Outcome.{CommandOutcome}
-use Rattle.fip_driver.specs.Unread.{AreKept, WaitsOr}
+use Rattle.command_answers.specs.command_library.command_run.CodeRun.{is_run_end}
+use Rattle.command_answers.specs.Asks.{stored_name, ComesToInput}
+use Rattle.fip_driver.specs.Outcome.{CommandOutcome, AreKept}
+use Rattle.fip_driver.specs.Left.{Leaves}
+use Rattle.fip_driver.proofs.Remains.{leaves_gen}
 use Rattle.command_words.specs.Words.{IsCommand, IsTextName}
 use Rattle.fip_driver.proofs.SourceEnds.{file_outcome, audit_outcome, library_ends, gen_ends}
 use Rattle.fip_driver.proofs.answer.answer.Goals as goal
@@ -111,5 +114,64 @@ returns-in-Upgrade-clause-files g c = subst (λ x. AreKept (command_of x) (g.S.S
 pub returns-in-Derive-clause-files : goal.returns-in-Derive-clause-files
 returns-in-Derive-clause-files g c = subst (λ x. AreKept (command_of x) (g.S.Source.left c.args.input.now) (stored_name (command_of x)) (Rose (g.F.Folder.faults c.args.folder.now) (g.F.Folder.faults c.derive.new.folder)) (g.F.Folder.files c.args.folder.now) (g.F.Folder.files c.derive.new.folder) c.derive.result) (sym c.in-Derive.is) (c.derive.ensures.kept (g.S.Source.left c.args.input.now))
 
+-- ---- the input waits
+
+pub returns-in-Exec-clause-waits : goal.returns-in-Exec-clause-waits
+returns-in-Exec-clause-waits g c = subst (λ x. (c.exec.new.input ≡ c.args.input.now) ⊎ ComesToInput (command_of x) (g.F.Folder.files c.args.folder.now)) (sym c.in-Exec.is) c.exec.ensures.waits
+
+pub returns-in-Run-clause-waits : goal.returns-in-Run-clause-waits
+returns-in-Run-clause-waits g c = subst (λ x. (c.run.new.input ≡ c.args.input.now) ⊎ ComesToInput (command_of x) (g.F.Folder.files c.args.folder.now)) (sym c.in-Run.is) c.run.ensures.waits
+
+pub returns-in-Eval-clause-waits : goal.returns-in-Eval-clause-waits
+returns-in-Eval-clause-waits g c = subst (λ x. (c.eval.new.input ≡ c.args.input.now) ⊎ ComesToInput (command_of x) (g.F.Folder.files c.args.folder.now)) (sym c.in-Eval.is) c.eval.ensures.waits
+
 pub returns-in-Trace-clause-waits : goal.returns-in-Trace-clause-waits
-returns-in-Trace-clause-waits g c = subst (λ x. WaitsOr (c.trace.new.input ≡ c.args.input.now) (command_of x) (g.F.Folder.files c.args.folder.now)) (sym c.in-Trace.is) c.trace.ensures.waits
+returns-in-Trace-clause-waits g c = subst (λ x. (c.trace.new.input ≡ c.args.input.now) ⊎ ComesToInput (command_of x) (g.F.Folder.files c.args.folder.now)) (sym c.in-Trace.is) c.trace.ensures.waits
+
+pub returns-in-Session-clause-waits : goal.returns-in-Session-clause-waits
+returns-in-Session-clause-waits g c = subst (λ x. (c.session.new.input ≡ c.args.input.now) ⊎ ComesToInput (command_of x) (g.F.Folder.files c.args.folder.now)) (sym c.in-Session.is) c.session.ensures.waits
+
+pub returns-in-Tasks-clause-waits : goal.returns-in-Tasks-clause-waits
+returns-in-Tasks-clause-waits g c = subst (λ x. (c.tasks.new.input ≡ c.args.input.now) ⊎ ComesToInput (command_of x) (g.F.Folder.files c.args.folder.now)) (sym c.in-Tasks.is) c.tasks.ensures.waits
+
+pub returns-in-Check-clause-waits : goal.returns-in-Check-clause-waits
+returns-in-Check-clause-waits g c = inl refl
+
+pub returns-in-Compile-clause-waits : goal.returns-in-Compile-clause-waits
+returns-in-Compile-clause-waits g c = inl refl
+
+pub returns-in-Verify-clause-waits : goal.returns-in-Verify-clause-waits
+returns-in-Verify-clause-waits g c = inl refl
+
+pub returns-in-Upgrade-clause-waits : goal.returns-in-Upgrade-clause-waits
+returns-in-Upgrade-clause-waits g c = inl refl
+
+pub returns-in-Derive-clause-waits : goal.returns-in-Derive-clause-waits
+returns-in-Derive-clause-waits g c = inl refl
+
+pub returns-in-Audit-clause-waits : goal.returns-in-Audit-clause-waits
+returns-in-Audit-clause-waits g c = inl refl
+
+pub returns-in-Replay-clause-waits : goal.returns-in-Replay-clause-waits
+returns-in-Replay-clause-waits g c = inl refl
+
+pub returns-in-Library-clause-waits : goal.returns-in-Library-clause-waits
+returns-in-Library-clause-waits g c = inl refl
+
+pub returns-in-Gen-clause-waits : goal.returns-in-Gen-clause-waits
+returns-in-Gen-clause-waits g c = inl refl
+
+-- ---- what is left of a run
+
+pub returns-in-Exec-clause-left : goal.returns-in-Exec-clause-left
+returns-in-Exec-clause-left g c = subst (λ x. Leaves (command_of x) (g.F.Folder.files c.args.folder.now) (g.S.Source.left c.args.input.now) (is_run_end c.exec.result) c.exec.new.left) (sym c.in-Exec.is) c.exec.ensures.left
+
+pub returns-in-Run-clause-left : goal.returns-in-Run-clause-left
+returns-in-Run-clause-left g c = subst (λ x. Leaves (command_of x) (g.F.Folder.files c.args.folder.now) (g.S.Source.left c.args.input.now) (is_run_end c.run.result) c.run.new.left) (sym c.in-Run.is) c.run.ensures.left
+
+pub returns-in-Trace-clause-left : goal.returns-in-Trace-clause-left
+returns-in-Trace-clause-left g c = subst (λ x. Leaves (command_of x) (g.F.Folder.files c.args.folder.now) (g.S.Source.left c.args.input.now) (is_run_end c.trace.result) c.trace.new.left) (sym c.in-Trace.is) c.trace.ensures.left
+
+pub returns-in-Gen-clause-left : goal.returns-in-Gen-clause-left
+returns-in-Gen-clause-left g c = subst (λ x. Leaves (command_of x) (g.F.Folder.files c.args.folder.now) (g.S.Source.left c.args.input.now) (is_run_end c.generate.result) c.generate.new.left) (sym c.in-Gen.is)
+    (leaves_gen _ _ (g.F.Folder.files c.args.folder.now) (g.S.Source.left c.args.input.now) _ c.generate.new.left c.generate.ensures.some c.generate.ensures.left)

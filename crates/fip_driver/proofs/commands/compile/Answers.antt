@@ -1,8 +1,8 @@
 use Rattle.std.proofs.Common.{refl, subst}
 use Rattle.command_words.specs.Words as W
-use Rattle.command_library.specs.command_source.ProgramCode.{IsCompiledFile}
-use Rattle.command_library.specs.command_source.Wanted.{Lawful}
-use Rattle.fip_driver.specs.Outcome.{end_of}
+use Rattle.command_answers.specs.command_library.command_source.ProgramCode.{IsCompiledFile}
+use Rattle.command_answers.specs.command_library.command_source.Wanted.{Lawful}
+use Rattle.fip_driver.specs.Faults.{end_of}
 use Rattle.fip_driver.proofs.SourceEnds.{compile_ends, compile_refused, source_ends, fetch_ends}
 use Rattle.fip_driver.proofs.Storing.{stored_kept, unstored}
 use Rattle.fip_driver.proofs.Counted.{stored_counted, source_counted, fetch_counted}

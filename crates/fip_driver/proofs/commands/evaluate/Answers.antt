@@ -1,6 +1,6 @@
 use Rattle.std.proofs.Common.{◌≤◌, ℕ, List, length, sym, subst}
 use Rattle.fip_language.specs.declared.limits.TheConstants.{MOST_FILE_BYTES}
-use Rattle.command_library.specs.command_eval.EvalAnswer.{Evaluates, OrNoMemory}
+use Rattle.command_answers.specs.command_library.command_eval.EvalAnswer.{Evaluates, OrNoMemory}
 use Rattle.fip_driver.proofs.SourceEnds.{unread_says, read_says}
 use Rattle.fip_driver.proofs.commands.evaluate.Goals as goal
 

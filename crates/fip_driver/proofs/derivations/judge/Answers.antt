@@ -1,6 +1,6 @@
 use Rattle.std.specs.Prelude.{Err}
 use Rattle.fip_trees.specs.TreeView.{program}
-use Rattle.command_library.specs.command_source.Judged.{IsBadProof}
+use Rattle.command_answers.specs.command_library.command_source.Judged.{IsBadProof}
 use Rattle.fip_driver.proofs.SourceEnds.{judged_failed, judged_accepted, bad_fails}
 use Rattle.fip_driver.proofs.Counted.{sources_counted, judged_counted}
 use Rattle.fip_driver.proofs.derivations.judge.Goals as goal

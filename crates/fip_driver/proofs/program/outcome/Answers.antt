@@ -1,11 +1,12 @@
-use Rattle.std.proofs.Common.{ap, subst, Err, map, string_bytes}
+use Rattle.std.proofs.Common.{ap, refl, subst, Err, map, string_bytes}
 use Rattle.fip_outside.specs.Faults.{Rose}
 use Rattle.command_words.specs.View.{command_of}
 use Rattle.fip_driver.proofs.Outcomes.{no_command_outcome, no_memory_outcome}
 use Rattle.command_outcome.specs.declared.failure.Failure.TheVariants as F
-use Rattle.fip_driver.specs.Commands.{stored_name}
-use Rattle.fip_driver.specs.Unread.{AreKept}
-use Rattle.fip_driver.proofs.OneCommand.{command_once}
+use Rattle.command_answers.specs.Asks.{stored_name}
+use Rattle.fip_driver.specs.Outcome.{AreKept}
+use Rattle.command_answers.proofs.OneCommand.{command_once}
+use Rattle.fip_driver.proofs.Remains.{leaves_words}
 use Rattle.fip_driver.proofs.Storing.{nothing_stored}
 use Rattle.fip_driver.proofs.Unread.{input_turn, folder_turn, read_turn, on_ok}
 use Rattle.fip_driver.proofs.program.outcome.Goals as goal
@@ -33,3 +34,12 @@ returns-in-Err-NotUnderstood-clause-files g c = λ d asked. nothing_stored d (g.
 
 pub returns-in-Err-NoMemory-clause-files : goal.returns-in-Err-NoMemory-clause-files
 returns-in-Err-NoMemory-clause-files g c = λ d asked. nothing_stored d (g.S.Source.left c.args.input.now) (stored_name d) _ (g.F.Folder.files c.args.folder.now) F.NoMemory
+
+pub returns-in-Ok-clause-left : goal.returns-in-Ok-clause-left
+returns-in-Ok-clause-left g c = leaves_words (map string_bytes c.args.words.now) (command_of c.in-Ok.command) (g.F.Folder.files c.args.folder.now) (g.S.Source.left c.args.input.now) _ c.answer.new.left c.in-Ok.ensures.ok (λ d asked. command_once (map string_bytes c.args.words.now) (command_of c.in-Ok.command) d c.in-Ok.ensures.ok asked) c.answer.ensures.left
+
+pub returns-in-Err-NotUnderstood-clause-left : goal.returns-in-Err-NotUnderstood-clause-left
+returns-in-Err-NotUnderstood-clause-left g c = λ d asked cells. refl
+
+pub returns-in-Err-NoMemory-clause-left : goal.returns-in-Err-NoMemory-clause-left
+returns-in-Err-NoMemory-clause-left g c = λ d asked cells. refl

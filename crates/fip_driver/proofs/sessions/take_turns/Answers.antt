@@ -1,9 +1,9 @@
 use Rattle.std.proofs.Common.{◌≤◌, ℕ, List, length, sym, subst}
 use Rattle.fip_language.specs.declared.limits.TheConstants.{MOST_FILE_BYTES}
 use Rattle.command_words.specs.View.{room_of}
-use Rattle.command_library.specs.command_eval.EvalAnswer.{OrNoMemory}
-use Rattle.command_library.specs.command_run.Rooms.{IsAllowed}
-use Rattle.command_tasks.specs.TasksAnswer.{TakesTurns}
+use Rattle.command_answers.specs.command_library.command_eval.EvalAnswer.{OrNoMemory}
+use Rattle.command_answers.specs.command_library.command_run.Rooms.{IsAllowed}
+use Rattle.command_answers.specs.command_tasks.TasksAnswer.{TakesTurns}
 use Rattle.fip_driver.proofs.SourceEnds.{unread_says, read_says}
 use Rattle.fip_driver.proofs.sessions.take_turns.Goals as goal
 

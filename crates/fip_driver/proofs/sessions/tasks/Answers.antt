@@ -1,9 +1,9 @@
-use Rattle.std.proofs.Common.{refl}
+use Rattle.std.proofs.Common.{refl, subst, inl, inr}
 use Rattle.command_words.specs.Words as W
 use Rattle.command_words.specs.View.{room_of}
 use Rattle.fip_trees.specs.TreeView.{program}
-use Rattle.command_library.specs.command_source.Wanted.{Lawful}
-use Rattle.fip_driver.specs.Outcome.{end_of}
+use Rattle.command_answers.specs.command_library.command_source.Wanted.{Lawful, IsReady}
+use Rattle.fip_driver.specs.Faults.{end_of}
 use Rattle.fip_driver.proofs.SourceEnds.{turns_ends, kept_ends, source_ends, fetch_ends}
 use Rattle.fip_driver.proofs.Counted.{late_counted, source_counted, fetch_counted}
 use Rattle.fip_driver.proofs.sessions.tasks.Goals as goal
@@ -25,3 +25,12 @@ returns-in-Ok-clause-counted g c = source_counted (g.F.Folder.files c.args.folde
 
 pub returns-clause-counted : goal.returns-clause-counted
 returns-clause-counted g c = fetch_counted (g.F.Folder.files c.args.folder.now) c.args.file.now _ _ c.in-Err.failure c.in-Err.ensures.fails
+
+pub returns-in-Ok-front-clause-waits : goal.returns-in-Ok-front-clause-waits
+returns-in-Ok-front-clause-waits g c = inr (c.in-Ok.source.items, c.in-Ok.ensures.found, subst (λ xs. IsReady xs Lawful) c.as_slice.ensures.value (record { program = program c.in-Ok-front.front.typed.program; accepted = c.in-Ok-front.ensures.accepted; has = tt }))
+
+pub returns-in-Ok-clause-waits : goal.returns-in-Ok-clause-waits
+returns-in-Ok-clause-waits g c = inl refl
+
+pub returns-clause-waits : goal.returns-clause-waits
+returns-clause-waits g c = inl refl

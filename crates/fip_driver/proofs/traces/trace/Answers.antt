@@ -1,18 +1,22 @@
-use Rattle.std.proofs.Common.{refl, subst, inl, inr}
+use Rattle.std.proofs.Common.{true, refl, subst, inl, inr}
 use Rattle.command_words.specs.Words as W
 use Rattle.command_words.specs.View.{room_of}
-use Rattle.command_library.specs.command_source.Wanted.{Compiled, IsReady}
-use Rattle.fip_driver.specs.Ends.{TracesTo}
-use Rattle.fip_driver.specs.Unread.{IsTraceFile}
-use Rattle.fip_driver.specs.Outcome.{end_of}
+use Rattle.command_answers.specs.command_library.command_source.Wanted.{Compiled, IsReady}
+use Rattle.command_answers.specs.Ends.{TracesTo}
+use Rattle.command_answers.specs.Stored.{IsTraceFile}
+use Rattle.fip_driver.specs.Faults.{end_of}
 use Rattle.fip_driver.proofs.SourceEnds.{trace_stored, input_ends, kept_ends, source_ends, fetch_ends}
 use Rattle.fip_driver.proofs.Storing.{stored_kept, unstored}
 use Rattle.fip_driver.proofs.Unread.{late_after_input, stored_after_input}
+use Rattle.command_answers.specs.command_library.command_source.ProgramCode.{IsEntryOf}
+use Rattle.command_answers.specs.command_library.command_run.CodeRun.{is_run_failure}
+use Rattle.fip_driver.specs.Left.{LeftOn, Remains}
+use Rattle.fip_driver.proofs.Remains.{fetch_ran, source_ran, leaves_trace, leaves_stored}
 use Rattle.fip_driver.proofs.Counted.{stored_counted, late_failure_counted, source_counted, fetch_counted}
 use Rattle.fip_driver.proofs.traces.trace.Goals as goal
 
 pub returns-in-Ok-traced-clause-outcome : goal.returns-in-Ok-traced-clause-outcome
-returns-in-Ok-traced-clause-outcome g c = source_ends (W.Trace c.args.file.now c.args.entry.now c.args.out.now (room_of c.args.room)) (Compiled c.args.entry.now) c.args.file.now (g.F.Folder.files c.args.folder.now) (g.S.Source.left c.args.input.now) _ _ _ _ c.in-Ok.source.items c.as_slice.result.now (end_of c.store.result) (λ r. r) (λ r. r) c.in-Ok.ensures.found refl refl c.as_slice.ensures.value (trace_stored (g.S.Source.left c.args.input.now) _ c.args.file.now c.args.entry.now c.args.out.now c.as_slice.result.now c.in-Ok-traced.compiled.text.items (room_of c.args.room) _ _ _ (Compiled c.args.entry.now) c.store.result c.in-Ok.ensures.later c.in-Ok-exec_entry.ensures.ready (c.in-Ok-traced.ensures.outcome c.as_slice.result.now c.args.entry.now c.in-Ok-exec_entry.ensures.ready c.in-Ok-exec_entry.ensures.code) c.store.ensures.told c.store.ensures.fails)
+returns-in-Ok-traced-clause-outcome g c = source_ends (W.Trace c.args.file.now c.args.entry.now c.args.out.now (room_of c.args.room)) (Compiled c.args.entry.now) c.args.file.now (g.F.Folder.files c.args.folder.now) (g.S.Source.left c.args.input.now) _ _ _ _ c.in-Ok.source.items c.as_slice.result.now (end_of c.store_leaving.result) (λ r. r) (λ r. r) c.in-Ok.ensures.found refl refl c.as_slice.ensures.value (trace_stored (g.S.Source.left c.args.input.now) _ c.args.file.now c.args.entry.now c.args.out.now c.as_slice.result.now c.in-Ok-traced.compiled.text.items (room_of c.args.room) _ _ _ (Compiled c.args.entry.now) c.store_leaving.result c.in-Ok.ensures.later c.in-Ok-exec_entry.ensures.ready (c.in-Ok-traced.ensures.outcome c.as_slice.result.now c.args.entry.now c.in-Ok-exec_entry.ensures.ready c.in-Ok-exec_entry.ensures.code) c.store_leaving.ensures.told c.store_leaving.ensures.fails)
 
 pub returns-in-Ok-exec_entry-clause-outcome : goal.returns-in-Ok-exec_entry-clause-outcome
 returns-in-Ok-exec_entry-clause-outcome g c = source_ends (W.Trace c.args.file.now c.args.entry.now c.args.out.now (room_of c.args.room)) (Compiled c.args.entry.now) c.args.file.now (g.F.Folder.files c.args.folder.now) (g.S.Source.left c.args.input.now) ⊥ _ _ _ c.in-Ok.source.items c.as_slice.result.now _ (λ r. absurd r) (λ r. r) c.in-Ok.ensures.found refl refl c.as_slice.ensures.value (input_ends (W.Trace c.args.file.now c.args.entry.now c.args.out.now (room_of c.args.room)) (Compiled c.args.entry.now) c.as_slice.result.now (g.S.Source.left c.args.input.now) ⊥ _ (λ input. TracesTo c.as_slice.result.now c.args.entry.now input (room_of c.args.room)) _ c.in-Ok-exec_entry.ensures.ready tt (λ input d m. m) (c.in-Err-traced.ensures.outcome c.as_slice.result.now c.args.entry.now c.in-Ok-exec_entry.ensures.ready c.in-Ok-exec_entry.ensures.code))
@@ -24,13 +28,13 @@ pub returns-clause-outcome : goal.returns-clause-outcome
 returns-clause-outcome g c = fetch_ends (W.Trace c.args.file.now c.args.entry.now c.args.out.now (room_of c.args.room)) (Compiled c.args.entry.now) c.args.file.now (g.F.Folder.files c.args.folder.now) (g.S.Source.left c.args.input.now) _ _ _ c.in-Err.failure refl refl (λ r. r) c.in-Err.ensures.fails
 
 pub returns-in-Ok-traced-clause-before : goal.returns-in-Ok-traced-clause-before
-returns-in-Ok-traced-clause-before g c = λ b. absurd (stored_after_input _ _ c.store.result c.store.ensures.fails b)
+returns-in-Ok-traced-clause-before g c = λ b. absurd (stored_after_input _ _ c.store_leaving.result c.store_leaving.ensures.fails b)
 
 pub returns-in-Ok-traced-clause-kept : goal.returns-in-Ok-traced-clause-kept
-returns-in-Ok-traced-clause-kept g c = stored_kept (W.Trace c.args.file.now c.args.entry.now c.args.out.now (room_of c.args.room)) (g.S.Source.left c.args.input.now) c.args.out.now c.in-Ok-traced.compiled.file.items (g.F.Folder.files c.args.folder.now) _ _ _ _ _ c.store.result c.in-Ok.ensures.same c.in-Ok.ensures.later (c.in-Ok.source.items, c.in-Ok.ensures.found, subst (λ xs. IsReady xs (Compiled c.args.entry.now)) c.as_slice.ensures.value c.in-Ok-exec_entry.ensures.ready, subst (λ xs. IsTraceFile xs c.args.entry.now (room_of c.args.room) (g.S.Source.left c.args.input.now) c.in-Ok-traced.compiled.file.items) c.as_slice.ensures.value (c.in-Ok-traced.ensures.made c.as_slice.result.now c.args.entry.now c.in-Ok-exec_entry.ensures.ready c.in-Ok-exec_entry.ensures.code)) c.store.ensures.fails c.store.ensures.kept
+returns-in-Ok-traced-clause-kept g c = stored_kept (W.Trace c.args.file.now c.args.entry.now c.args.out.now (room_of c.args.room)) (g.S.Source.left c.args.input.now) c.args.out.now c.in-Ok-traced.compiled.file.items (g.F.Folder.files c.args.folder.now) _ _ _ _ _ c.store_leaving.result c.in-Ok.ensures.same c.in-Ok.ensures.later (c.in-Ok.source.items, c.in-Ok.ensures.found, subst (λ xs. IsReady xs (Compiled c.args.entry.now)) c.as_slice.ensures.value c.in-Ok-exec_entry.ensures.ready, subst (λ xs. IsTraceFile xs c.args.entry.now (room_of c.args.room) (g.S.Source.left c.args.input.now) c.in-Ok-traced.compiled.file.items) c.as_slice.ensures.value (c.in-Ok-traced.ensures.made c.as_slice.result.now c.args.entry.now c.in-Ok-exec_entry.ensures.ready c.in-Ok-exec_entry.ensures.code)) c.store_leaving.ensures.fails c.store_leaving.ensures.kept
 
 pub returns-in-Ok-traced-clause-counted : goal.returns-in-Ok-traced-clause-counted
-returns-in-Ok-traced-clause-counted g c = stored_counted (g.F.Folder.files c.args.folder.now) _ _ _ c.store.result c.in-Ok.ensures.later c.store.ensures.fails
+returns-in-Ok-traced-clause-counted g c = stored_counted (g.F.Folder.files c.args.folder.now) _ _ _ c.store_leaving.result c.in-Ok.ensures.later c.store_leaving.ensures.fails
 
 pub returns-in-Ok-exec_entry-clause-before : goal.returns-in-Ok-exec_entry-clause-before
 returns-in-Ok-exec_entry-clause-before g c = λ b. absurd (late_after_input c.in-Err-traced.failure c.in-Err-traced.ensures.fails b)
@@ -64,3 +68,19 @@ returns-in-Ok-clause-waits g c = inl refl
 
 pub returns-clause-waits : goal.returns-clause-waits
 returns-clause-waits g c = inl refl
+
+pub returns-in-Ok-traced-clause-left : goal.returns-in-Ok-traced-clause-left
+returns-in-Ok-traced-clause-left g c = leaves_stored c.args.file.now c.args.entry.now c.args.out.now (room_of c.args.room) (g.F.Folder.files c.args.folder.now) (g.S.Source.left c.args.input.now) c.in-Ok.source.items _ _ c.store_leaving.result _ _ c.in-Ok.ensures.found
+    (subst (λ xs. Remains (LeftOn (IsEntryOf xs c.args.entry.now) (g.S.Source.left c.args.input.now) (room_of c.args.room)) true c.traced.new.left) c.as_slice.ensures.value
+    (c.in-Ok-traced.ensures.left c.as_slice.result.now c.args.entry.now c.in-Ok-exec_entry.ensures.ready c.in-Ok-exec_entry.ensures.code)) c.store_leaving.ensures.fails c.store_leaving.ensures.left c.store_leaving.ensures.none
+
+pub returns-in-Ok-exec_entry-clause-left : goal.returns-in-Ok-exec_entry-clause-left
+returns-in-Ok-exec_entry-clause-left g c = leaves_trace c.args.file.now c.args.entry.now c.args.out.now (room_of c.args.room) (g.F.Folder.files c.args.folder.now) (g.S.Source.left c.args.input.now) c.in-Ok.source.items _ _ c.in-Ok.ensures.found
+    (subst (λ xs. Remains (LeftOn (IsEntryOf xs c.args.entry.now) (g.S.Source.left c.args.input.now) (room_of c.args.room)) (is_run_failure c.in-Err-traced.failure) c.traced.new.left) c.as_slice.ensures.value
+    (c.in-Err-traced.ensures.left c.as_slice.result.now c.args.entry.now c.in-Ok-exec_entry.ensures.ready c.in-Ok-exec_entry.ensures.code))
+
+pub returns-in-Ok-clause-left : goal.returns-in-Ok-clause-left
+returns-in-Ok-clause-left g c = λ cells. source_ran c.in-Err-exec_entry.failure c.in-Err-exec_entry.ensures.stage
+
+pub returns-clause-left : goal.returns-clause-left
+returns-clause-left g c = λ cells. fetch_ran (g.F.Folder.files c.args.folder.now) c.args.file.now _ _ c.in-Err.failure c.in-Err.ensures.fails

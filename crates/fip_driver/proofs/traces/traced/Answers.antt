@@ -1,10 +1,15 @@
 use Rattle.std.proofs.Common.{◌≤◌, ℕ, List, length, sym, subst}
+use Rattle.std.specs.Prelude.{IfSome}
 use Rattle.fip_language.specs.declared.limits.TheConstants.{MOST_FILE_BYTES}
 use Rattle.command_words.specs.View.{room_of}
-use Rattle.command_library.specs.command_run.Rooms.{IsAllowed}
-use Rattle.command_trace.specs.TraceAnswer.{Traces, KeptOrNoMemory}
-use Rattle.fip_driver.specs.Ends.{TracesTo}
+use Rattle.command_answers.specs.command_library.command_run.Rooms.{IsAllowed}
+use Rattle.command_answers.specs.command_trace.TraceAnswer.{Traces, KeptOrNoMemory}
+use Rattle.command_answers.specs.Ends.{TracesTo}
+use Rattle.command_answers.specs.command_library.command_source.ProgramCode.{IsEntryOf}
+use Rattle.command_answers.specs.command_library.command_run.Leaving.{IsLeftBy}
+use Rattle.fip_driver.proofs.Remains.{read_ran, remains_on}
 use Rattle.fip_driver.proofs.SourceEnds.{unread_says, read_traces, trace_made}
+use Rattle.fip_driver.proofs.Telling.{whole_of}
 use Rattle.fip_driver.proofs.traces.traced.Goals as goal
 
 pub returns-in-Ok-clause-outcome : goal.returns-in-Ok-clause-outcome
@@ -23,3 +28,13 @@ returns-in-Ok-clause-made g c = λ source name ready entry.
     let allowed : IsAllowed c.args.room = record { frames = c.requires.frames; words = c.requires.words } in
     let traces = subst (λ (xs : List ℕ). KeptOrNoMemory (Traces source name xs (room_of c.args.room)) c.trace.result) c.as_slice.ensures.value (c.trace.ensures.traces source name ready entry allowed within) in
     trace_made source name (room_of c.args.room) (g.S.Source.left c.args.input.now) _ c.in-Ok.bytes.items c.trace.result c.in-Ok.ensures.all c.in-Ok.ensures.end traces
+
+pub returns-in-Ok-clause-left : goal.returns-in-Ok-clause-left
+returns-in-Ok-clause-left g c = λ source name ready entry.
+    let within = subst (λ (xs : List ℕ). length xs ≤ MOST_FILE_BYTES) (sym c.as_slice.ensures.value) c.in-Ok.ensures.within in
+    let allowed : IsAllowed c.args.room = record { frames = c.requires.frames; words = c.requires.words } in
+    let such = subst (λ xs. IfSome c.trace.new.left (IsLeftBy c.args.ready xs (room_of c.args.room))) c.as_slice.ensures.value (c.trace.ensures.meant source name ready entry allowed within) in
+    remains_on (IsEntryOf source name) (g.S.Source.left c.args.input.now) (room_of c.args.room) c.args.ready c.in-Ok.bytes.items _ c.trace.new.left entry (whole_of (g.S.Source.left c.args.input.now) _ c.in-Ok.bytes.items c.in-Ok.ensures.all c.in-Ok.ensures.end) c.trace.ensures.some such
+
+pub returns-in-Err-clause-left : goal.returns-in-Err-clause-left
+returns-in-Err-clause-left g c = λ source name ready entry. read_ran (g.S.Source.left c.args.input.now) _ _ _ c.in-Err.failure c.in-Err.ensures.fails

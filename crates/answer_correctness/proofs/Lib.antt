@@ -1,0 +1,11 @@
+mod CodeOf
+mod Coming
+mod EmptySource
+mod Examples
+mod FileTexts
+mod MeantRuns
+mod Refused
+mod Shown
+mod SomeAnswer
+mod SomeRun
+mod WholeExample

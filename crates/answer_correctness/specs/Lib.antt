@@ -1,0 +1,3 @@
+pub mod OfProgram
+pub mod Example
+pub mod Empty

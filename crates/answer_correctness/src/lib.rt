@@ -1,0 +1,7 @@
+// The one relation of answers: what is enough for each of them, that there is one, and examples. Laws; no code.
+#![tactic(auto)]
+
+pub mod empty;
+pub mod members;
+pub mod runs;
+pub mod theorems;

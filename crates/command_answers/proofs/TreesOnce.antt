@@ -1,0 +1,137 @@
+-- `exec` and `gen` come to one thing: a source means one thing, its input spells one list of arguments, and its groups
+-- tell one bound of the entry, so that its frames are one.
+use Rattle.std.proofs.Common.{◌≡◌, ◌∙◌, ◌≤◌, ℕ, Bool, false, List, ◌++◌, Option, Some, slice_get, refl, sym, ap, ap₂, subst, arith}
+use Rattle.std.specs.Prelude.{Result, Ok, Err}
+use Rattle.command_library.specs.fip_language.Core.{Core}
+use Rattle.command_library.specs.fip_language.Meaning.{Answer, Gives, Trap, Out, Deep, Stuck, Peak, Run, meaning}
+use Rattle.command_library.specs.fip_language.Prefix.{IsPlace}
+use Rattle.command_library.specs.fip_language.PrintedText.{printed_lines}
+use Rattle.command_library.specs.fip_language.Statics.{NoClosed}
+use Rattle.command_library.specs.fip_language.Values.{Values}
+use Rattle.command_library.specs.fip_language.ValueText.{SpellsValues}
+use Rattle.command_library.proofs.fip_language.OnePlace.{IsPlace-unique, IsPlace-not_spelt}
+use Rattle.command_library.specs.fip_base.declared.plain.Stack.{Stack}
+use Rattle.command_library.specs.command_run.fip_trees.Tree.{Instance, Program}
+use Rattle.command_library.specs.command_run.tail_groups.Members.{AreMembers}
+use Rattle.command_library.specs.command_words.Words.{Room}
+use Rattle.command_library.specs.command_outcome.declared.failure.Failure.{Failure}
+use Rattle.command_library.specs.command_outcome.declared.failure.Failure.TheVariants as F
+use Rattle.command_library.specs.session_semantics.Talk.{frames_of}
+use Rattle.command_library.specs.command_source.Wanted.{Compiled, IsReady}
+use Rattle.command_library.proofs.command_source.Once.{refused_once as one_refusal, refused_not_ready}
+use Rattle.command_library.specs.command_eval.EvalAnswer.{Entry, Spells}
+use Rattle.command_library.proofs.command_eval.Once.{one_program, one_root, one_core, typed_alike, one_text}
+use Rattle.command_library.proofs.command_run.Entry.{root_at}
+use Rattle.command_library.proofs.command_run.ExecOnce.{member_at, words_alike, spelt_alike}
+use Rattle.command_library.specs.GenAnswer.{tree_source, build, gen_room}
+use Rattle.command_library.specs.MadeTree.{gen_input, lines_of_results}
+use Rattle.command_answers.specs.Exec.{End, Start, Running, gauge_by_trees, TellsRun, TellsAll, running, frames_for, run_of, words_of, Execs, Misspelt, Small, Ran}
+use Rattle.command_answers.specs.GaugeText.{if_asked}
+use Rattle.command_answers.specs.Generating.{Makes, LongInput, NoTree, Made, Generates, Refused, Ran as Done}
+
+tells_once : (r : Running) (vs : Values) (calls frames : ℕ) (gauge : Bool) (peak : Peak) (a : Answer) (d e : End) → TellsRun r vs calls frames gauge peak a d → TellsRun r vs calls frames gauge peak a e → d ≡ e
+tells_once r vs calls frames gauge peak (Gives us left) d e h k = h ∙ sym k
+tells_once r vs calls frames gauge peak (Trap kind line col) d e h k = h ∙ sym k
+tells_once r vs calls frames gauge peak Out d e h k = h ∙ sym k
+tells_once r vs calls frames gauge peak Deep d e h k = h ∙ sym k
+tells_once r vs calls frames gauge peak Stuck d e h k = absurd h
+
+module _ (source name : List ℕ) (s t : Start source name) where
+  abbrev x : Entry source name
+  x = s.entry
+
+  abbrev y : Entry source name
+  y = t.entry
+
+  -- what its groups tell of the entry is one
+  bound_once : t.bound ≡ s.bound
+  bound_once =
+      let root = root_at name x.program.instances x.root x.named in
+      let m = member_at x.program.instances s.members root.place x.root (s.found).size root.there in
+      let other : AreMembers y.program.instances s.members = subst (λ (p : Program). AreMembers p.instances s.members) (sym (one_program source name x y)) s.found in
+      let there : slice_get y.program.instances root.place ≡ Some y.root = ap (λ (p : Program). slice_get p.instances root.place) (one_program source name x y) ∙ root.there ∙ ap Some (sym (one_root source name x y)) in
+      t.told s.members other root.place m.0 there m.1 ∙ sym (s.told s.members s.found root.place m.0 root.there m.1)
+
+  module _ (room : Room) where
+    -- what is meant, by the core form, the arguments and the bound
+    abbrev meant : Core → Values → Option Stack → Run
+    meant c ws b = meaning c name NoClosed ws room.calls (frames_of room.frames b)
+
+    pub run_same : (vs us : Values) → us ≡ vs → run_of t us room ≡ run_of s vs room
+    run_same vs us same =
+        ap (λ (c : Core). meant c us t.bound) (one_core source name x y)
+        ∙ (ap (λ ws. meant x.core ws t.bound) same ∙ ap (meant x.core vs) bound_once)
+
+    module _ (gauge : Bool) (e : End) where
+      abbrev Told : Program → Instance → Core → Values → Option Stack → Type 0
+      Told p d c ws b = TellsAll (record { types = p.types; instance = d; bound = b }) ws room.calls (frames_of room.frames b) gauge (meant c ws b) e
+
+      pub told_same : (vs us : Values) → us ≡ vs → Told y.program y.root y.core us t.bound → Told x.program x.root x.core vs s.bound
+      told_same vs us same h =
+          subst (λ b. Told x.program x.root x.core vs b) bound_once
+          (subst (λ ws. Told x.program x.root x.core ws t.bound) same
+          (subst (λ (c : Core). Told x.program x.root c us t.bound) (one_core source name x y)
+          (subst (λ (d : Instance). Told x.program d y.core us t.bound) (one_root source name x y)
+          (subst (λ (p : Program). Told p y.root y.core us t.bound) (one_program source name x y) h))))
+
+module _ (source name input : List ℕ) (room : Room) (gauge : Bool) where
+  pub trees_once : (d e : End) → Execs source name input room gauge d → Execs source name input room gauge e → d ≡ e
+  trees_once d e (Misspelt x at h) (Misspelt y to k) =
+      ap (λ n. Err (F.BadInput n)) (IsPlace-unique (Spells x) input at to h (typed_alike source name x y (λ tb ks. IsPlace (SpellsValues tb ks) input to) k))
+  trees_once d e (Misspelt x at h) (Small y us k less) = absurd (IsPlace-not_spelt (Spells x) input at us h (spelt_alike source name x y input us k))
+  trees_once d e (Misspelt x at h) (Ran t us f k fits told) = absurd (IsPlace-not_spelt (Spells x) input at us h (spelt_alike source name x t.entry input us k))
+  trees_once d e (Small x vs h less) (Misspelt y to k) = absurd (IsPlace-not_spelt (Spells y) input to vs k (spelt_alike source name y x input vs h))
+  trees_once d e (Small x vs h less) (Small y us k more) =
+      let words : words_of y us ≡ words_of x vs = words_alike source name x y us ∙ ap (words_of x) (one_text source name x y input vs us h k) in
+      ap (λ n. Err (F.TooSmall n room.words)) (sym words)
+  trees_once d e (Small x vs h less) (Ran t us f k fits told) =
+      let words : words_of t.entry us ≡ words_of x vs = words_alike source name x t.entry us ∙ ap (words_of x) (one_text source name x t.entry input vs us h k) in
+      absurd (omega (arith, less, fits, words))
+  trees_once d e (Ran s vs f h fits told) (Misspelt y to k) = absurd (IsPlace-not_spelt (Spells y) input to vs k (spelt_alike source name y s.entry input vs h))
+  trees_once d e (Ran s vs f h fits told) (Small y us k less) =
+      let words : words_of y us ≡ words_of s.entry vs = words_alike source name s.entry y us ∙ ap (words_of s.entry) (one_text source name s.entry y input vs us h k) in
+      absurd (omega (arith, less, fits, words))
+  trees_once d e (Ran s vs f h fits told) (Ran t us g k also others) =
+      let same : us ≡ vs = one_text source name s.entry t.entry input vs us h k in
+      tells_once (running s) vs room.calls (frames_for s room) gauge (run_of s vs room).peak (run_of s vs room).answer d e told
+      (told_same source name s t room gauge e vs us same others)
+
+-- ---- gen
+
+same_values : (vs ws : Values) (left other : ℕ) → Gives vs left ≡ Gives ws other → vs ≡ ws
+same_values vs ws left other e = cc
+
+same_end : (text : List ℕ) (failure : Failure) → ◌≡◌ {A = End} (Ok text) (Err failure) → ⊥
+same_end text failure e = absurd cc
+
+module _ (source : List ℕ) (seed count : ℕ) where
+  abbrev keys : List ℕ
+  keys = gen_input seed count
+
+  -- no values and a failure
+  gives_or_fails : (failure : Failure) (s : Start source build) (vs results : Values) (left : ℕ) → Spells s.entry keys vs → words_of s.entry vs ≤ gen_room.words → (run_of s vs gen_room).answer ≡ Gives results left → Execs source build keys gen_room false (Err failure) → ⊥
+  gives_or_fails failure s vs results left h fits gives k =
+      let text : List ℕ = printed_lines (running s).types ((running s).instance).results results ++ if_asked false (gauge_by_trees (running s) vs results (run_of s vs gen_room).peak) in
+      let told : TellsAll (running s) vs gen_room.calls (frames_for s gen_room) false (run_of s vs gen_room) (Ok text) = subst (λ a. TellsRun (running s) vs gen_room.calls (frames_for s gen_room) false (run_of s vs gen_room).peak a (Ok text)) (sym gives) refl in
+      same_end text failure (trees_once source build keys gen_room false (Ok text) (Err failure) (Ran s vs (Ok text) h fits told) k)
+
+  makes_once : (d e : End) → Makes source seed count d → Makes source seed count e → d ≡ e
+  makes_once d e (LongInput more) (LongInput again) = refl
+  makes_once d e (LongInput more) (NoTree f short h) = absurd (omega (arith, more, short))
+  makes_once d e (LongInput more) (Made s vs rs l short h fits gives) = absurd (omega (arith, more, short))
+  makes_once d e (NoTree f short h) (LongInput more) = absurd (omega (arith, more, short))
+  makes_once d e (NoTree f short h) (NoTree g also k) = trees_once source build keys gen_room false (Err f) (Err g) h k
+  makes_once d e (NoTree f short h) (Made s vs rs l also k fits gives) = absurd (gives_or_fails f s vs rs l k fits gives h)
+  makes_once d e (Made s vs rs l short h fits gives) (LongInput more) = absurd (omega (arith, more, short))
+  makes_once d e (Made s vs rs l short h fits gives) (NoTree g also k) = absurd (gives_or_fails g s vs rs l h fits gives k)
+  makes_once d e (Made s vs rs l short h fits gives) (Made t us qs m also k still means) =
+      let same : us ≡ vs = one_text source build s.entry t.entry keys vs us h k in
+      let one : Gives rs l ≡ Gives qs m = sym gives ∙ (ap (λ (r : Run). r.answer) (sym (run_same source build s t gen_room vs us same)) ∙ means) in
+      ap (λ ws. Ok (lines_of_results count ws)) (same_values rs qs l m one)
+
+-- what `gen` comes to
+pub generated_once : (seed count : ℕ) (d e : End) → Generates seed count d → Generates seed count e → d ≡ e
+generated_once seed count d e (Refused q h) (Refused r k) = ap (λ r. Err (F.Refused r)) (one_refusal tree_source (Compiled build) q r h k)
+generated_once seed count d e (Refused q h) (Done f ready k) = absurd (refused_not_ready tree_source (Compiled build) q h ready)
+generated_once seed count d e (Done f ready k) (Refused q h) = absurd (refused_not_ready tree_source (Compiled build) q h ready)
+generated_once seed count d e (Done f ready h) (Done g again k) = makes_once tree_source seed count d e h k

@@ -1,5 +1,0 @@
-use Rattle.command_answers.proofs.EmptySource.{code_of_it, file_sound}
-use Rattle.command_answers.proofs.empty.an_empty_program_has_a_code.Goals as goal
-
-pub returns : goal.returns
-returns c = record { code = code_of_it; file = file_sound }

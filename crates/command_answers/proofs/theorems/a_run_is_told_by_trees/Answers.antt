@@ -1,0 +1,5 @@
+use Rattle.command_answers.proofs.ByTrees.{exec_by_trees, gen_by_trees}
+use Rattle.command_answers.proofs.theorems.a_run_is_told_by_trees.Goals as goal
+
+pub returns : goal.returns
+returns c = record { executes = exec_by_trees; generates = gen_by_trees }

@@ -1,0 +1,122 @@
+-- What is left of a run: nothing where the command ended before it, and what a run left by the status that is answered.
+-- Idea: a status of a run comes only of values, a trap, or that calls or frames ran out.
+use Rattle.std.proofs.Common.{◌≡◌, ◌∙◌, ◌⊎◌, ℕ, Bool, true, false, List, inl, inr, refl, sym, ap, subst}
+use Rattle.std.specs.Prelude.{Option, Some, None, Ok, Err, IfSome, IfErr, OnOk, OnErr, is_some}
+use Rattle.fip_outside.specs.Files.{File, HoldsFile}
+use Rattle.command_words.specs.Words.{Request, Room, Command, Exec, Run, Trace, Gen, IsCommand}
+use Rattle.command_outcome.specs.Failures.{failure_status, failure_text}
+use Rattle.command_outcome.specs.Stages.{IsOfSource}
+use Rattle.command_outcome.specs.Texts.{no_memory_text}
+use Rattle.command_outcome.specs.declared.failure.Failure.{Failure}
+use Rattle.command_outcome.specs.declared.failure.Failure.TheVariants as F
+use Rattle.command_outcome.specs.declared.failure.Object.TheVariants as O
+use Rattle.command_answers.specs.command_library.command_source.Entries.{Chosen, IsFunctionOf}
+use Rattle.command_answers.specs.command_library.command_source.ProgramCode.{IsEntryOf}
+use Rattle.command_answers.specs.command_library.command_run.CodeRun.{is_run_end, is_run_failure}
+use Rattle.command_answers.specs.command_library.command_run.Leaving.{IsLeftBy, LeavesOf}
+use Rattle.command_answers.specs.command_library.GenAnswer.{build, gen_room, tree_source}
+use Rattle.command_answers.specs.command_library.MadeTree.{gen_input}
+use Rattle.command_answers.specs.command_library.command_run.declared.running.Left.{Left}
+use Rattle.command_answers.specs.Stored.{IsTold}
+use Rattle.fip_driver.specs.Delivered.{Outcome, Seen, Told, ToldFailure, Delivered}
+use Rattle.fip_driver.specs.Fetched.{FetchFails, StoreFails, ReadFails, IsEarlyFailure}
+use Rattle.fip_driver.specs.Left.{LeftOn, LeftBy, LeavesCells, Remains, Leaves, LeavesFor, is_run_status}
+
+-- ---- what is no end of a run
+
+pub source_ran : (f : Failure) → IsOfSource f → is_run_failure f ≡ false
+source_ran (F.Trap kind line col) h = absurd h
+source_ran (F.OutOfCalls given) h = absurd h
+source_ran (F.OutOfFrames given) h = absurd h
+source_ran f h = refl
+
+pub early_ran : (f : Failure) → IsEarlyFailure f → is_run_failure f ≡ false
+early_ran (F.Trap kind line col) h = absurd h
+early_ran (F.OutOfCalls given) h = absurd h
+early_ran (F.OutOfFrames given) h = absurd h
+early_ran f h = refl
+
+pub fetch_ran : (files : Option (List File)) (name : List ℕ) (before now : ℕ) (f : Failure) → FetchFails files name before now f → is_run_failure f ≡ false
+fetch_ran files name before now (F.Trap kind line col) h = absurd h
+fetch_ran files name before now (F.OutOfCalls given) h = absurd h
+fetch_ran files name before now (F.OutOfFrames given) h = absurd h
+fetch_ran files name before now f h = refl
+
+pub read_ran : (left left' : Option (List ℕ)) (before now : ℕ) (f : Failure) → ReadFails left left' before now f → is_run_failure f ≡ false
+read_ran left left' before now (F.Trap kind line col) h = absurd h
+read_ran left left' before now (F.OutOfCalls given) h = absurd h
+read_ran left left' before now (F.OutOfFrames given) h = absurd h
+read_ran left left' before now f h = refl
+
+pub store_ran : (before now : ℕ) (f : Failure) → StoreFails before now f → is_run_failure f ≡ false
+store_ran before now (F.Trap kind line col) h = absurd h
+store_ran before now (F.OutOfCalls given) h = absurd h
+store_ran before now (F.OutOfFrames given) h = absurd h
+store_ran before now f h = refl
+
+-- ---- on an input, on a file, and of a command
+
+pub remains_on : (IsSuch : Chosen → Type 0) (told : Option (List ℕ)) (room : Room) (r : Chosen) (input : List ℕ) (ended : Bool) (left : Option Left) → IsSuch r → IsTold told input → is_some left ≡ ended → IfSome left (IsLeftBy r input room) → Remains (LeftOn IsSuch told room) ended left
+remains_on IsSuch told room r input ended None such is e h = sym e
+remains_on IsSuch told room r input ended (Some l) such is e h = (sym e, input, is, r, such, h)
+
+pub leaves_exec : (r : Request) (files : Option (List File)) (told : Option (List ℕ)) (source : List ℕ) (ended : Bool) (left : Option Left) → HoldsFile files r.file source → Remains (LeftOn (IsEntryOf source r.entry) told r.room) ended left → Leaves (Exec r) files told ended left
+leaves_exec r files told source ended None found h = λ cells. h
+leaves_exec r files told source ended (Some l) found h = (h.0, source, found, h.1)
+
+pub leaves_run : (r : Request) (files : Option (List File)) (told : Option (List ℕ)) (code : List ℕ) (ended : Bool) (left : Option Left) → HoldsFile files r.file code → Remains (LeftOn (IsFunctionOf code r.entry) told r.room) ended left → Leaves (Run r) files told ended left
+leaves_run r files told code ended None found h = λ cells. h
+leaves_run r files told code ended (Some l) found h = (h.0, code, found, h.1)
+
+pub leaves_trace : (file entry out : List ℕ) (room : Room) (files : Option (List File)) (told : Option (List ℕ)) (source : List ℕ) (ended : Bool) (left : Option Left) → HoldsFile files file source → Remains (LeftOn (IsEntryOf source entry) told room) ended left → Leaves (Trace file entry out room) files told ended left
+leaves_trace file entry out room files told source ended None found h = λ cells. h
+leaves_trace file entry out room files told source ended (Some l) found h = (h.0, source, found, h.1)
+
+pub leaves_gen : (seed count : ℕ) (files : Option (List File)) (told : Option (List ℕ)) (ended : Bool) (left : Option Left) → is_some left ≡ ended → IfSome left (LeavesOf (IsEntryOf tree_source build) (gen_input seed count) gen_room) → Leaves (Gen seed count) files told ended left
+leaves_gen seed count files told ended None e h = λ cells. sym e
+leaves_gen seed count files told ended (Some l) e h = (sym e, h)
+
+-- a trace that was made is stored, or nothing is left
+pub leaves_stored : (file entry out : List ℕ) (room : Room) (files : Option (List File)) (told : Option (List ℕ)) (source : List ℕ) (before now : ℕ) (o : Outcome) (ran left : Option Left) → HoldsFile files file source → Remains (LeftOn (IsEntryOf source entry) told room) true ran → IfErr o (StoreFails before now) → OnOk o (left ≡ ran) → OnErr o (left ≡ None) → Leaves (Trace file entry out room) files told (is_run_end o) left
+leaves_stored file entry out room files told source before now (Ok text) ran left found h fails same none = subst (λ l. Leaves (Trace file entry out room) files told true l) (sym same) (leaves_trace file entry out room files told source true ran found h)
+leaves_stored file entry out room files told source before now (Err f) ran left found h fails same none = subst (λ l. Leaves (Trace file entry out room) files told (is_run_failure f) l) (sym none) (λ cells. store_ran before now f fails)
+
+-- the words of a command
+pub leaves_words : (words : List (List ℕ)) (c : Command) (files : Option (List File)) (told : Option (List ℕ)) (ended : Bool) (left : Option Left) → IsCommand words c → ((d : Command) → IsCommand words d → c ≡ d) → Leaves c files told ended left → LeavesFor words files told ended left
+leaves_words words c files told ended None asked once h = λ d also cells. h (subst LeavesCells (sym (once d also)) cells)
+leaves_words words c files told ended (Some l) asked once h = (h.0, c, asked, h.1)
+
+-- ---- by the status
+
+differ : (s n : ℕ) → s ≡ n → is_run_status n ≡ false → is_run_status s ≡ true → ⊥
+differ s n e no yes = let same : true ≡ false = sym yes ∙ (ap is_run_status e ∙ no) in absurd cc
+
+told_status : (old new : Seen) (status : ℕ) (text : List ℕ) (s : ℕ) → Told old new status text s → is_run_status status ≡ false → is_run_status s ≡ true → ⊥
+told_status old new status text s (inl h) no yes = differ s status h.0 no yes
+told_status old new status text s (inr h) no yes = differ s 9 h.0 refl yes
+
+told_other : (old new : Seen) (status : ℕ) (text : List ℕ) (s : ℕ) → Told old new status text s ⊎ Told old new 10 no_memory_text s → is_run_status status ≡ false → is_run_status s ≡ true → ⊥
+told_other old new status text s (inl h) no yes = told_status old new status text s h no yes
+told_other old new status text s (inr h) no yes = told_status old new 10 no_memory_text s h refl yes
+
+failure_ran : (old new : Seen) (f : Failure) (s : ℕ) → ToldFailure old new f s → is_run_status s ≡ true → is_run_failure f ≡ true
+failure_ran old new (F.Trap kind line col) s h yes = refl
+failure_ran old new (F.OutOfCalls given) s h yes = refl
+failure_ran old new (F.OutOfFrames given) s h yes = refl
+failure_ran old new (F.Fault object) s h yes = absurd (differ s 9 h.0 refl yes)
+failure_ran old new f s h yes = absurd (told_other old new (failure_status f) (failure_text f) s h refl yes)
+
+outcome_ran : (out out' err err' : Seen) (o : Outcome) (s : ℕ) → Delivered out out' err err' o s → is_run_status s ≡ true → is_run_end o ≡ true
+outcome_ran out out' err err' (Ok text) s d yes = refl
+outcome_ran out out' err err' (Err f) s d yes = failure_ran err err' f s d.1 yes
+
+handed : (words : List (List ℕ)) (files : Option (List File)) (told : Option (List ℕ)) (ended : Bool) (s : ℕ) (ran : Option Left) → (is_run_status s ≡ true → ended ≡ true) → LeavesFor words files told ended ran → is_run_status s ≡ true → LeavesFor words files told (is_run_status s) ran
+handed words files told ended s None ends h yes = λ c asked cells. (let same : true ≡ false = sym (ends yes) ∙ h c asked cells in absurd cc)
+handed words files told ended s (Some l) ends h yes = (yes, h.1)
+
+pub handed_out : (words : List (List ℕ)) (files : Option (List File)) (told : Option (List ℕ)) (out out' err err' : Seen) (o : Outcome) (s : ℕ) (ran left : Option Left) → Delivered out out' err err' o s → LeavesFor words files told (is_run_end o) ran → (is_run_status s ≡ true → left ≡ ran) → (is_run_status s ≡ false → left ≡ None) → LeavesFor words files told (is_run_status s) left
+handed_out words files told out out' err err' o s ran left d h same none = by (is_run_status s) refl
+  where
+    by : (b : Bool) → is_run_status s ≡ b → LeavesFor words files told (is_run_status s) left
+    by true yes = subst (λ l. LeavesFor words files told (is_run_status s) l) (sym (same yes)) (handed words files told (is_run_end o) s ran (outcome_ran out out' err err' o s d) h yes)
+    by false no = subst (λ l. LeavesFor words files told (is_run_status s) l) (sym (none no)) (λ c asked cells. no)

@@ -1,0 +1,192 @@
+-- What a call of the program says where an object fails, or tells nothing: what was come to just so far, what is then
+-- delivered, whose turn had come, and which files may have changed.
+--
+-- The words are read first, then a file is fetched and its source or code is checked, and then the input is read. What
+-- keeps a command from its result before the turn of an object comes leaves that object as it was. A program that breaks
+-- a rule is refused while its input still waits: a host can correct the source and call again.
+use Rattle.std.specs.Prelude.{◌≡◌, ◌⊎◌, ℕ, List, Option, Some, None, Ok, Err}
+use Rattle.fip_language.specs.declared.rule.Rule.TheVariants.{E75}
+use Rattle.fip_outside.specs.Faults.{Rose}
+use Rattle.fip_outside.specs.Files.{File}
+use Rattle.command_words.specs.Words.{Command, Audit, Trace, IsCommand}
+use Rattle.command_outcome.specs.declared.failure.Failure.TheVariants as F
+use Rattle.command_outcome.specs.declared.failure.Object.TheVariants as O
+use Rattle.command_answers.specs.Answer.{ComesTo, IsNoCommand, Answered, host}
+use Rattle.command_answers.specs.Asks.{ReadsInput, CallsNoFolder, ComesToInput, stored_name}
+use Rattle.command_answers.specs.Ends.{Audits}
+use Rattle.command_answers.specs.Exec.{End}
+use Rattle.command_answers.specs.Stored.{IsTold, IsStored, IsUnstored}
+use Rattle.fip_driver.specs.Delivered.{Outcome, Seen, seen, Delivered}
+
+-- a result without where its bytes lie in memory
+abbrev pub end_of : Outcome → End
+end_of (Ok text) = Ok text.items
+end_of (Err failure) = Err failure
+
+-- an object: what it told before a call and tells after it, where it tells something, and its counts of faults
+pub record Called (A : Type 0) : Type 0 where
+  pub told : Option A
+  pub tells : Option A
+  pub before : ℕ
+  pub after : ℕ
+
+abbrev pub called : {T A : Type 0} → (T → Option A) → (T → ℕ) → T → T → Called A
+called tells faults old new = record { told = tells old; tells = tells new; before = faults old; after = faults new }
+
+-- its count of faults rose
+abbrev pub Failed : {A : Type 0} → Called A → Type 0
+Failed x = Rose x.before x.after
+
+abbrev pub Folder : Type 0
+Folder = Called (List File)
+
+-- an input or a sink
+abbrev pub Stream : Type 0
+Stream = Called (List ℕ)
+
+-- a sink before and after a call
+abbrev pub at_first : Stream → Seen
+at_first sink = seen sink.told sink.before
+
+abbrev pub at_last : Stream → Seen
+at_last sink = seen sink.tells sink.after
+
+-- ---- where none failed
+
+-- Where no count of faults rose, and the folder and the input tell what they hold, the words have their answer.
+abbrev pub AnswersWhole : List (List ℕ) → Folder → Stream → Stream → Stream → ℕ → Type 0
+AnswersWhole words folder input out err s = (files : List File) (bytes : List ℕ) → folder.told ≡ Some files →
+    input.told ≡ Some bytes → (Failed folder → ⊥) → (Failed input → ⊥) → (Failed out → ⊥) → (Failed err → ⊥) →
+    Answered words files bytes (host out.told out.tells err.told err.tells folder.tells s)
+
+-- ---- what was come to
+
+-- want of memory, or a fault that was counted of an object that the command calls; of the input only where the command
+-- had come to it
+abbrev pub IsFault : Command → Type 0 → Type 0 → Type 0 → End → Type 0
+IsFault c came folder_rose input_rose (Err F.NoMemory) = Unit {0}
+IsFault c came folder_rose input_rose (Err (F.Fault O.Folder)) = folder_rose × (CallsNoFolder c → ⊥)
+IsFault c came folder_rose input_rose (Err (F.Fault O.Input)) = input_rose × ReadsInput c × came
+IsFault c came folder_rose input_rose e = ⊥
+
+-- what a command comes to on files, or a fault
+abbrev pub Closes : List File → List ℕ → Command → Type 0 → Type 0 → End → Type 0
+Closes files input c folder_rose input_rose e =
+    IsFault c (ComesToInput c (Some files)) folder_rose input_rose e ⊎ ComesTo files input c e
+
+-- A folder that tells nothing may give other bytes at each fetch, even under one name. So of `audit` it is said then
+-- that some bytes of the source and of the proof file end it so.
+abbrev pub IsUntoldAudit : Option (List File) → Command → End → Type 0
+IsUntoldAudit (Some files) c e = ⊥
+IsUntoldAudit None (Audit file proof) e = (source : List ℕ) × (bytes : List ℕ) × Audits source (Some bytes) e
+IsUntoldAudit None c e = ⊥
+
+-- what words come to before a command is asked: they are none, or memory is wanting
+abbrev pub IsUnasked : List (List ℕ) → Outcome → Type 0
+IsUnasked words (Err F.NotUnderstood) = IsNoCommand words
+IsUnasked words (Err F.NoMemory) = Unit {0}
+IsUnasked words o = ⊥
+
+-- What words come to: they ask for no command, or memory is wanting; or it is what a command ends with on files and an
+-- input, which are what the folder and the input told, where they told something; or `audit` where the folder tells
+-- none.
+abbrev pub WordsOutcome : List (List ℕ) → Option (List File) → Option (List ℕ) → Type 0 → Type 0 → Outcome → Type 0
+WordsOutcome words files left folder_rose input_rose o =
+    (all : List File) × (input : List ℕ) × IsTold files all × IsTold left input
+    × (IsUnasked words o
+    ⊎ ((c : Command) × IsCommand words c × Closes all input c folder_rose input_rose (end_of o))
+    ⊎ ((c : Command) × IsCommand words c × IsUntoldAudit files c (end_of o)))
+
+-- the count of a folder that tells nothing rose
+abbrev pub RoseUntold : Option (List File) → Type 0 → Type 0
+RoseUntold None rose = rose
+RoseUntold (Some files) rose = Unit {0}
+
+-- A fault of a folder that tells nothing is named only where its count rose.
+abbrev pub IsCounted : Option (List File) → Type 0 → Outcome → Type 0
+IsCounted files rose (Err (F.Fault O.Folder)) = RoseUntold files rose
+IsCounted files rose o = Unit {0}
+
+-- ---- whose turn it was, by what a command comes to
+
+-- the words
+abbrev pub IsBeforeSource : Outcome → Type 0
+IsBeforeSource (Err F.NotUnderstood) = Unit {0}
+IsBeforeSource o = ⊥
+
+-- the words, the folder, or the source or the code
+abbrev pub IsBeforeInput : Outcome → Type 0
+IsBeforeInput (Err F.NotUnderstood) = Unit {0}
+IsBeforeInput (Err (F.Refused r)) = Unit {0}
+IsBeforeInput (Err (F.BadCode at)) = Unit {0}
+IsBeforeInput (Err (F.Unsound function at rule)) = Unit {0}
+IsBeforeInput (Err (F.BadTrace at)) = Unit {0}
+IsBeforeInput (Err (F.Fault O.Folder)) = Unit {0}
+IsBeforeInput o = ⊥
+
+-- The same of `trace`. Its trace may be refused for its length (E75), and is stored, behind the run.
+abbrev pub IsBeforeTrace : Outcome → Type 0
+IsBeforeTrace (Err (F.Refused r)) = r.rule ≡ E75 → ⊥
+IsBeforeTrace (Err (F.Fault O.Folder)) = ⊥
+IsBeforeTrace o = IsBeforeInput o
+
+abbrev pub IsBeforeInputOf : Command → Outcome → Type 0
+IsBeforeInputOf (Trace file entry out room) o = IsBeforeTrace o
+IsBeforeInputOf c o = IsBeforeInput o
+
+-- The words ask for a command that reads the input, and its turn had come: its file is there and has what is wanted.
+-- (`trace` may still fail at the folder behind its input, and by a rule; the other commands don't.)
+abbrev pub HadInput : List (List ℕ) → Option (List File) → Outcome → Type 0
+HadInput words files o =
+    (c : Command) × IsCommand words c × ReadsInput c × (IsBeforeInputOf c o → ⊥) × ComesToInput c files
+
+-- The words ask for a command that calls the folder, and its turn had come.
+abbrev pub HadFolder : List (List ℕ) → Outcome → Type 0
+HadFolder words o = (c : Command) × IsCommand words c × (CallsNoFolder c → ⊥) × (IsBeforeSource o → ⊥)
+
+-- The words ask for a command that doesn't read the input.
+abbrev pub LeavesInput : List (List ℕ) → Type 0
+LeavesInput words = (c : Command) × IsCommand words c × (ReadsInput c → ⊥)
+
+-- ---- by the status
+
+-- a refusal of the words, or of a source, a code or a trace
+abbrev pub IsEarly : ℕ → Type 0
+IsEarly s = (s ≡ 1) ⊎ ((s ≡ 2) ⊎ (s ≡ 8))
+
+abbrev pub MayHaveRead : Command → ℕ → Type 0
+MayHaveRead (Trace file entry out room) s = ((s ≡ 2) ⊎ (s ≡ 8)) → ⊥
+MayHaveRead c s = IsEarly s → ⊥
+
+-- The words ask for a command that reads the input, and weren't refused, nor was a source or a code. So a run of a
+-- source that breaks E40, or of a file that isn't there, leaves it, also where memory was wanting.
+abbrev pub HasRead : List (List ℕ) → Option (List File) → ℕ → Type 0
+HasRead words files s = (c : Command) × IsCommand words c × ReadsInput c × MayHaveRead c s × ComesToInput c files
+
+-- The words ask for a command that calls the folder, and weren't refused.
+abbrev pub HasCalled : List (List ℕ) → ℕ → Type 0
+HasCalled words s = (c : Command) × IsCommand words c × (CallsNoFolder c → ⊥) × (s ≡ 2 → ⊥)
+
+-- The files after a command that stores under this name, or under none. At status 0 its file is stored, and at 9 where
+-- out failed behind that. Else nothing was written to out, and all files are as they were; but at 9, where the file was
+-- made and the folder failed to store it, no more is said than that each other file is. So `compile missing.fp o`
+-- leaves o, and `compile rev.fp o` stores it, also where out fails.
+abbrev pub AreAfter : Command → Option (List ℕ) → Option (List ℕ) → Type 0 → Seen → Seen → Option (List File) →
+    Option (List File) → ℕ → Type 0
+AreAfter c left None rose out out' old new s = new ≡ old
+AreAfter c left (Some name) rose out out' old new s =
+    (IsStored c left name old new × ((s ≡ 0) ⊎ ((s ≡ 9) × Rose out.faults out'.faults)))
+    ⊎ ((out' ≡ out) × (((s ≡ 0 → ⊥) × (new ≡ old)) ⊎ ((s ≡ 9) × rose × IsUnstored c left name old new)))
+
+abbrev pub FilesAfter : Command → Folder → Stream → Stream → ℕ → Type 0
+FilesAfter c folder input out s =
+    AreAfter c input.told (stored_name c) (Failed folder) (at_first out) (at_last out) folder.told folder.tells s
+
+-- ---- the whole, whatever fails
+
+-- Just what the words come to is delivered to the sinks; where that is before the input's turn, the input is untouched;
+-- and a fault of a folder that tells nothing is one that it counted.
+abbrev pub Delivers : List (List ℕ) → Folder → Stream → Stream → Stream → Type 0 → ℕ → Type 0
+Delivers words folder input out err untouched s = (o : Outcome) × (untouched ⊎ HadInput words folder.told o)
+    × WordsOutcome words folder.told input.told (Failed folder) (Failed input) o
+    × IsCounted folder.told (Failed folder) o × Delivered (at_first out) (at_last out) (at_first err) (at_last err) o s

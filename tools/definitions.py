@@ -34,10 +34,11 @@ def imports(lines):
         matched = USE.match(line)
         if matched:
             crate, module, names, other = matched.groups()
-            # a definition of another crate that this one hands on
+            # a definition of another crate that this one hands on, or one that it is handed
             first, _, rest = module.partition(".")
-            if rest and (CRATES / first).is_dir():
+            while rest and (CRATES / first).is_dir():
                 crate, module = first, rest
+                first, _, rest = module.partition(".")
             path = f"{crate}/{module}"
             if names is None:
                 found[other or module.split(".")[-1]] = (path, None)

@@ -47,7 +47,8 @@ use Rattle.command_run.proofs.command_source.Compiling.{headers_same, instrs_sam
 use Rattle.task_correctness.proofs.specialisation_correctness.Meant.{root_meant}
 use Rattle.command_run.specs.source_report.Report.{IsAccepted, IsTyped}
 use Rattle.command_run.specs.tail_groups.Members.{AreMembers}
-use Rattle.task_lines.specs.Called.{AreCalls, Called, IsCall, IsFirstBad, IsReadable}
+use Rattle.task_lines.specs.Called.{AreCalls, Called, IsCall, IsFirstBad}
+use Rattle.task_lines.specs.session_values.Readable.{IsReadable}
 use Rattle.task_lines.specs.declared.list.RunLimits.{RunLimits}
 use Rattle.command_tasks.specs.Called.{AreCallLines, AreNamed, IsCallLine, answer_of}
 use Rattle.command_tasks.specs.TasksAnswer.{IsSetting}

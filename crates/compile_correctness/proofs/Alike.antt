@@ -11,10 +11,10 @@ use Rattle.command_outcome.specs.declared.failure.Failure.TheVariants as F
 use Rattle.code_file.specs.Plain.{PlainCode}
 use Rattle.source_report.specs.Report.{IsAccepted}
 use Rattle.source_report.proofs.Once.{accepted_not, accepted_once}
-use Rattle.command_source.specs.Codes.{sound_view, IsSoundFile, HasFunction, names_one}
-use Rattle.command_source.specs.ProgramCode.{IsCompiledFile}
-use Rattle.command_source.specs.Roots.{root_named}
-use Rattle.command_source.specs.Wanted.{Compiled, IsCompiled, IsReady, MissesCode, Refuses, of_entry}
+use Rattle.command_run.specs.command_source.Codes.{sound_view, IsSoundFile, HasFunction, names_one}
+use Rattle.command_run.specs.command_source.ProgramCode.{IsCompiledFile}
+use Rattle.command_run.specs.command_source.Roots.{root_named}
+use Rattle.command_run.specs.command_source.Wanted.{Compiled, IsCompiled, IsReady, MissesCode, Refuses, of_entry}
 use Rattle.command_run.specs.CodeRun.{RunsCode}
 use Rattle.command_run.proofs.CodeOnce.{code_run_there}
 use Rattle.compile_correctness.specs.Ends.{ExecEnds, RefusedSource, LongForExec, Executed, RunEnds, RefusedCode, NoFunction, LongForRun, Ran, AreAlike}

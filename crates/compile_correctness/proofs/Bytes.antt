@@ -28,9 +28,9 @@ use Rattle.code_rules.specs.Limits.{most_credits, most_registers, most_results}
 use Rattle.tail_groups.specs.Registers as G
 use Rattle.source_report.specs.Report.{IsAccepted}
 use Rattle.source_report.proofs.Once.{accepted_once}
-use Rattle.command_source.specs.Codes.{sound_label, sound_function, sound_view}
-use Rattle.command_source.specs.ProgramCode as C
-use Rattle.command_source.specs.ProgramCode.{IsCodeOfSource, IsUncompiled}
+use Rattle.command_run.specs.command_source.Codes.{sound_label, sound_function, sound_view}
+use Rattle.command_run.specs.command_source.ProgramCode as C
+use Rattle.command_run.specs.command_source.ProgramCode.{IsCodeOfSource, IsUncompiled}
 use Rattle.machine_correctness.proofs.Peaks.{header_at, counted_at}
 
 -- ---- one function

@@ -7,8 +7,8 @@ use Rattle.code_file.specs.Plain.{PlainCode}
 use Rattle.code_file.specs.declared.tags.Version.TheVariants.{Second}
 use Rattle.code_file.proofs.Whole.{one_code}
 use Rattle.code_rules.specs.Breaks.{IsLeast}
-use Rattle.command_source.specs.Codes.{sound_view, IsSoundFile, RefusesCode, LongFile, BadFile, UnsoundFile, IsUpgraded}
-use Rattle.command_source.specs.ProgramCode.{IsCodeOfSource, IsCompiledFile}
+use Rattle.command_run.specs.command_source.Codes.{sound_view, IsSoundFile, RefusesCode, LongFile, BadFile, UnsoundFile, IsUpgraded}
+use Rattle.command_run.specs.command_source.ProgramCode.{IsCodeOfSource, IsCompiledFile}
 
 pub code_same : (bytes : List ℕ) (c d : PlainCode) → IsSoundFile bytes c → IsSoundFile bytes d → c ≡ d
 code_same bytes c d h k = (one_code bytes h.spelt.0 k.spelt.0 c d h.spelt.1 k.spelt.1).1

@@ -34,9 +34,9 @@ use Rattle.tree_refinement.specs.Runs.{IsSameEnd}
 use Rattle.session_semantics.specs.Talk.{frames_of}
 use Rattle.type_safety.specs.Soundness.{parameter_types}
 use Rattle.value_text.specs.Loaded.{types_of}
-use Rattle.command_source.specs.Codes.{sound_view}
-use Rattle.command_source.specs.ProgramCode.{IsCompiledFile}
-use Rattle.command_eval.specs.EvalAnswer.{Entry, Spells}
+use Rattle.command_run.specs.command_source.Codes.{sound_view}
+use Rattle.command_run.specs.command_source.ProgramCode.{IsCompiledFile}
+use Rattle.command_run.specs.command_eval.EvalAnswer.{Entry, Spells}
 use Rattle.machine_correctness.specs.Gauges.{IsMeasured}
 use Rattle.machine_correctness.proofs.EvaluatedEnds.{ends_as, meant_not_deep}
 use Rattle.machine_correctness.proofs.Flat.{runs_flat}

@@ -17,12 +17,12 @@ use Rattle.compiler_correctness.proofs.SoundTypes.{typed_sound}
 use Rattle.source_report.specs.Report.{IsAccepted}
 use Rattle.source_report.proofs.Once.{accepted_once}
 use Rattle.compiler_correctness.proofs.Headers.{typed_named}
-use Rattle.command_source.specs.Codes.{sound_view, has_named, names_one}
-use Rattle.command_source.specs.ProgramCode.{IsCodeOfSource}
-use Rattle.command_source.specs.Roots.{root_named}
-use Rattle.command_source.specs.Wanted.{MissesCode}
-use Rattle.command_eval.specs.EvalAnswer.{Entry}
-use Rattle.command_eval.proofs.Meant.{typed_of}
+use Rattle.command_run.specs.command_source.Codes.{sound_view, has_named, names_one}
+use Rattle.command_run.specs.command_source.ProgramCode.{IsCodeOfSource}
+use Rattle.command_run.specs.command_source.Roots.{root_named}
+use Rattle.command_run.specs.command_source.Wanted.{MissesCode}
+use Rattle.command_run.specs.command_eval.EvalAnswer.{Entry}
+use Rattle.command_run.proofs.command_eval.Meant.{typed_of}
 use Rattle.machine_correctness.proofs.Entries.{plain_header, IsNamed, named}
 use Rattle.command_run.proofs.CodeOnce.{long}
 use Rattle.command_run.proofs.Entry.{IsRootAt, root_at, header_at}

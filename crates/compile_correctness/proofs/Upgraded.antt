@@ -4,7 +4,7 @@ use Rattle.std.specs.Prelude.{Result, Err}
 use Rattle.command_words.specs.Words.{Room}
 use Rattle.command_outcome.specs.declared.failure.Failure.{Failure}
 use Rattle.command_outcome.specs.declared.failure.Failure.TheVariants as F
-use Rattle.command_source.specs.Codes.{IsUpgraded, HasFunction}
+use Rattle.command_run.specs.command_source.Codes.{IsUpgraded, HasFunction}
 use Rattle.command_run.specs.CodeRun as D
 use Rattle.command_run.specs.CodeRun.{Chosen, RunsCode}
 use Rattle.command_run.proofs.CodeOnce.{code_run_once}

@@ -7,9 +7,9 @@ use Rattle.separation.specs.Codes.{run_function}
 use Rattle.lowering_relation.specs.LoweredFunctions.{AreLowered}
 use Rattle.lowering_simulation.specs.Lowered as L
 use Rattle.source_report.specs.Report.{IsParsed}
-use Rattle.command_source.specs.Codes.{sound_function, sound_view}
-use Rattle.command_source.specs.ProgramCode as C
-use Rattle.command_source.specs.ProgramCode.{IsCodeOfSource}
+use Rattle.command_run.specs.command_source.Codes.{sound_function, sound_view}
+use Rattle.command_run.specs.command_source.ProgramCode as C
+use Rattle.command_run.specs.command_source.ProgramCode.{IsCodeOfSource}
 use Rattle.machine_correctness.proofs.Entries.{plain_header}
 use Rattle.machine_correctness.proofs.Made.{IsMadeOf}
 

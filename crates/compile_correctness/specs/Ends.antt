@@ -11,8 +11,8 @@ use Rattle.command_words.specs.Words.{Room}
 use Rattle.command_outcome.specs.declared.failure.Failure.{Failure}
 use Rattle.command_outcome.specs.declared.failure.Failure.TheVariants as F
 use Rattle.code_file.specs.Plain.{PlainCode}
-use Rattle.command_source.specs.Codes.{sound_view, IsSoundFile, RefusesCode, HasFunction, names_one}
-use Rattle.command_source.specs.Wanted.{Compiled, Refuses, IsReady, of_entry}
+use Rattle.command_run.specs.command_source.Codes.{sound_view, IsSoundFile, RefusesCode, HasFunction, names_one}
+use Rattle.command_run.specs.command_source.Wanted.{Compiled, Refuses, IsReady, of_entry}
 use Rattle.command_run.specs.CodeRun.{RunsCode}
 use Rattle.command_run.specs.ExecAnswer.{Execs}
 

@@ -11,8 +11,8 @@ ghost use Rattle.fip_language.specs.declared.limits.TheConstants.{MOST_FILE_BYTE
 ghost use Rattle.fip_trees.specs.Tree.{Program};
 ghost use Rattle.command_run.specs.CodeRun.{RunsCode};
 ghost use Rattle.command_run.specs.ExecAnswer.{Execs};
-ghost use Rattle.command_source.specs.Codes.{IsUpgraded};
-ghost use Rattle.command_source.specs.ProgramCode.{IsCodeOfSource, IsCompiledFile, IsUncompiled};
+ghost use Rattle.command_run.specs.command_source.Codes.{IsUpgraded};
+ghost use Rattle.command_run.specs.command_source.ProgramCode.{IsCodeOfSource, IsCompiledFile, IsUncompiled};
 ghost use Rattle.source_report.specs.Report.{IsAccepted};
 
 /// The file that `compile` stores of a source is run as the source is executed, with the same input and options: both

@@ -39,14 +39,14 @@ stored_kept c left name bytes old mid new before between now o same le made fail
 
 -- where the folder didn't fail, the files are those of the answer
 pub stored_as : (c : Command) (name : Option (List ℕ)) (files : List File) (input : List ℕ) (rose : Type 0) (new : Option (List File)) (o : Outcome) → (rose → ⊥) → AreKept c (Some input) name rose (Some files) new o → Stores c files input name (end_of o) new
-stored_as c None files input rose new o no h = h
-stored_as c (Some name) files input rose new (Ok text) no h = h
-stored_as c (Some name) files input rose new (Err (F.Fault O.Folder)) no (inl same) = same
-stored_as c (Some name) files input rose new (Err (F.Fault O.Folder)) no (inr h) = absurd (no h.0)
-stored_as c (Some name) files input rose new (Err (F.Fault O.Input)) no h = h
-stored_as c (Some name) files input rose new (Err (F.Fault O.Out)) no h = h
-stored_as c (Some name) files input rose new (Err (F.Fault O.Err)) no h = h
-stored_as c (Some name) files input rose new (Err f) no h = h
+stored_as c None files input rose new o fine h = h
+stored_as c (Some name) files input rose new (Ok text) fine h = h
+stored_as c (Some name) files input rose new (Err (F.Fault O.Folder)) fine (inl same) = same
+stored_as c (Some name) files input rose new (Err (F.Fault O.Folder)) fine (inr h) = absurd (fine h.0)
+stored_as c (Some name) files input rose new (Err (F.Fault O.Input)) fine h = h
+stored_as c (Some name) files input rose new (Err (F.Fault O.Out)) fine h = h
+stored_as c (Some name) files input rose new (Err (F.Fault O.Err)) fine h = h
+stored_as c (Some name) files input rose new (Err f) fine h = h
 
 -- a failure leaves all as they were
 pub failed_kept : (c : Command) (name : Option (List ℕ)) (files : List File) (input : List ℕ) (new : Option (List File)) (f : Failure) → Stores c files input name (Err f) new → new ≡ Some files

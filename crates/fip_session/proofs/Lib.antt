@@ -1,2 +1,9 @@
 pub mod Changing
 pub mod Writing
+pub mod Planning
+pub mod Accepting
+pub mod Resulting
+pub mod Deciding
+pub mod Holding
+pub mod Showing
+pub mod Naming

@@ -1,5 +1,5 @@
 // What a session knows beside the cells: the program, the room of each run, and what names hold.
-ghost use Rattle.std.specs.Prelude.{◌≡◌, ◌<◌, ◌≤◌, ℕ, List, length, IfOk, IfSome, OnOk, Some, None, slice_get};
+ghost use Rattle.std.specs.Prelude.{◌≡◌, ◌<◌, ◌≤◌, ◌^◌, ℕ, List, [], length, IfOk, IfSome, OnOk, Some, None, slice_get};
 ghost use Rattle.std.specs.Map.{update};
 ghost use Rattle.std.specs.Str.{bytes_eq};
 ghost use Rattle.cell_code.specs.declared.code.Function.{Function as a_function};
@@ -7,6 +7,9 @@ ghost use Rattle.fip_language.specs.Core.{Name};
 ghost use Rattle.fip_language.specs.Table.{is_scalar};
 ghost use Rattle.fip_language.specs.declared.limits.TheConstants.{MOST_FRAMES};
 ghost use Rattle.session_lines.specs.Named.{AreEntries, HasName};
+ghost use Rattle.fip_language.specs.PrintedText.{printed};
+ghost use Rattle.fip_language.specs.Store.{Placed, value_of, word_of};
+ghost use Rattle.value_text.specs.Standing.{Stands};
 ghost use Rattle.fip_session.specs.Named.{found};
 
 use cell_code::Function;
@@ -14,10 +17,11 @@ use cell_store::{Cells, Sealed};
 use code_verify::Verified;
 use fip_base::plain::NoMemory;
 use fip_base::table::TypeTable;
+use fip_language::limits::MOST_STORE_WORDS;
 use session_lines::{Entries, frames_of};
 use std::alloc::Global;
 use std::collections::BTreeMap;
-use store_trees::{MOST_CELLS, Trees};
+use store_trees::Trees;
 use value_text::print_value;
 
 /// What a name holds: a value, as its type and its word.
@@ -51,6 +55,7 @@ impl<'a> Book<'a> {
         ensures table { IfOk result (λ b. b.table.now ≡ table.now) }
         ensures verified { IfOk result (λ b. b.verified.now ≡ verified.now) }
         ensures calls { IfOk result (λ b. b.calls ≡ calls) }
+        ensures frames { IfOk result (λ b. b.frames ≡ frames) }
         ensures entries { IfOk result (λ b. AreEntries verified.now.code.functions.items b.entries.numbers) }
         ensures empty { IfOk result (λ b. (name : Name) → found b.held name ≡ None) }
     {
@@ -128,14 +133,18 @@ impl<'a> Book<'a> {
     }
 
     /// The text of what is held.
-    pub fn text_of(&self, cells: &Sealed, held: Held) -> Result<Vec<u8>, NoMemory> {
+    pub fn text_of(&self, cells: &Sealed, held: Held) -> Result<Vec<u8>, NoMemory>
+        ensures text { length cells.now.cells ≤ 2 ^ 32 → (x : Placed) →
+            Stands self.now.table.now cells.now.cells held.ty x → word_of x ≡ held.word →
+            IfOk result (λ text. text.items ≡ printed self.now.table.now held.ty (value_of x) []) }
+    {
         print_value(self.alloc, self.table, cells, held.ty, held.word)
     }
 
     /// The trees of a value.
     pub fn trees_of(&self, cells: &Sealed, held: Held) -> Result<Trees, NoMemory> {
         let mut trees = Trees::none(self.alloc);
-        trees.add(self.table, cells, held.ty, held.word, MOST_CELLS)?;
+        trees.add(self.table, cells, held.ty, held.word, MOST_STORE_WORDS)?;
         Ok(trees)
     }
 
@@ -143,7 +152,7 @@ impl<'a> Book<'a> {
     pub fn all_trees(&self, cells: &Sealed) -> Result<Trees, NoMemory> {
         let mut trees = Trees::none(self.alloc);
         for (_, held) in &self.held {
-            trees.add(self.table, cells, held.ty, held.word, MOST_CELLS)?;
+            trees.add(self.table, cells, held.ty, held.word, MOST_STORE_WORDS)?;
         }
         Ok(trees)
     }

@@ -1,37 +1,55 @@
 // A call of a session runs, and its results get names.
-ghost use Rattle.std.specs.Prelude.{◌<◌, length};
+ghost use Rattle.std.specs.Prelude.{◌<◌, ◌≤◌, length};
+ghost use Rattle.fip_language.specs.declared.limits.TheConstants.{MOST_FRAMES};
 
 use crate::book::{Book, Held};
-use crate::plan::{Plan, plan_of};
-use crate::ready::{Ready, make_ready};
+use crate::plan::{Arguments, Plan, plan_of};
+use crate::ready::{Fresh, Ready, make_ready};
 use crate::reply::{Reply, Stop};
 use crate::sweep::keep_only;
 use cell_store::{Loader, Sealed, seal};
 use fip_base::plain::NoMemory;
+use fip_language::limits::MOST_STORE_WORDS;
 use fip_machine::{Ended, Gauge, Machine};
 use session_lines::CallLine;
-use store_trees::{MOST_CELLS, Trees, release};
+use store_trees::{Trees, release};
 
 // Cells of names that a call uses up are noted before it runs, as long as there are no more than so many. Where a run
 // ends without a value and not all of them were noted, the whole store is looked through.
 const MOST_NOTED: usize = 2048;
+
+/// The store of a session: its cells, and the words that are left for more.
+#[derive(Drop)]
+pub struct Store {
+    pub cells: Sealed,
+    pub left: usize,
+}
+
+// How a run ended, the words of its results, and its cells at the end.
+#[derive(Drop)]
+struct CallRun {
+    ended: Ended,
+    results: Vec<u64>,
+    cells: Sealed,
+}
 
 // The cells that are to be released where a run ends without a value: those of the line's values and of the names
 // that it uses up. None where these are too many to be noted.
 fn noted(
     book: &Book,
     cells: &Sealed,
-    plan: &Plan,
-    values: &[(Held, bool)],
+    arguments: &Arguments,
+    values: &[Fresh],
 ) -> Result<Option<Trees>, NoMemory> {
     let mut trees = Trees::none(book.alloc);
-    for (held, _) in values {
-        trees.add(book.table, cells, held.ty, held.word, MOST_CELLS)?;
+    for value in values {
+        let Held { ty, word } = value.held;
+        trees.add(book.table, cells, ty, word, MOST_STORE_WORDS)?;
     }
     let most = trees.len().saturating_add(MOST_NOTED);
-    for (name, is_used_up) in &plan.arguments.given {
-        if *is_used_up
-            && let Some(held) = book.find(name)
+    for given in &arguments.given {
+        if given.is_used_up
+            && let Some(held) = book.find(given.name)
             && !trees.add(book.table, cells, held.ty, held.word, most)?
         {
             return Ok(None);
@@ -41,10 +59,10 @@ fn noted(
 }
 
 // The names that a call uses up hold nothing from now on.
-fn forget_used(book: &mut Book, plan: &Plan) {
-    for (name, is_used_up) in &plan.arguments.given {
-        if *is_used_up {
-            book.forget(name);
+fn forget_used(book: &mut Book, arguments: &Arguments) {
+    for given in &arguments.given {
+        if given.is_used_up {
+            book.forget(given.name);
         }
     }
 }
@@ -52,12 +70,11 @@ fn forget_used(book: &mut Book, plan: &Plan) {
 // The results get their names.
 fn hold_results(
     book: &mut Book,
-    plan: &Plan,
-    line: &CallLine,
+    names: &[&[u8]],
+    types: &[u32],
     words: &[u64],
 ) -> Result<(), NoMemory> {
-    let types = plan.function.results.as_slice();
-    for ((name, ty), word) in line.results.iter().zip(types.iter()).zip(words.iter()) {
+    for ((name, ty), word) in names.iter().zip(types.iter()).zip(words.iter()) {
         book.hold(
             name,
             Held {
@@ -70,13 +87,23 @@ fn hold_results(
 }
 
 // The values of the line that were lent are given up.
-fn release_lent(book: &Book, cells: &mut Sealed, values: &[(Held, bool)]) -> Result<(), NoMemory> {
-    for (held, is_lent) in values {
-        if *is_lent {
-            book.trees_of(cells, *held)?.release(cells);
+fn release_lent(book: &Book, cells: &mut Sealed, values: &[Fresh]) -> Result<(), NoMemory> {
+    for value in values {
+        if value.is_lent {
+            book.trees_of(cells, value.held)?.release(cells);
         }
     }
     Ok(())
+}
+
+// The cells that these words name are released.
+fn release_credits(cells: &mut Sealed, credits: &[u64]) {
+    for word in credits {
+        let place = *word / 2;
+        if place <= u64::from(u32::MAX) {
+            release(cells, place as u32);
+        }
+    }
 }
 
 // All cells of a run that ended without a value are released.
@@ -84,14 +111,12 @@ fn release_all(
     book: &Book,
     cells: &mut Sealed,
     noted: Option<Trees>,
-    credits: &[u32],
+    credits: &[u64],
 ) -> Result<(), NoMemory> {
     match noted {
         Some(trees) => {
             trees.release(cells);
-            for place in credits {
-                release(cells, *place);
-            }
+            release_credits(cells, credits);
             Ok(())
         }
         None => {
@@ -99,6 +124,28 @@ fn release_all(
             keep_only(book.alloc, cells, &kept)
         }
     }
+}
+
+// Runs an entry on words, over cells that were made.
+fn run_call(
+    book: &Book,
+    entry: usize,
+    frames: usize,
+    words: Vec<u64>,
+    cells: Sealed,
+) -> Result<CallRun, NoMemory>
+    requires there { entry < length book.now.verified.now.code.functions.items }
+    requires frames { frames ≤ MOST_FRAMES }
+{
+    let loader = cells.reopen();
+    let mut machine = Machine::start(book.alloc, book.verified, entry, loader, words, frames)?;
+    let ended = machine.run(book.calls, &mut Gauge::new());
+    let results = Vec::from_slice(book.alloc, machine.results())?;
+    Ok(CallRun {
+        ended,
+        results,
+        cells: machine.into_sealed(),
+    })
 }
 
 // Runs a call whose cells were made.
@@ -117,27 +164,23 @@ fn run<'l>(
         credits,
     } = ready;
     let cells = seal(loader);
-    let noted = noted(book, &cells, plan, values.as_slice())?;
+    let noted = noted(book, &cells, &plan.arguments, values.as_slice())?;
     let frames = book.frames_for(plan.entry);
-    let mut machine = Machine::start(
-        book.alloc,
-        book.verified,
-        plan.entry,
-        cells.reopen(),
-        words,
-        frames,
-    )?;
-    let calls = book.calls;
-    let ended = machine.run(calls, &mut Gauge::new());
-    forget_used(book, plan);
+    let CallRun {
+        ended,
+        results,
+        cells,
+    } = run_call(book, plan.entry, frames, words, cells)?;
+    let mut cells = cells;
+    forget_used(book, &plan.arguments);
     if ended == Ended::Value {
-        hold_results(book, plan, line, machine.results())?;
-        let mut cells = machine.into_sealed();
+        let types = plan.function.results.as_slice();
+        hold_results(book, line.results.as_slice(), types, results.as_slice())?;
         release_lent(book, &mut cells, values.as_slice())?;
         return Ok((cells, Reply::Done));
     }
-    let mut cells = machine.into_sealed();
     release_all(book, &mut cells, noted, credits.as_slice())?;
+    let calls = book.calls;
     Ok((
         cells,
         Reply::NoValue {
@@ -153,19 +196,25 @@ pub fn call<'l>(
     book: &mut Book,
     bytes: &[u8],
     line: &CallLine<'l>,
-    cells: Sealed,
-) -> Result<(Sealed, Reply<'l>), NoMemory> {
+    store: Store,
+) -> Result<(Store, Reply<'l>), NoMemory> {
     let plan = match plan_of(book, bytes, line) {
         Ok(plan) => plan,
-        Err(Stop::Reply(reply)) => return Ok((cells, reply)),
+        Err(Stop::Reply(reply)) => return Ok((store, reply)),
         Err(Stop::NoMemory) => return Err(NoMemory),
     };
+    let Store { cells, left } = store;
     let loader = cells.reopen();
     let needed = plan.needed(&loader);
-    let left = loader.left();
     if needed > left {
-        return Ok((seal(loader), Reply::StoreTooSmall { needed, left }));
+        let store = Store {
+            cells: seal(loader),
+            left,
+        };
+        return Ok((store, Reply::StoreTooSmall { needed, left }));
     }
     let (loader, ready) = make_ready(book, bytes, &plan, line, loader)?;
-    run(book, &plan, line, ready, loader)
+    let (cells, reply) = run(book, &plan, line, ready, loader)?;
+    let left = left - needed;
+    Ok((Store { cells, left }, reply))
 }

@@ -1,10 +1,20 @@
 // A session: a store whose values have names.
 ghost use Rattle.fip_language.specs.declared.limits.TheConstants.{MOST_FRAMES, MOST_STORE_WORDS};
-ghost use Rattle.std.specs.Prelude.{◌≡◌, ◌≤◌};
+ghost use Rattle.std.specs.Prelude.{◌≡◌, ◌≤◌, ◌++◌, ◌^◌, List, codes, length, Some, None, IfOk};
+ghost use Rattle.session_lines.specs.command_outcome.Texts.{line_end};
+ghost use Rattle.session_lines.specs.session_semantics.Talk.{Setting, at_first, told};
+ghost use Rattle.fip_language.specs.PrintedText.{printed};
+ghost use Rattle.fip_language.specs.Store.{value_of};
+ghost use Rattle.value_text.specs.Standing.{Stands};
+ghost use Rattle.session_correctness.specs.Lodging.{Lodged, lodged_as};
+ghost use Rattle.fip_session.specs.Planned.{Finds};
+ghost use Rattle.fip_session.specs.Said.{said};
+ghost use Rattle.fip_session.specs.Opened.{IsSession};
+ghost use Rattle.fip_session.specs.Served.{IsServed};
 ghost use Rattle.fip_session.specs.Named.{found};
 
 use crate::book::{Book, Held};
-use crate::call::call;
+use crate::call::{Store, call};
 use crate::reply::{Reply, reply_text};
 use cell_store::{Loader, Sealed, seal};
 use code_verify::Verified;
@@ -25,7 +35,7 @@ use std::alloc::Global;
 #[derive(Drop)]
 pub struct Session<'a> {
     book: Book<'a>,
-    cells: Sealed,
+    store: Store,
 }
 
 impl<'a> Session<'a> {
@@ -42,10 +52,15 @@ impl<'a> Session<'a> {
     ) -> Result<Session<'a>, NoMemory>
         requires words { words ≤ MOST_STORE_WORDS }
         requires frames { frames ≤ MOST_FRAMES }
+        ensures opens { (o : Setting) → IsServed o verified.now.code → typed.now.program.types ≡ o.program.types →
+            words ≡ o.words → calls ≡ o.calls → frames ≡ o.frames → IfOk result (λ t. IsSession o t at_first) }
     {
         Ok(Session {
             book: Book::new(alloc, &typed.program.types, verified, calls, frames)?,
-            cells: seal(Loader::new(alloc, words)),
+            store: Store {
+                cells: seal(Loader::new(alloc, words)),
+                left: words,
+            },
         })
     }
 
@@ -67,19 +82,19 @@ impl<'a> Session<'a> {
     /// The first that holds is answered, and the least argument and result. Refusals down to the store's change
     /// nothing.
     pub fn line(self, bytes: &[u8]) -> Result<(Session<'a>, Vec<u8>), NoMemory> {
-        let Session { mut book, cells } = self;
+        let Session { mut book, store } = self;
         let alloc = book.alloc;
-        let (cells, reply) = match line_of(alloc, bytes)? {
-            None => (cells, Reply::BadLine),
+        let (store, reply) = match line_of(alloc, bytes)? {
+            None => (store, Reply::BadLine),
             Some(Line::Show(name)) => {
-                let reply = show(&book, &cells, name)?;
-                (cells, reply)
+                let reply = show(&book, &store.cells, name)?;
+                (store, reply)
             }
-            Some(Line::Give(name)) => give(&mut book, cells, name)?,
-            Some(Line::Call(line)) => call(&mut book, bytes, &line, cells)?,
+            Some(Line::Give(name)) => give(&mut book, store, name)?,
+            Some(Line::Call(line)) => call(&mut book, bytes, &line, store)?,
         };
         let text = reply_text(alloc, reply)?;
-        Ok((Session { book, cells }, text))
+        Ok((Session { book, store }, text))
     }
 
     /// What a name holds; none where it isn't held.
@@ -90,13 +105,20 @@ impl<'a> Session<'a> {
     }
 
     /// The cells, as they are between lines.
-    pub fn cells(&self) -> &Sealed {
-        &self.cells
+    pub fn cells(&self) -> &Sealed
+        ensures same { result.now ≡ self.now.store.cells }
+    {
+        &self.store.cells
     }
 }
 
 // The text of what a name holds.
-fn show<'l>(book: &Book, cells: &Sealed, name: &'l [u8]) -> Result<Reply<'l>, NoMemory> {
+fn show<'l>(book: &Book, cells: &Sealed, name: &'l [u8]) -> Result<Reply<'l>, NoMemory>
+    ensures none { found book.now.held name.now ≡ None → IfOk result (λ r. said r ≡ told (codes "no name ") name.now) }
+    ensures shown { (ls : List Lodged) → Finds book.now.held ls → length cells.now.cells ≤ 2 ^ 32 → (l : Lodged) →
+        lodged_as name.now ls ≡ Some l → Stands book.now.table.now cells.now.cells l.type l.tree →
+        IfOk result (λ r. said r ≡ printed book.now.table.now l.type (value_of l.tree) line_end) }
+{
     match book.find(name) {
         Some(held) => Ok(Reply::Text(book.text_of(cells, held)?)),
         None => Ok(Reply::NoName(name)),
@@ -104,15 +126,15 @@ fn show<'l>(book: &Book, cells: &Sealed, name: &'l [u8]) -> Result<Reply<'l>, No
 }
 
 // Gives up what a name holds.
-fn give<'l>(
-    book: &mut Book,
-    cells: Sealed,
-    name: &'l [u8],
-) -> Result<(Sealed, Reply<'l>), NoMemory> {
-    let Some(held) = book.forget(name) else {
-        return Ok((cells, Reply::NoName(name)));
+fn give<'l>(book: &mut Book, store: Store, name: &'l [u8]) -> Result<(Store, Reply<'l>), NoMemory>
+    ensures none { found book.old.held name.now ≡ None →
+        IfOk result (λ r. (said r.1 ≡ told (codes "no name ") name.now) × (r.0 ≡ store) × (book.new ≡ book.old)) }
+{
+    let Some(held) = book.find(name) else {
+        return Ok((store, Reply::NoName(name)));
     };
-    let mut cells = cells;
+    book.forget(name);
+    let Store { mut cells, left } = store;
     book.trees_of(&cells, held)?.release(&mut cells);
-    Ok((cells, Reply::Done))
+    Ok((Store { cells, left }, Reply::Done))
 }

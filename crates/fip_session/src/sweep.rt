@@ -1,8 +1,9 @@
 // Releases all cells that nothing holds.
 use cell_store::Sealed;
 use fip_base::plain::NoMemory;
+use fip_language::limits::MOST_STORE_WORDS;
 use std::alloc::Global;
-use store_trees::{MOST_CELLS, Trees, release};
+use store_trees::{Trees, release};
 
 // For each place up to the greatest root's, whether it is a root of these trees.
 fn marks_of(alloc: Global, kept: &Trees) -> Result<Vec<bool>, NoMemory> {
@@ -23,7 +24,7 @@ fn marks_of(alloc: Global, kept: &Trees) -> Result<Vec<bool>, NoMemory> {
 pub fn keep_only(alloc: Global, cells: &mut Sealed, kept: &Trees) -> Result<(), NoMemory> {
     let marks = marks_of(alloc, kept)?;
     let mut at = cells.after(None);
-    for _ in 0..MOST_CELLS {
+    for _ in 0..MOST_STORE_WORDS {
         let Some(place) = at else {
             break;
         };

@@ -10,5 +10,8 @@ pub mod RedBlackTypes
 pub mod Keys
 pub mod Balance
 pub mod RedBlackResults
+pub mod Heights
+pub mod Different
+pub mod KeySets
 pub mod Need
 pub mod SequenceTypes

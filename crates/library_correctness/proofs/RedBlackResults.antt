@@ -17,12 +17,12 @@ use Rattle.library_correctness.proofs.Balance.{search_balanced}
 not_in_gap : (i : ℤ) (xs : List ℤ) → IsGap i xs → Among i xs → ⊥
 not_in_gap i xs g a = not_above i g.high g.above (not_below i g.low g.high g.below (subst (Among i) g.all a))
 
-among_parts : (j : ℤ) (xs ys : List ℤ) → Among j (xs ++ ys) → Among j xs ⊎ Among j ys
+pub among_parts : (j : ℤ) (xs ys : List ℤ) → Among j (xs ++ ys) → Among j xs ⊎ Among j ys
 among_parts j [] ys a = inr a
 among_parts j (x ∷ xs) ys (inl e) = inl (inl e)
 among_parts j (x ∷ xs) ys (inr a) = elim (among_parts j xs ys a) [ inl b ↦ inl (inr b) | inr b ↦ inr b ]
 
-among_more : (i j : ℤ) (xs ys : List ℤ) → Among j (xs ++ (i ∷ ys)) ↔ ((j ≡ i) ⊎ Among j (xs ++ ys))
+pub among_more : (i j : ℤ) (xs ys : List ℤ) → Among j (xs ++ (i ∷ ys)) ↔ ((j ≡ i) ⊎ Among j (xs ++ ys))
 among_more i j xs ys = (to, from)
   where
     side : Among j xs ⊎ Among j (i ∷ ys) → (j ≡ i) ⊎ Among j (xs ++ ys)
@@ -41,7 +41,7 @@ among_more i j xs ys = (to, from)
     from (inl e) = among_append j xs (i ∷ ys) (inl e)
     from (inr a) = back (among_parts j xs ys a)
 
-gains_among : (i : ℤ) (xs ys : List ℤ) → Gains i xs ys → (j : ℤ) → Among j ys ↔ ((j ≡ i) ⊎ Among j xs)
+pub gains_among : (i : ℤ) (xs ys : List ℤ) → Gains i xs ys → (j : ℤ) → Among j ys ↔ ((j ≡ i) ⊎ Among j xs)
 gains_among i xs ys g j =
     subst (λ zs. Among j ys ↔ ((j ≡ i) ⊎ Among j zs)) (sym g.gap.all) (subst (λ zs. Among j zs ↔ ((j ≡ i) ⊎ Among j (g.gap.low ++ g.gap.high))) (sym g.now) (among_more i j g.gap.low g.gap.high))
 
@@ -70,10 +70,10 @@ outcome_new : (t : Tree) (i : ℤ) (p : Pad) (s : Inserted) → Outcome t i p s 
 outcome_new t i p s (Found a e) b = absurd (b a)
 outcome_new t i p s (Added n) b = new_joins t i p s n
 
-searched : (t : Tree) (i : ℤ) (p : Pad) → IsAscending (keys t) → Outcome t i p (search t i p Top)
+pub searched : (t : Tree) (i : ℤ) (p : Pad) → IsAscending (keys t) → Outcome t i p (search t i p Top)
 searched t i p h = search_outcome t i p Top h tt tt
 
-insert_is : (t : Tree) (i : ℤ) (p : Pad) → IsRedBlack t → IsInsertion t i p (search t i p Top)
+pub insert_is : (t : Tree) (i : ℤ) (p : Pad) → IsRedBlack t → IsInsertion t i p (search t i p Top)
 insert_is t i p h =
     let o = searched t i p h.ordered in
     let b = search_balanced t i p Top h.blacks (inl h.root) h.no_red_pair h.height tt tt in
@@ -101,7 +101,7 @@ new_length t i Pad0 s n = omega (arith, ap (λ x. length (keys x.tree)) n.1)
 new_length t i (Pad4 a b c d) s n =
     omega (arith, ap length n.0.now, ap length n.0.gap.all, length-append n.0.gap.low (i ∷ n.0.gap.high), length-append n.0.gap.low n.0.gap.high)
 
-outcome_length : (t : Tree) (i : ℤ) (p : Pad) (s : Inserted) → Outcome t i p s → length (keys s.tree) ≤ suc (length (keys t))
+pub outcome_length : (t : Tree) (i : ℤ) (p : Pad) (s : Inserted) → Outcome t i p s → length (keys s.tree) ≤ suc (length (keys t))
 outcome_length t i p s (Found a e) = omega (arith, ap (λ x. length (keys x.tree)) e)
 outcome_length t i p s (Added n) = new_length t i p s n
 
@@ -117,7 +117,7 @@ build_inserts [] ps t h = refl
 build_inserts (i ∷ is) [] t h = refl
 build_inserts (i ∷ is) (p ∷ ps) t h = let s = insert_is t i p h in (search t i p Top, s, build_inserts is ps (search t i p Top).tree s.tree)
 
-build_red_black : (is : List ℤ) (ps : List Pad) (t : Tree) → IsRedBlack t → IsRedBlack (build is ps t)
+pub build_red_black : (is : List ℤ) (ps : List Pad) (t : Tree) → IsRedBlack t → IsRedBlack (build is ps t)
 build_red_black [] ps t h = h
 build_red_black (i ∷ is) [] t h = h
 build_red_black (i ∷ is) (p ∷ ps) t h = build_red_black is ps (search t i p Top).tree (insert_is t i p h).tree

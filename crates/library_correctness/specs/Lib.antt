@@ -2,4 +2,5 @@ pub mod Bounds
 pub mod Lists
 pub mod Trees
 pub mod RedBlack
+pub mod KeySets
 pub mod Sequences

@@ -1,6 +1,6 @@
 // The theorems on `rbtree`.
-ghost use Rattle.std.specs.Prelude.{ℕ, ℤ, true, false, List};
-ghost use Rattle.fip_language.specs.Every.{Among};
+ghost use Rattle.std.specs.Prelude.{ℕ, ◌≤◌, ℤ, true, false, List, length};
+ghost use Rattle.fip_language.specs.Every.{Every, Among};
 ghost use Rattle.fip_language.specs.Table.{HasType};
 ghost use Rattle.fip_language.specs.Values.{Value, Int};
 ghost use Rattle.instance_semantics.specs.Meaning.{flat_meaning};
@@ -8,7 +8,8 @@ ghost use Rattle.evaluation_steps.specs.Gives.{GivesValue, two, three};
 ghost use Rattle.library_correctness.specs.Bounds.{Suffice, SufficeSquared};
 ghost use Rattle.library_programs.specs.RedBlackProgram.{rbtree_program};
 ghost use Rattle.library_correctness.specs.Lists.{list_value, IsList};
-ghost use Rattle.library_correctness.specs.RedBlack.{Tree, Pad, keys, tree_value, pad_value, pads_value, truth_value};
+ghost use Rattle.library_correctness.specs.KeySets.{IsSpare, SufficeForKeys, GivesKeys};
+ghost use Rattle.library_correctness.specs.RedBlack.{Tree, Leaf, Pad, keys, tree_value, pad_value, pads_value, truth_value};
 ghost use Rattle.library_correctness.specs.RedBlack.{IsRedBlack, GivesInsertion, GivesBuild, IsTree, IsPad, ArePads};
 
 /// Each value of the type `rb` is that of a tree, and each of the type `pad` that of a pad. So the theorems below are
@@ -53,4 +54,13 @@ pub fn build_inserts_in_order()
     ensures value { (new : List ℤ) (pads : List Pad) (t : Tree) (calls frames : ℕ) → IsRedBlack t →
         SufficeSquared (three (list_value new) (pads_value pads) (tree_value t)) calls frames → GivesBuild new pads t
         (flat_meaning rbtree_program 5 (three (list_value new) (pads_value pads) (tree_value t)) calls frames).answer }
+{}
+
+/// `build` of fewer than 2^20 keys from no node, with a spare pad for each, gives a red-black search tree of just these
+/// keys, with 100 calls for each.
+#[tactic(auto, using(crate::proofs::KeySets::build_collects))]
+pub fn build_collects_the_keys()
+    ensures value { (new : List ℤ) (pads : List Pad) (calls frames : ℕ) → Every IsSpare pads →
+        length new ≤ length pads → SufficeForKeys new calls frames → GivesKeys new
+        (flat_meaning rbtree_program 5 (three (list_value new) (pads_value pads) (tree_value Leaf)) calls frames).answer }
 {}

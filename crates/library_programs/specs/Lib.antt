@@ -1,5 +1,9 @@
 pub mod Parts
 pub mod ListProgram
 pub mod TreeProgram
+pub mod RedBlackInsertion
+pub mod RedBlackGrowth
 pub mod RedBlackProgram
+pub mod FingerCons
+pub mod FingerPush
 pub mod FingerProgram

@@ -12,7 +12,7 @@ use Rattle.task_lines.specs.Called.{Called}
 use Rattle.task_lines.specs.Making.{AreValued, AreCredited, IsMadeOf}
 use Rattle.task_lines.specs.Reading.{IsLineOf}
 use Rattle.task_lines.specs.declared.task_line.TaskLine.{TaskLine}
-use Rattle.task_lines.proofs.CellsMade.{all_on, stay, made_both}
+use Rattle.session_values.proofs.CellsKept.{all_on, stay, made_both}
 
 pub joined : (tb : Table) (c : Called) (first mid now : Loading) (trees : Parts) (before words : List ℕ) → AreValued tb (types_of c.function.params) first mid c.values trees before → (k : AreCredited c.function.credits.items mid now before words) → IsMadeOf tb c first now trees k.places words
 joined tb c first mid now trees before words v k = record {

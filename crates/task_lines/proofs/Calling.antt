@@ -16,8 +16,10 @@ use Rattle.value_text.specs.declared.counts.Counts.{Counts}
 use Rattle.session_lines.specs.Named.{HasName}
 use Rattle.session_lines.specs.declared.scan.Scanner.{Scanner}
 use Rattle.session_lines.specs.Scanned.{left}
-use Rattle.task_lines.specs.Called.{Called, IsCall, IsReadable}
-use Rattle.task_lines.specs.Reading.{Adds, AreAt, Further, Given, IsAt, IsCalled}
+use Rattle.task_lines.specs.Called.{Called, IsCall}
+use Rattle.session_values.specs.Readable.{IsReadable}
+use Rattle.session_values.specs.Read.{Adds}
+use Rattle.task_lines.specs.Reading.{AreAt, Further, Given, IsAt, IsCalled}
 
 -- ---- from values to their written forms
 

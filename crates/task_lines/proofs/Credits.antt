@@ -5,8 +5,8 @@ use Rattle.std.proofs.lemmas.Bool.{eqb-true, eqb-false}
 use Rattle.fip_language.specs.Store.{count, one_at}
 use Rattle.value_text.specs.Loaded.{AreSizes, AreCredits}
 use Rattle.value_text.specs.declared.counts.Counts.{Counts}
-use Rattle.task_lines.specs.Reading.{Adds}
-use Rattle.task_lines.proofs.Arguments.{adds_none, adds_both}
+use Rattle.session_values.specs.Read.{Adds}
+use Rattle.session_values.proofs.OneValue.{adds_none, adds_both}
 
 abbrev Adding : Counts → Counts → ℕ → Type 0
 Adding old new s = ((0 < s → s ≤ 16 → slice_index_or old.numbers s 0 < 2 ^ 64 - 1 → slice_index_or new.numbers s 0 ≡ suc (slice_index_or old.numbers s 0))

@@ -1,5 +1,3 @@
-mod Symbols
-mod Bridge
 mod Arguments
 mod Credits
 mod Next

@@ -8,7 +8,8 @@ use Rattle.session_lines.specs.session_semantics.Turns.{most_tasks}
 use Rattle.value_text.specs.Loaded.{wanted}
 use Rattle.value_text.specs.declared.counts.Counts.{Counts}
 use Rattle.task_lines.specs.Called.{Called, IsCall, AreCalls, IsFirstBad, needed_by_all}
-use Rattle.task_lines.specs.Reading.{Adds, IsLineOf, AreLinesOf}
+use Rattle.session_values.specs.Read.{Adds}
+use Rattle.task_lines.specs.Reading.{IsLineOf, AreLinesOf}
 use Rattle.task_lines.specs.declared.task_line.TaskLine.{TaskLine}
 
 pub record IsListed (code : Code) (input : List ℕ) (at : ℕ) (ts : List TaskLine) (counts : Counts) : Type 0 where

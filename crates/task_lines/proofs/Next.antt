@@ -6,8 +6,10 @@ use Rattle.session_lines.specs.session_semantics.Lines.{Symbol, Comma, SignText,
 use Rattle.value_text.specs.Single.{BeginsWith, IsPlaced, IsValueAt}
 use Rattle.session_lines.specs.declared.scan.Scanner.{Scanner}
 use Rattle.session_lines.specs.Scanned.{left}
-use Rattle.task_lines.specs.Reading.{IsTextOf, Behind, IsAt, IsLine, IsNext, AreParams}
-use Rattle.task_lines.proofs.Arguments.{begins_with}
+use Rattle.session_values.specs.Read.{IsTextOf}
+use Rattle.task_lines.specs.Reading.{Behind, IsAt, IsNext}
+use Rattle.session_values.specs.Readable.{IsLine, AreParams}
+use Rattle.session_values.proofs.OneValue.{begins_with}
 
 pub placed : (tb : Table) (ty : ℕ) (bytes : List ℕ) (s : Scanner) → IsAt bytes s → IsLine bytes → AreParams tb (ty ∷ []) → IsPlaced tb ty bytes s.at
 placed tb ty bytes s at line params = record { sound = params.table; known = params.known.0; within = at.within; short = line.short }

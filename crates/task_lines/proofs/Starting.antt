@@ -21,12 +21,13 @@ use Rattle.value_text.specs.Loaded.{live_in, live, types_of, AreZero, cell_words
 use Rattle.value_text.specs.Standing as V
 use Rattle.fip_tasks.specs.task_semantics.Lying.{Lying, LiesIn, uses_by, uses_by_all, call_words}
 use Rattle.task_lines.specs.Called.{Called}
-use Rattle.task_lines.specs.Making.{AreMade, IsStartMade}
+use Rattle.session_values.specs.Made.{AreMade}
+use Rattle.task_lines.specs.Making.{IsStartMade}
 use Rattle.task_lines.specs.Reading.{IsLineOf, AreLinesOf}
 use Rattle.task_lines.specs.Started.{IsStarted, AreStarted, AreReady}
 use Rattle.task_lines.specs.declared.list.RunLimits.{RunLimits}
 use Rattle.task_lines.specs.declared.task_line.TaskLine.{TaskLine}
-use Rattle.task_lines.proofs.CellsMade.{all_on, zero_on, stay, made_none, made_both}
+use Rattle.session_values.proofs.CellsKept.{all_on, zero_on, stay, made_none, made_both}
 
 -- ---- a call that lies in a loader
 

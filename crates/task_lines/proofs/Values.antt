@@ -10,8 +10,10 @@ use Rattle.value_text.specs.Loaded.{types_of, wanted}
 use Rattle.value_text.specs.declared.counts.Counts.{Counts}
 use Rattle.session_lines.specs.declared.scan.Scanner.{Scanner}
 use Rattle.session_lines.specs.Scanned.{left}
-use Rattle.task_lines.specs.Reading.{Adds, AreAt, AreParams, Closes, Given, IsAt, IsNext}
-use Rattle.task_lines.proofs.Arguments.{adds_both}
+use Rattle.session_values.specs.Read.{Adds}
+use Rattle.task_lines.specs.Reading.{AreAt, Closes, Given, IsAt, IsNext}
+use Rattle.session_values.specs.Readable.{AreParams}
+use Rattle.session_values.proofs.OneValue.{adds_both}
 use Rattle.task_lines.proofs.Next.{left_is}
 
 types_at : (tb : Table) (ks : List ℕ) (i : ℕ) → i < length ks → AreTypes tb ks → get_or ks i 0 ≤ length tb

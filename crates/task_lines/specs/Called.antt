@@ -46,13 +46,3 @@ IsFirstBad code n (line ∷ lines) k =
 abbrev pub needed_by_all : List Called → ℕ → ℕ
 needed_by_all [] k = 0
 needed_by_all (c ∷ cs) k = wanted c.function.credits.items c.values k + needed_by_all cs k
-
--- What is asked of a code: a sound table, parameters of its types, credits that are sizes of cells, and that no two
--- functions have one name.
-pub record IsReadable (code : Code) : Type 0 where
-  pub table : IsSoundTable code.types
-  pub known : (n : ℕ) (f : Function) → slice_get code.functions.items n ≡ Some f →
-      AreTypes code.types (types_of f.params)
-  pub credits : (n : ℕ) (f : Function) → slice_get code.functions.items n ≡ Some f → AreCredits f.credits.items
-  pub names : (name : Name) (m n : ℕ) → HasName code.functions.items name m → HasName code.functions.items name n →
-      m ≡ n

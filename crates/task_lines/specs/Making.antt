@@ -11,13 +11,9 @@ use Rattle.value_text.specs.Standing.{StandAll}
 use Rattle.code_verify.specs.code_rules.Codes.{plain}
 use Rattle.fip_tasks.specs.declared.task.Start.{Start}
 use Rattle.session_lines.specs.Named.{HasFrames}
+use Rattle.session_values.specs.Made.{AreMade}
 use Rattle.task_lines.specs.Called.{Called}
 use Rattle.task_lines.specs.declared.list.RunLimits.{RunLimits}
-
--- Each cell that was made or taken is used so often; those that were live before stay as they were.
-pub record AreMade (first now : Loading) (uses : ℕ → ℕ) : Type 0 where
-  pub once : (p : ℕ) → live first p + uses p ≡ live now p
-  pub kept : (p : ℕ) → live first p ≡ 1 → cell_at now.cells p ≡ cell_at first.cells p
 
 -- Values with these trees were made, and have these words.
 pub record AreValued (tb : Table) (types : List ℕ) (first now : Loading) (vs : Values) (trees : Parts)

@@ -14,12 +14,10 @@ use Rattle.value_text.specs.declared.counts.Counts.{Counts}
 use Rattle.session_lines.specs.session_semantics.Lines.{Symbol, Open, Close, Comma, Written, WrittenText, SignText, skip, symbols}
 use Rattle.session_lines.specs.session_semantics.Typed.{IsValue}
 use Rattle.session_lines.specs.declared.scan.Scanner.{Scanner}
+use Rattle.session_values.specs.Read.{IsTextOf}
+use Rattle.session_values.specs.Readable.{IsLine}
 use Rattle.task_lines.specs.Called.{Called}
 use Rattle.task_lines.specs.declared.task_line.TaskLine.{TaskLine}
-
--- the symbols are the text of a value of a type, and then rest
-abbrev pub IsTextOf : Table → ℕ → List Symbol → Value → List Symbol → Type 0
-IsTextOf tb k cs v rest = (w : Written) × WrittenText cs w rest × IsValue tb k w v
 
 -- the bracket closes, and the line ends
 abbrev pub Closes : List Symbol → Type 0
@@ -56,11 +54,6 @@ AreAt tb bytes (k ∷ ks) (p ∷ ps) (More v vs) =
     (p ≤ length bytes) × BeginsWith tb k (drop p bytes) v × AreAt tb bytes ks ps vs
 AreAt tb bytes ks ps vs = ⊥
 
--- as many more of each size, where these are fewer than the greatest number
-abbrev pub Adds : Counts → Counts → (ℕ → ℕ) → Type 0
-Adds old new more = (k : ℕ) → k ≤ MOST_FIELDS → slice_index_or old.numbers k 0 + more k < 2 ^ 64 - 1 →
-    slice_index_or new.numbers k 0 ≡ slice_index_or old.numbers k 0 + more k
-
 -- the scanner is at a place of these bytes
 pub record IsAt (line : List ℕ) (s : Scanner) : Type 0 where
   pub bytes : s.bytes.now ≡ line
@@ -73,16 +66,6 @@ pub record IsNext (tb : Table) (i ty : ℕ) (bytes : List ℕ) (at p : ℕ) (v :
   pub first : i ≡ 0 → p ≡ at
   pub further : 0 < i → SignText Comma (symbols (drop at bytes)) (symbols (drop p bytes))
   pub value : IsValueAt tb ty bytes p v end
-
--- What is asked of the bytes of a line: that no LF is among them, and that memory can hold them.
-pub record IsLine (bytes : List ℕ) : Type 0 where
-  pub one : Every (λ b. b ≢ 10) bytes
-  pub short : length bytes ≤ 2 ^ 63
-
--- What is asked of parameters: that they have types of a sound table.
-pub record AreParams (tb : Table) (types : List ℕ) : Type 0 where
-  pub table : IsSoundTable tb
-  pub known : AreTypes tb types
 
 -- The line was read as this call.
 pub record IsLineOf (code : Code) (t : TaskLine) (c : Called) : Type 0 where

@@ -6,9 +6,11 @@ ghost use Rattle.fip_language.specs.Store.{Parts};
 ghost use Rattle.fip_language.specs.Values.{Values};
 ghost use Rattle.value_text.specs.Building.{IsMade};
 ghost use Rattle.value_text.specs.Loaded.{AreCredits, types_of};
-ghost use Rattle.task_lines.specs.Called.{Called, IsReadable};
+ghost use Rattle.task_lines.specs.Called.{Called};
+ghost use Rattle.session_values.specs.Readable.{IsReadable};
 ghost use Rattle.task_lines.specs.Making.{AreCredited, AreValued, IsMadeOf};
-ghost use Rattle.task_lines.specs.Reading.{AreAt, AreParams, IsLineOf};
+ghost use Rattle.task_lines.specs.Reading.{AreAt, IsLineOf};
+ghost use Rattle.session_values.specs.Readable.{AreParams};
 
 use crate::task_line::{TaskLine, function_at};
 use cell_code::Code;

@@ -8,8 +8,11 @@ ghost use Rattle.value_text.specs.Loaded.{AreCredits, types_of, wanted};
 ghost use Rattle.value_text.specs.Single.{BeginsWith, IsPlaced, IsValueAt};
 ghost use Rattle.session_lines.specs.Named.{AreEntries};
 ghost use Rattle.session_lines.specs.Scanned.{left};
-ghost use Rattle.task_lines.specs.Called.{Called, IsCall, IsReadable};
-ghost use Rattle.task_lines.specs.Reading.{Adds, AreAt, AreParams, Behind, Given, IsAt, IsCalled, IsLine, IsLineOf};
+ghost use Rattle.task_lines.specs.Called.{Called, IsCall};
+ghost use Rattle.session_values.specs.Readable.{IsReadable};
+ghost use Rattle.session_values.specs.Read.{Adds};
+ghost use Rattle.task_lines.specs.Reading.{AreAt, Behind, Given, IsAt, IsCalled, IsLineOf};
+ghost use Rattle.session_values.specs.Readable.{AreParams, IsLine};
 ghost use Rattle.task_lines.specs.Reading.{IsNext};
 
 use cell_code::{Code, Function};

@@ -3,7 +3,7 @@ use Rattle.std.specs.Prelude.{Ok, IfSome}
 use Rattle.std.proofs.lemmas.List.Elements.{All-push}
 use Rattle.task_lines.specs.declared.task_line.TaskLine.{TaskLine}
 use Rattle.task_lines.specs.Called.{AreCalls}
-use Rattle.task_lines.specs.Reading.{IsLine}
+use Rattle.session_values.specs.Readable.{IsLine}
 use Rattle.task_lines.proofs.Listing.{IsReadLine, listing_starts, listing_on, first_bad, one_too_many, all_listed, as_many_lines}
 use Rattle.task_lines.proofs.list.tasks_of.Goals as goal
 

@@ -1,6 +1,6 @@
 use Rattle.std.proofs.Common.{◌<◌, ◌≤◌, ◌-◌, ◌^◌, length, All}
 use Rattle.session_lines.specs.Named.{AreEntries}
-use Rattle.task_lines.specs.Called.{IsReadable}
+use Rattle.session_values.specs.Readable.{IsReadable}
 use Rattle.task_lines.proofs.Listing.{IsListed}
 use Rattle.task_lines.proofs.list.tasks_of.Given as goal
 

@@ -1,7 +1,8 @@
 use Rattle.std.proofs.Common.{◌≤◌, ◌^◌, length}
 use Rattle.fip_language.specs.Values.{Values}
 use Rattle.value_text.specs.Loaded.{types_of}
-use Rattle.task_lines.specs.Reading.{AreAt, AreParams}
+use Rattle.task_lines.specs.Reading.{AreAt}
+use Rattle.session_values.specs.Readable.{AreParams}
 use Rattle.task_lines.proofs.CellsMade.{IsMaking}
 use Rattle.task_lines.proofs.making.make_values.Given as goal
 

@@ -1,7 +1,7 @@
 use Rattle.std.proofs.Common.{take}
 use Rattle.fip_language.specs.Store.{count}
 use Rattle.value_text.specs.Loaded.{AreCredits}
-use Rattle.task_lines.specs.Reading.{Adds}
+use Rattle.session_values.specs.Read.{Adds}
 use Rattle.task_lines.proofs.task_line.add_credits.Given as goal
 
 -- the first credits are counted

@@ -9,7 +9,8 @@ use Rattle.session_lines.specs.session_semantics.Lines.{Open}
 use Rattle.value_text.specs.Loaded.{types_of, AreCredits}
 use Rattle.session_lines.specs.Scanned.{left}
 use Rattle.session_lines.proofs.Tokens.{sign_open}
-use Rattle.task_lines.specs.Reading.{Adds, AreParams}
+use Rattle.session_values.specs.Read.{Adds}
+use Rattle.session_values.specs.Readable.{AreParams}
 use Rattle.task_lines.proofs.Next.{moved}
 use Rattle.task_lines.proofs.Values.{IsReadAll, adds_wanted}
 use Rattle.task_lines.proofs.task_line.called.Goals as goal

@@ -4,7 +4,7 @@ use Rattle.std.specs.declared.alloc.Global.{Global}
 use Rattle.std.specs.declared.vec.Vec.{Vec}
 use Rattle.value_text.specs.Loaded.{types_of}
 use Rattle.session_lines.specs.Scanned.{left}
-use Rattle.task_lines.specs.Reading.{AreParams}
+use Rattle.session_values.specs.Readable.{AreParams}
 use Rattle.task_lines.proofs.Next.{moved}
 use Rattle.task_lines.proofs.Calling.{IsReadCall, starts, whole_left, is_call, no_entry, no_values, within, never_past}
 use Rattle.task_lines.proofs.task_line.task_of.Goals as goal

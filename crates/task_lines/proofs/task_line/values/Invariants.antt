@@ -1,5 +1,6 @@
 use Rattle.value_text.specs.Loaded.{types_of}
-use Rattle.task_lines.specs.Reading.{IsAt, IsLine, AreParams}
+use Rattle.task_lines.specs.Reading.{IsAt}
+use Rattle.session_values.specs.Readable.{IsLine, AreParams}
 use Rattle.task_lines.proofs.Arguments.{IsReadTo}
 use Rattle.task_lines.proofs.task_line.values.Given as goal
 

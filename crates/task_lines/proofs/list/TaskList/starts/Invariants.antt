@@ -1,6 +1,7 @@
 use Rattle.std.proofs.Common.{All, drop, List}
 use Rattle.fip_tasks.specs.Turns.{CanStart}
-use Rattle.task_lines.specs.Called.{Called, IsReadable}
+use Rattle.task_lines.specs.Called.{Called}
+use Rattle.session_values.specs.Readable.{IsReadable}
 use Rattle.task_lines.specs.Reading.{AreLinesOf}
 use Rattle.task_lines.proofs.Starting.{AreStarting}
 use Rattle.task_lines.proofs.list.TaskList.starts.Given as goal

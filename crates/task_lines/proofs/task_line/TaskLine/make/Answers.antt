@@ -3,7 +3,8 @@ use Rattle.fip_base.specs.declared.plain.Param.{Param}
 use Rattle.cell_code.specs.declared.code.Function.{Function}
 use Rattle.value_text.specs.Loaded.{types_of, AreCredits}
 use Rattle.task_lines.specs.Making.{AreValued, AreCredited, IsMadeOf}
-use Rattle.task_lines.specs.Reading.{AreAt, AreParams}
+use Rattle.task_lines.specs.Reading.{AreAt}
+use Rattle.session_values.specs.Readable.{AreParams}
 use Rattle.task_lines.proofs.CallMade.{joined, own_function}
 use Rattle.task_lines.proofs.task_line.TaskLine.make.Goals as goal
 

@@ -1,0 +1,32 @@
+-- What is asked, as the entry of its source; and the evaluation of its instance as what the source means.
+use Rattle.std.proofs.Common.{◌≡◌, ◌∙◌, ℕ, ap}
+use Rattle.fip_language.specs.Meaning.{Run, meaning}
+use Rattle.fip_language.specs.Statics.{NoClosed}
+use Rattle.command_run.specs.command_source.source_report.Report.{IsTyped}
+use Rattle.instance_semantics.specs.Meaning.{flat_meaning}
+use Rattle.command_run.proofs.command_source.specialisation_correctness.Meant.{root_meant}
+use Rattle.command_run.specs.command_eval.EvalAnswer.{Entry}
+use Rattle.command_run.proofs.command_eval.Meant.{typed_of}
+use Rattle.command_run.proofs.Entry.{root_at}
+use Rattle.command_correctness.specs.Asked.{Asked, answer_of}
+
+module _ (a : Asked) where
+  abbrev pub types : IsTyped a.source a.program
+  types = typed_of a.source a.program (a.rooted).accepted
+
+  abbrev pub entry : Entry a.source a.name
+  entry = record {
+    core = types.flat.core;
+    parsed = types.flat.declared.parsed;
+    program = a.program;
+    accepted = (a.rooted).accepted;
+    root = (a.rooted).root;
+    named = (a.rooted).named;
+  }
+
+  pub means : (calls frames : ℕ) → answer_of a calls frames ≡ (meaning types.flat.core a.name NoClosed a.arguments calls frames).answer
+  means calls frames =
+      let root = root_at a.name a.program.instances (a.rooted).root (a.rooted).named in
+      ap (λ (r : Run). r.answer)
+      (root_meant a.source a.program types types.flat.core types.flat.declared.parsed a.number (a.rooted).root a.arguments calls frames (a.rooted).there root.root
+      ∙ ap (λ n. meaning types.flat.core n NoClosed a.arguments calls frames) root.named)

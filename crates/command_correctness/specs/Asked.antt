@@ -1,0 +1,55 @@
+-- What `eval` and `exec` are asked, by what is known of the source: its typed program, the instance of the entry, and
+-- the arguments that the input spells. And what is told of it: of `reverse` on `Cons(1, Cons(2, Nil))` the one line
+-- `Cons(2, Cons(1, Nil))`.
+use Rattle.std.specs.Prelude.{◌≡◌, ◌≤◌, ℕ, List, Result, Ok, Err}
+use Rattle.fip_language.specs.declared.TrapKind.{TrapKind}
+use Rattle.fip_language.specs.Meaning.{Answer, Trap}
+use Rattle.fip_language.specs.PrintedText.{printed_lines}
+use Rattle.fip_language.specs.Values.{Values}
+use Rattle.fip_language.specs.ValueText.{SpellsValues}
+use Rattle.fip_trees.specs.Tree.{Program}
+use Rattle.instance_semantics.specs.Meaning.{flat_meaning}
+use Rattle.evaluation_steps.specs.Gives.{GivesLeaving}
+use Rattle.command_outcome.specs.declared.failure.Failure.{Failure}
+use Rattle.command_outcome.specs.declared.failure.Failure.TheVariants as F
+use Rattle.command_words.specs.Words.{Room}
+use Rattle.command_run.specs.command_eval.type_safety.Soundness.{parameter_types}
+use Rattle.command_run.specs.command_source.Entries.{IsRootedIn}
+use Rattle.command_run.specs.CodeRun.{words_for}
+
+-- The source breaks no rule, the program is its typed program, the instance is its root of this name, and the input is
+-- the text of the arguments.
+pub record Asked : Type 0 where
+  pub source : List ℕ
+  pub name : List ℕ
+  pub input : List ℕ
+  pub program : Program
+  pub number : ℕ
+  pub arguments : Values
+  pub rooted : IsRootedIn source name program number
+  pub spelt : SpellsValues program.types (parameter_types rooted.root) input arguments
+
+-- the answer of the evaluation of the instance
+abbrev pub answer_of : Asked → ℕ → ℕ → Answer
+answer_of a calls frames = (flat_meaning a.program a.number a.arguments calls frames).answer
+
+-- With these calls and at least so many frames the evaluation gives these values.
+abbrev pub GivesWith : Asked → ℕ → ℕ → Values → Type 0
+GivesWith a calls least vs = (frames : ℕ) → least ≤ frames → GivesLeaving 0 vs (answer_of a calls frames)
+
+-- With these calls and at least so many frames the evaluation is a trap at this place.
+abbrev pub TrapsWith : Asked → ℕ → ℕ → TrapKind → ℕ → ℕ → Type 0
+TrapsWith a calls least kind line col = (frames : ℕ) → least ≤ frames → answer_of a calls frames ≡ Trap kind line col
+
+-- The values are printed, a line for each.
+abbrev pub Prints : Asked → Values → Result (List ℕ) Failure → Type 0
+Prints a vs e = e ≡ Ok (printed_lines a.program.types (a.rooted).root.results vs)
+
+-- The trap is told.
+abbrev pub TellsTrap : TrapKind → ℕ → ℕ → Result (List ℕ) Failure → Type 0
+TellsTrap kind line col e = e ≡ Err (F.Trap kind line col)
+
+-- The room has the words of the arguments' cells and of the header's credits, and so many frames.
+pub record Suffices (a : Asked) (least : ℕ) (room : Room) : Type 0 where
+  pub words : words_for a.arguments (a.rooted).root.credits ≤ room.words
+  pub frames : least ≤ room.frames

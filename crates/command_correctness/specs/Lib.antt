@@ -1,0 +1,2 @@
+pub mod Asked
+pub use Rattle.command_run.specs.command_source as command_source

@@ -51,11 +51,11 @@ impl Buffer {
         }
     }
 
-    /// The number of the next instruction; an error where it is past the greatest.
-    pub fn here(&self) -> Result<u32, NoMemory>
-        ensures here { IfOk result (λ p. p ≡ size self.now) }
+    /// The number of the next instruction.
+    pub fn here(&self) -> u32
+        ensures here { result ≡ size self.now }
     {
-        u32::try_from(self.instrs.len()).map_err(|_| NoMemory)
+        self.instrs.len() as u32
     }
 
     /// Writes an instruction; a jump or a test names a label. An error where no file spells it, or one more.
@@ -104,7 +104,7 @@ impl Buffer {
         if !is_free(self.places.as_slice(), label) {
             return Err(NoMemory);
         }
-        let here = self.here()?;
+        let here = self.here();
         tell(&mut self.labels, here, kinds)?;
         place(&mut self.places, label, here);
         Ok(())

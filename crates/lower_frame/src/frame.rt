@@ -1,5 +1,5 @@
 // What is known of the registers of a function at a place of its code.
-ghost use Rattle.std.specs.Prelude.{◌≡◌, ◌<◌, ℕ, suc, max, true, [], ◌∷◌, Some, None, IfOk, IfSome, IfNone, OnOk};
+ghost use Rattle.std.specs.Prelude.{◌≡◌, ◌<◌, ◌^◌, ℕ, suc, max, true, [], ◌∷◌, Some, None, IfOk, IfSome, IfNone, OnOk};
 ghost use Rattle.std.specs.Prelude.{get_or, length, map, slice_get};
 ghost use Rattle.lowering_relation.specs.Choosing.{Meets, FewerCredits};
 ghost use Rattle.lowering_relation.specs.LoweredBodies as B;
@@ -593,7 +593,7 @@ fn all_of(alloc: Global, types: &TypeTable, ty: u32) -> Result<Constructors, NoM
     ensures all { IfOk result (λ s. s ≡ Y.all types.now ty) }
 {
     let mut numbers = Vec::new(alloc);
-    let count = u32::try_from(constructors_of(types, ty).len()).map_err(|_| NoMemory)?;
+    let count = constructors_of(types, ty).len() as u32;
     for number in 0..count {
         numbers.push(number)?;
     }
@@ -604,6 +604,7 @@ fn all_of(alloc: Global, types: &TypeTable, ty: u32) -> Result<Constructors, NoM
 #[tactic(auto, using(crate::proofs::Counting::numbering))]
 pub fn constructors_of(types: &TypeTable, ty: u32) -> &[Constructor]
     ensures same { result.now ≡ constructors types.now ty }
+    ensures few { length result.now < 2 ^ 32 }
 {
     if ty as usize > types.len() {
         return &[];

@@ -1,5 +1,5 @@
 // The positions of a match and their registers.
-ghost use Rattle.std.specs.Prelude.{◌≡◌, IfOk, OnOk, Some, slice_get};
+ghost use Rattle.std.specs.Prelude.{◌≡◌, ◌≤◌, ◌<◌, suc, IfOk, OnOk, Some, length, slice_get};
 ghost use Rattle.fip_trees.specs.TreeView as V;
 ghost use Rattle.lowering_relation.specs.Spots as S;
 ghost use Rattle.lowering_relation.specs.Growing.{AllGrow, Grows};
@@ -92,6 +92,7 @@ fn add_parts(
     Ok(())
 }
 
+// The positions of the parts of a pattern, at the first fields.
 #[cycle(spots)]
 fn add_all(
     alloc: Global,
@@ -99,6 +100,7 @@ fn add_all(
     fields: &mut Vec<Spot>,
     frame: &mut Frame,
 ) -> Result<(), NoMemory>
+    requires there { length patterns.now ≤ length fields.old.items }
     ensures grow { OnOk result (AllGrow (spots_of fields.old.items) (spots_of fields.new.items) frame.old.next
         frame.new.next) }
     ensures roomy { OnOk result (AllRoomy (V.patterns patterns.now) (spots_of fields.new.items)) }
@@ -122,6 +124,8 @@ fn add_part(
     place: usize,
     frame: &mut Frame,
 ) -> Result<(), NoMemory>
+    requires there { place < length fields.old.items }
+    ensures as_many { OnOk result (length fields.new.items ≡ length fields.old.items) }
     ensures grow { OnOk result (AllGrow (spots_of fields.old.items) (spots_of fields.new.items) frame.old.next
         frame.new.next) }
     ensures roomy { OnOk result (RoomyAt (V.pattern part.now) place (spots_of fields.new.items)) }
@@ -129,7 +133,7 @@ fn add_part(
     ensures room { OnOk result (HasRoom frame.old frame.new) }
 {
     match fields.get_mut(place) {
-        None => Err(NoMemory),
+        None => unreachable!(),
         Some(field) => {
             add_spots(alloc, part, field, frame)?;
             Ok(())
@@ -145,12 +149,13 @@ fn add_fields(
     fields: &mut Vec<Spot>,
     frame: &mut Frame,
 ) -> Result<(), NoMemory>
+    ensures many { OnOk result (number ≤ length fields.new.items) }
     ensures grow { OnOk result (AllGrow (spots_of fields.old.items) (spots_of fields.new.items) frame.old.next
         frame.new.next) }
     ensures frame { OnOk result (frame.new ≡ reaching frame.old frame.new.next) }
     ensures room { OnOk result (HasRoom frame.old frame.new) }
 {
-    for _ in fields.len()..number {
+    while fields.len() < number {
         add_field(alloc, fields, frame)?;
     }
     Ok(())
@@ -158,6 +163,7 @@ fn add_fields(
 
 #[tactic(auto, using(crate::proofs::Growing::growing))]
 fn add_field(alloc: Global, fields: &mut Vec<Spot>, frame: &mut Frame) -> Result<(), NoMemory>
+    ensures one { OnOk result (length fields.new.items ≡ suc (length fields.old.items)) }
     ensures grow { OnOk result (AllGrow (spots_of fields.old.items) (spots_of fields.new.items) frame.old.next
         frame.new.next) }
     ensures frame { OnOk result (frame.new ≡ reaching frame.old frame.new.next) }

@@ -98,11 +98,12 @@ impl<'l> TaskLine<'l> {
         code: &Code,
         loader: Loader,
     ) -> Result<(Loader, Words), NoMemory>
+        requires there { self.now.entry < length code.now.functions.items }
         ensures made { IsReadable code.now → (c : Called) → IsLineOf code.now self.now c → IfOk result (λ r.
             (trees : Parts) × (spares : List ℕ) × IsMadeOf code.now.types c loader r.0 trees spares r.1) }
     {
         let Some(function) = function_at(code, self.entry) else {
-            return Err(NoMemory);
+            unreachable!()
         };
         let params = function.params.as_slice();
         let places = self.values.as_slice();

@@ -1,4 +1,4 @@
-use Rattle.std.proofs.Common.{rules, sym, subst, ◌+◌, arith}
+use Rattle.std.proofs.Common.{rules, sym, subst, ◌∙◌, ◌+◌, arith}
 use Rattle.fip_trees.specs.TreeView.{pattern, patterns}
 use Rattle.lowering_relation.specs.Opening.{Roomy, AllRoomy}
 use Rattle.lower_frame.specs.declared.spots.Spot.{out-Spot, roll-Spot}
@@ -10,17 +10,18 @@ use Rattle.lower_frame.proofs.spots.+spots.Goals as goal
 pub add_all-loop-part-preserved : goal.add_all-loop-part-preserved
 add_all-loop-part-preserved t c = record {
   place = search rules;
+  there = c.in_ok-add_part.ensures.as_many ∙ c.loop-part.invariant.there;
   grow = grown_on c.args.fields.now.items c.loop-part.fields.items c.add_part.new.fields.items c.args.frame.now.next c.loop-part.frame.next c.add_part.new.frame.next c.loop-part.invariant.grow c.in_ok-add_part.ensures.grow;
   roomy = roomy_on c.args.patterns.now c.loop-part.part-index (c.loop-part.part-index + 1) c.part-item.result c.loop-part.fields.items c.add_part.new.fields.items c.loop-part.frame.next c.add_part.new.frame.next (omega arith) (item c.args.patterns.now c.loop-part.part-index c.part-item.result c.loop-part-test.true c.part-item.is) c.in_ok-add_part.ensures.grow c.loop-part.invariant.roomy (subst (λ z. RoomyAt (pattern c.part-item.result) z (spots_of c.add_part.new.fields.items)) c.loop-part.invariant.place c.in_ok-add_part.ensures.roomy);
   frame = reached_on c.args.frame.now c.loop-part.frame c.add_part.new.frame c.loop-part.invariant.frame c.in_ok-add_part.ensures.frame;
   room = room_on c.args.frame.now c.loop-part.frame c.add_part.new.frame c.loop-part.invariant.frame c.loop-part.invariant.room c.in_ok-add_part.ensures.room;
 }
 
-pub add_part-returns-in_ok-add_spots-in-Some-clause-grow : goal.add_part-returns-in_ok-add_spots-in-Some-clause-grow
-add_part-returns-in_ok-add_spots-in-Some-clause-grow t c = grown_at c.args.fields.now.items c.args.place c.in-Some.field.now c.add_spots.new.spot c.args.frame.now.next c.add_spots.new.frame.next (item c.args.fields.now.items c.args.place c.in-Some.field.now c.in-Some.ensures.item.3.0 c.in-Some.ensures.value) c.in_ok-add_spots-in-Some.ensures.grows
+pub add_part-returns-clause-grow : goal.add_part-returns-clause-grow
+add_part-returns-clause-grow t c = grown_at c.args.fields.now.items c.args.place c.in-Some.field.now c.add_spots.new.spot c.args.frame.now.next c.add_spots.new.frame.next (item c.args.fields.now.items c.args.place c.in-Some.field.now c.in-Some.ensures.item.3.0 c.in-Some.ensures.value) c.in_ok-add_spots-in-Some.ensures.grows
 
-pub add_part-returns-in_ok-add_spots-in-Some-clause-roomy : goal.add_part-returns-in_ok-add_spots-in-Some-clause-roomy
-add_part-returns-in_ok-add_spots-in-Some-clause-roomy t c = roomy_set c.args.fields.now.items c.args.place c.in-Some.field.now c.add_spots.new.spot (pattern c.args.part.now) (item c.args.fields.now.items c.args.place c.in-Some.field.now c.in-Some.ensures.item.3.0 c.in-Some.ensures.value) c.in_ok-add_spots-in-Some.ensures.roomy
+pub add_part-returns-clause-roomy : goal.add_part-returns-clause-roomy
+add_part-returns-clause-roomy t c = roomy_set c.args.fields.now.items c.args.place c.in-Some.field.now c.add_spots.new.spot (pattern c.args.part.now) (item c.args.fields.now.items c.args.place c.in-Some.field.now c.in-Some.ensures.item.3.0 c.in-Some.ensures.value) c.in_ok-add_spots-in-Some.ensures.roomy
 
 pub add_spots-returns-in_ok-add_parts-in-Constructor-clause-grows : goal.add_spots-returns-in_ok-add_parts-in-Constructor-clause-grows
 add_spots-returns-in_ok-add_parts-in-Constructor-clause-grows t c = spot_grown c.args.spot.now c.add_parts.new.fields c.args.frame.now.next c.add_parts.new.frame.next c.in_ok-add_parts-in-Constructor.ensures.grow

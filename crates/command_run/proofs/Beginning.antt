@@ -11,23 +11,23 @@ use Rattle.fip_machine.specs.cell_code.declared.code.Function.{Function}
 use Rattle.cell_store.specs.Made.{Loading}
 use Rattle.command_words.specs.Words.{Room}
 use Rattle.command_outcome.specs.declared.failure.Failure.{Failure}
-use Rattle.machine_correctness.specs.machine_semantics.Cells.{Store}
-use Rattle.machine_correctness.specs.machine_semantics.Codes as R
-use Rattle.machine_correctness.specs.machine_semantics.Runs.{loaded, loaded_in, lent_words}
-use Rattle.machine_correctness.specs.machine_semantics.States.{State}
-use Rattle.machine_correctness.specs.machine_semantics.Steps.{first_frame}
-use Rattle.machine_correctness.proofs.separation.Sound.{formed}
+use Rattle.command_eval.specs.machine_correctness.machine_semantics.Cells.{Store}
+use Rattle.command_eval.specs.machine_correctness.machine_semantics.Codes as R
+use Rattle.command_eval.specs.machine_correctness.machine_semantics.Runs.{loaded, loaded_in, lent_words}
+use Rattle.command_eval.specs.machine_correctness.machine_semantics.States.{State}
+use Rattle.command_eval.specs.machine_correctness.machine_semantics.Steps.{first_frame}
+use Rattle.command_eval.proofs.machine_correctness.separation.Sound.{formed}
 use Rattle.fip_machine.specs.code_verify.Checked.{Checked}
 use Rattle.fip_machine.specs.Machines.{Seen}
 use Rattle.fip_machine.specs.Tasks.{state_with, IsFresh}
 use Rattle.fip_machine.specs.machine_cells.Small.{IsSmall, store_of}
-use Rattle.machine_correctness.specs.code_rules.Breaks.{IsSound}
-use Rattle.machine_correctness.specs.code_rules.Codes.{PlainFunction, plain, plain_function, function_at}
-use Rattle.machine_correctness.specs.code_rules.StackNumbers.{HasStack}
+use Rattle.command_eval.specs.machine_correctness.code_rules.Breaks.{IsSound}
+use Rattle.command_eval.specs.machine_correctness.code_rules.Codes.{PlainFunction, plain, plain_function, function_at}
+use Rattle.command_eval.specs.machine_correctness.code_rules.StackNumbers.{HasStack}
 use Rattle.value_text.specs.Loaded.{types_of}
-use Rattle.machine_correctness.specs.run_loading.Loading.{first_store, first_words}
-use Rattle.machine_correctness.proofs.Starting.{read}
-use Rattle.machine_correctness.proofs.Texts.{text_begins}
+use Rattle.command_eval.specs.machine_correctness.run_loading.Loading.{first_store, first_words}
+use Rattle.command_eval.proofs.machine_correctness.Starting.{read}
+use Rattle.command_eval.proofs.machine_correctness.Texts.{text_begins}
 use Rattle.command_eval.specs.command_source.Entries.{Chosen}
 use Rattle.command_run.specs.Starting.{IsInNewStore, HasFrames, KeepsFromLoading, IsStarted, KeepsFromStart}
 use Rattle.command_run.proofs.Bounded.{few_frames}

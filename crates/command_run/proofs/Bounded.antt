@@ -4,13 +4,13 @@
 use Rattle.std.proofs.Common.{◌≡◌, ◌∙◌, ◌<◌, ◌≤◌, ◌+◌, ℕ, zero, suc, Bool, true, false, length, Some, ◌==◌, refl, sym, ap, inl, inr, arith}
 use Rattle.std.specs.Prelude.{nat_lt}
 use Rattle.fip_base.specs.declared.plain.Stack.{Stack}
-use Rattle.machine_correctness.specs.call_groups.Stacks.{charge, Solves, base_frames, own_frames}
-use Rattle.machine_correctness.proofs.separation_kinds.Basics.{below, below_is, less_or_not, equal, or_not, unequal}
-use Rattle.machine_correctness.specs.code_rules.declared.rule.SoundRule.TheVariants.{S0}
-use Rattle.machine_correctness.specs.code_rules.Breaks.{IsSound}
-use Rattle.machine_correctness.specs.code_rules.Codes.{PlainCode, PlainFunction, function_at}
-use Rattle.machine_correctness.specs.code_rules.StackNumbers.{FipCalls, IsStack}
-use Rattle.machine_correctness.specs.code_rules.Tables.{AreSoundTables}
+use Rattle.command_eval.specs.machine_correctness.call_groups.Stacks.{charge, Solves, base_frames, own_frames}
+use Rattle.command_eval.proofs.machine_correctness.separation_kinds.Basics.{below, below_is, less_or_not, equal, or_not, unequal}
+use Rattle.command_eval.specs.machine_correctness.code_rules.declared.rule.SoundRule.TheVariants.{S0}
+use Rattle.command_eval.specs.machine_correctness.code_rules.Breaks.{IsSound}
+use Rattle.command_eval.specs.machine_correctness.code_rules.Codes.{PlainCode, PlainFunction, function_at}
+use Rattle.command_eval.specs.machine_correctness.code_rules.StackNumbers.{FipCalls, IsStack}
+use Rattle.command_eval.specs.machine_correctness.code_rules.Tables.{AreSoundTables}
 
 -- ---- what is so of sound tables, where it can be tested
 

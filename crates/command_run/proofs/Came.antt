@@ -6,31 +6,31 @@ use Rattle.fip_language.specs.Meaning.{Answer, Gives, Trap, Out, Deep, Stuck}
 use Rattle.fip_language.specs.Table.{Table}
 use Rattle.fip_language.specs.Values.{Values}
 use Rattle.fip_base.specs.declared.plain.Stack.{Stack}
-use Rattle.machine_correctness.specs.machine_semantics.Codes as R
-use Rattle.machine_correctness.specs.machine_semantics.Gauges.{seen}
-use Rattle.machine_correctness.specs.machine_semantics.Runs as C
-use Rattle.machine_correctness.specs.machine_semantics.Runs.{End, Run, Going, Over, Ends, begun, after}
-use Rattle.machine_correctness.specs.machine_semantics.States.{State}
-use Rattle.machine_correctness.specs.machine_semantics.Steps.{Kinds}
-use Rattle.machine_correctness.proofs.separation_bounds.Ending.{ends_once}
-use Rattle.machine_correctness.proofs.separation_bounds.FipRuns.{never_deep}
-use Rattle.machine_correctness.specs.separation.Codes.{run_code, AreKinds}
+use Rattle.command_eval.specs.machine_correctness.machine_semantics.Codes as R
+use Rattle.command_eval.specs.machine_correctness.machine_semantics.Gauges.{seen}
+use Rattle.command_eval.specs.machine_correctness.machine_semantics.Runs as C
+use Rattle.command_eval.specs.machine_correctness.machine_semantics.Runs.{End, Run, Going, Over, Ends, begun, after}
+use Rattle.command_eval.specs.machine_correctness.machine_semantics.States.{State}
+use Rattle.command_eval.specs.machine_correctness.machine_semantics.Steps.{Kinds}
+use Rattle.command_eval.proofs.machine_correctness.separation_bounds.Ending.{ends_once}
+use Rattle.command_eval.proofs.machine_correctness.separation_bounds.FipRuns.{never_deep}
+use Rattle.command_eval.specs.machine_correctness.separation.Codes.{run_code, AreKinds}
 use Rattle.fip_machine.specs.code_verify.Checked.{Checked}
 use Rattle.fip_machine.specs.declared.gauge.Gauge.{Gauge}
 use Rattle.fip_machine.specs.declared.machine.Ended.{Ended}
 use Rattle.fip_machine.specs.Ending.{RunsTo}
 use Rattle.fip_machine.specs.GaugeView.{Tells, TellsRun}
-use Rattle.machine_correctness.specs.code_rules.Codes.{PlainCode, PlainFunction, plain, results}
-use Rattle.machine_correctness.specs.code_rules.StackNumbers.{HasStack}
-use Rattle.machine_correctness.specs.tree_refinement.Agreement.{AreWordsOf}
-use Rattle.machine_correctness.specs.tree_refinement.Runs.{IsSameEnd}
-use Rattle.machine_correctness.proofs.tree_refinement.Running.{trees_end}
+use Rattle.command_eval.specs.machine_correctness.code_rules.Codes.{PlainCode, PlainFunction, plain, results}
+use Rattle.command_eval.specs.machine_correctness.code_rules.StackNumbers.{HasStack}
+use Rattle.command_eval.specs.machine_correctness.tree_refinement.Agreement.{AreWordsOf}
+use Rattle.command_eval.specs.machine_correctness.tree_refinement.Runs.{IsSameEnd}
+use Rattle.command_eval.proofs.machine_correctness.tree_refinement.Running.{trees_end}
 use Rattle.session_semantics.specs.Talk.{frames_of}
-use Rattle.machine_correctness.specs.Ended.{EndsJustAs, TellsJustOver}
-use Rattle.machine_correctness.proofs.VerifiedEnds.{runs_just, tells_just_run}
-use Rattle.machine_correctness.specs.Starts.{IsSoundCode, Begins}
-use Rattle.machine_correctness.proofs.EvaluatedEnds.{ended}
-use Rattle.machine_correctness.proofs.Starting.{read, starts, free_is}
+use Rattle.command_eval.specs.machine_correctness.Ended.{EndsJustAs, TellsJustOver}
+use Rattle.command_eval.proofs.machine_correctness.VerifiedEnds.{runs_just, tells_just_run}
+use Rattle.command_eval.specs.machine_correctness.Starts.{IsSoundCode, Begins}
+use Rattle.command_eval.proofs.machine_correctness.EvaluatedEnds.{ended}
+use Rattle.command_eval.proofs.machine_correctness.Starting.{read, starts, free_is}
 use Rattle.command_run.specs.CodeRun as D
 use Rattle.command_run.specs.CodeRun.{all_seen}
 

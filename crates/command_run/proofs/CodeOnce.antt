@@ -16,24 +16,24 @@ use Rattle.fip_language.specs.ValueText.{SpellsValues}
 use Rattle.command_words.specs.Words.{Room}
 use Rattle.command_outcome.specs.declared.failure.Failure.{Failure}
 use Rattle.command_outcome.specs.declared.failure.Failure.TheVariants as F
-use Rattle.machine_correctness.specs.code_file.Plain.{PlainCode}
-use Rattle.machine_correctness.proofs.code_file.Whole.{one_code}
-use Rattle.machine_correctness.specs.machine_semantics.Cells.{Store}
-use Rattle.machine_correctness.specs.machine_semantics.Gauges.{seen}
-use Rattle.machine_correctness.specs.machine_semantics.Runs as R
-use Rattle.machine_correctness.specs.machine_semantics.States.{State}
-use Rattle.machine_correctness.specs.code_rules.Codes as S
-use Rattle.machine_correctness.specs.code_rules.StackNumbers.{HasStack}
-use Rattle.machine_correctness.specs.code_rules.Tables.{AreSoundTables}
-use Rattle.machine_correctness.proofs.code_rules.Numbers.{has_once}
-use Rattle.machine_correctness.specs.separation.Codes.{run_code}
-use Rattle.machine_correctness.proofs.separation.Sound.{formed, has_form}
-use Rattle.machine_correctness.specs.tree_refinement.Agreement.{AreWordsOf}
-use Rattle.machine_correctness.proofs.tree_refinement.Values.{same_parts}
-use Rattle.machine_correctness.specs.tree_refinement.Alike.{IsAlike}
-use Rattle.machine_correctness.proofs.tree_refinement.Alike.{highest_alike, lowest_alike}
-use Rattle.machine_correctness.proofs.tree_refinement.Ends.{ends_alike}
-use Rattle.machine_correctness.proofs.tree_refinement.Stacks.{frames_alike, words_alike}
+use Rattle.command_eval.specs.machine_correctness.code_file.Plain.{PlainCode}
+use Rattle.command_eval.proofs.machine_correctness.code_file.Whole.{one_code}
+use Rattle.command_eval.specs.machine_correctness.machine_semantics.Cells.{Store}
+use Rattle.command_eval.specs.machine_correctness.machine_semantics.Gauges.{seen}
+use Rattle.command_eval.specs.machine_correctness.machine_semantics.Runs as R
+use Rattle.command_eval.specs.machine_correctness.machine_semantics.States.{State}
+use Rattle.command_eval.specs.machine_correctness.code_rules.Codes as S
+use Rattle.command_eval.specs.machine_correctness.code_rules.StackNumbers.{HasStack}
+use Rattle.command_eval.specs.machine_correctness.code_rules.Tables.{AreSoundTables}
+use Rattle.command_eval.proofs.machine_correctness.code_rules.Numbers.{has_once}
+use Rattle.command_eval.specs.machine_correctness.separation.Codes.{run_code}
+use Rattle.command_eval.proofs.machine_correctness.separation.Sound.{formed, has_form}
+use Rattle.command_eval.specs.machine_correctness.tree_refinement.Agreement.{AreWordsOf}
+use Rattle.command_eval.proofs.machine_correctness.tree_refinement.Values.{same_parts}
+use Rattle.command_eval.specs.machine_correctness.tree_refinement.Alike.{IsAlike}
+use Rattle.command_eval.proofs.machine_correctness.tree_refinement.Alike.{highest_alike, lowest_alike}
+use Rattle.command_eval.proofs.machine_correctness.tree_refinement.Ends.{ends_alike}
+use Rattle.command_eval.proofs.machine_correctness.tree_refinement.Stacks.{frames_alike, words_alike}
 use Rattle.session_semantics.specs.Talk.{frames_of}
 use Rattle.value_text.specs.Loaded.{types_of}
 use Rattle.value_text.proofs.Exact.{accepts_text}

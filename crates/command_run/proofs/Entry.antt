@@ -7,20 +7,20 @@ use Rattle.std.proofs.lemmas.Slice.Eq.{bytes_eq-Decides}
 use Rattle.fip_language.specs.declared.FunKind.{FunKind}
 use Rattle.fip_language.specs.declared.FunKind.TheVariants.{Fip, Fbip, Fun}
 use Rattle.fip_language.specs.SoundTable.{IsSoundTable}
-use Rattle.machine_correctness.specs.fip_trees.declared.groups.Member.{Member}
-use Rattle.machine_correctness.specs.fip_trees.Tree.{Instance, Program}
-use Rattle.machine_correctness.specs.tail_groups.Members.{AreMembers}
+use Rattle.command_eval.specs.machine_correctness.fip_trees.declared.groups.Member.{Member}
+use Rattle.command_eval.specs.machine_correctness.fip_trees.Tree.{Instance, Program}
+use Rattle.command_eval.specs.machine_correctness.tail_groups.Members.{AreMembers}
 use Rattle.fip_machine.specs.cell_code.declared.code.Code.{Code}
 use Rattle.fip_machine.specs.cell_code.declared.code.Function.{Function}
-use Rattle.machine_correctness.specs.cell_lower.Limits.{is_ruled, registers}
-use Rattle.machine_correctness.specs.cell_lower.Shape.{Header, header, header_of, and_if, headers_from, headers}
-use Rattle.machine_correctness.specs.separation.Codes.{HasLiterals}
-use Rattle.machine_correctness.specs.lowering_relation.LoweredFunctions.{AreLowered}
-use Rattle.machine_correctness.specs.code_rules.Breaks.{IsSound}
-use Rattle.machine_correctness.specs.code_rules.Codes as S
-use Rattle.machine_correctness.specs.code_rules.Codes.{PlainFunction, plain, function_at}
-use Rattle.machine_correctness.specs.source_report.Report.{IsTyped}
-use Rattle.machine_correctness.proofs.source_report.Once.{accepted_once}
+use Rattle.command_eval.specs.machine_correctness.cell_lower.Limits.{is_ruled, registers}
+use Rattle.command_eval.specs.machine_correctness.cell_lower.Shape.{Header, header, header_of, and_if, headers_from, headers}
+use Rattle.command_eval.specs.machine_correctness.separation.Codes.{HasLiterals}
+use Rattle.command_eval.specs.machine_correctness.lowering_relation.LoweredFunctions.{AreLowered}
+use Rattle.command_eval.specs.machine_correctness.code_rules.Breaks.{IsSound}
+use Rattle.command_eval.specs.machine_correctness.code_rules.Codes as S
+use Rattle.command_eval.specs.machine_correctness.code_rules.Codes.{PlainFunction, plain, function_at}
+use Rattle.command_eval.specs.machine_correctness.source_report.Report.{IsTyped}
+use Rattle.command_eval.proofs.machine_correctness.source_report.Once.{accepted_once}
 use Rattle.command_eval.specs.command_source.Entries.{Chosen}
 use Rattle.command_eval.specs.command_source.ProgramCode.{IsEntryOf}
 use Rattle.command_eval.specs.command_source.Roots.{root_named}
@@ -30,7 +30,7 @@ use Rattle.command_eval.proofs.command_source.Compiling.{headers_same, instrs_sa
 use Rattle.command_eval.specs.EvalAnswer.{Entry}
 use Rattle.command_eval.proofs.Meant.{typed_of}
 use Rattle.command_eval.proofs.SoundTypes.{typed_sound}
-use Rattle.machine_correctness.specs.Starts.{IsCodeOf}
+use Rattle.command_eval.specs.machine_correctness.Starts.{IsCodeOf}
 use Rattle.command_run.proofs.Bounded.{one_of_name}
 
 -- ---- the root of a name

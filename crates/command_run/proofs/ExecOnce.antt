@@ -18,16 +18,16 @@ use Rattle.fip_language.proofs.Frames.{more_frames}
 use Rattle.fip_language.proofs.OnePlace.{IsPlace-unique, IsPlace-not_spelt}
 use Rattle.fip_base.specs.declared.plain.Param.{Param}
 use Rattle.fip_base.specs.declared.plain.Stack.{Stack}
-use Rattle.machine_correctness.specs.fip_trees.declared.groups.Member.{Member}
-use Rattle.machine_correctness.specs.tail_groups.Members.{AreMembers}
-use Rattle.machine_correctness.specs.Gauges.{IsMeasured}
-use Rattle.machine_correctness.specs.fip_trees.Tree.{Instance, Program}
+use Rattle.command_eval.specs.machine_correctness.fip_trees.declared.groups.Member.{Member}
+use Rattle.command_eval.specs.machine_correctness.tail_groups.Members.{AreMembers}
+use Rattle.command_eval.specs.machine_correctness.Gauges.{IsMeasured}
+use Rattle.command_eval.specs.machine_correctness.fip_trees.Tree.{Instance, Program}
 use Rattle.command_words.specs.Words.{Room}
 use Rattle.command_outcome.specs.declared.failure.Failure.{Failure}
 use Rattle.command_outcome.specs.declared.failure.Failure.TheVariants as F
-use Rattle.machine_correctness.proofs.separation_kinds.Basics.{less_or_not}
+use Rattle.command_eval.proofs.machine_correctness.separation_kinds.Basics.{less_or_not}
 use Rattle.session_semantics.specs.Talk.{frames_of}
-use Rattle.machine_correctness.proofs.source_report.Once.{accepted_once}
+use Rattle.command_eval.proofs.machine_correctness.source_report.Once.{accepted_once}
 use Rattle.command_eval.specs.EvalAnswer.{Entry, Spells}
 use Rattle.command_eval.proofs.Once.{one_program, one_root, one_core, typed_alike, one_text}
 use Rattle.command_run.specs.CodeRun.{all_seen, words_for}

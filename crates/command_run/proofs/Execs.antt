@@ -15,26 +15,26 @@ use Rattle.fip_language.specs.Table.{Table}
 use Rattle.fip_language.specs.Values.{Values}
 use Rattle.fip_language.specs.ValueText.{SpellsValues}
 use Rattle.fip_base.specs.declared.plain.Stack.{Stack}
-use Rattle.machine_correctness.specs.code_file.Plain.{plain_code}
+use Rattle.command_eval.specs.machine_correctness.code_file.Plain.{plain_code}
 use Rattle.command_words.specs.Words.{Room}
 use Rattle.command_outcome.specs.declared.failure.Failure.{Failure}
 use Rattle.command_outcome.specs.declared.failure.Failure.TheVariants as F
-use Rattle.machine_correctness.specs.machine_semantics.Codes as R
-use Rattle.machine_correctness.specs.machine_semantics.States.{State}
-use Rattle.machine_correctness.specs.machine_semantics.Steps.{Kinds}
-use Rattle.machine_correctness.specs.separation.Codes.{HasLiterals, AreKinds}
+use Rattle.command_eval.specs.machine_correctness.machine_semantics.Codes as R
+use Rattle.command_eval.specs.machine_correctness.machine_semantics.States.{State}
+use Rattle.command_eval.specs.machine_correctness.machine_semantics.Steps.{Kinds}
+use Rattle.command_eval.specs.machine_correctness.separation.Codes.{HasLiterals, AreKinds}
 use Rattle.fip_machine.specs.declared.gauge.Gauge.{Gauge}
 use Rattle.fip_machine.specs.declared.machine.Ended.{Ended}
 use Rattle.fip_machine.specs.Ending.{RunsTo}
 use Rattle.fip_machine.specs.GaugeView.{Tells, TellsRun}
 use Rattle.fip_machine.specs.Machines.{Seen}
 use Rattle.fip_machine.specs.Tasks.{state_with}
-use Rattle.machine_correctness.specs.code_rules.Codes.{PlainCode, PlainFunction, plain, plain_function, function_at, is_fip}
-use Rattle.machine_correctness.specs.code_rules.StackNumbers.{HasStack}
-use Rattle.machine_correctness.proofs.code_rules.Numbers.{has_once}
-use Rattle.machine_correctness.specs.tail_groups.Members.{AreMembers}
-use Rattle.machine_correctness.specs.lowering_relation.LoweredBodies.{function_of}
-use Rattle.machine_correctness.proofs.compiler_correctness.SoundTypes.{typed_sound}
+use Rattle.command_eval.specs.machine_correctness.code_rules.Codes.{PlainCode, PlainFunction, plain, plain_function, function_at, is_fip}
+use Rattle.command_eval.specs.machine_correctness.code_rules.StackNumbers.{HasStack}
+use Rattle.command_eval.proofs.machine_correctness.code_rules.Numbers.{has_once}
+use Rattle.command_eval.specs.machine_correctness.tail_groups.Members.{AreMembers}
+use Rattle.command_eval.specs.machine_correctness.lowering_relation.LoweredBodies.{function_of}
+use Rattle.command_eval.proofs.machine_correctness.compiler_correctness.SoundTypes.{typed_sound}
 use Rattle.session_semantics.specs.Talk.{frames_of}
 use Rattle.command_eval.specs.command_source.Codes.{sound_view}
 use Rattle.command_eval.specs.command_source.Entries.{Chosen}
@@ -44,13 +44,13 @@ use Rattle.command_eval.proofs.command_source.CodeFiles.{view_same}
 use Rattle.command_eval.specs.type_safety.Soundness.{parameter_types}
 use Rattle.value_text.specs.Loaded.{types_of}
 use Rattle.command_eval.specs.EvalAnswer.{Entry, OrNoMemory}
-use Rattle.machine_correctness.specs.Gauges.{IsFlat, IsMeasured}
-use Rattle.machine_correctness.specs.Starts.{IsCodeOf, Begins}
-use Rattle.machine_correctness.proofs.EvaluatedEnds.{answers_as_meant, not_deep}
-use Rattle.machine_correctness.proofs.Entries.{headers_of, named}
-use Rattle.machine_correctness.proofs.Flat.{gauge_flat}
-use Rattle.machine_correctness.proofs.Peaks.{measured}
-use Rattle.machine_correctness.proofs.Starting.{begins_of}
+use Rattle.command_eval.specs.machine_correctness.Gauges.{IsFlat, IsMeasured}
+use Rattle.command_eval.specs.machine_correctness.Starts.{IsCodeOf, Begins}
+use Rattle.command_eval.proofs.machine_correctness.EvaluatedEnds.{answers_as_meant, not_deep}
+use Rattle.command_eval.proofs.machine_correctness.Entries.{headers_of, named}
+use Rattle.command_eval.proofs.machine_correctness.Flat.{gauge_flat}
+use Rattle.command_eval.proofs.machine_correctness.Peaks.{measured}
+use Rattle.command_eval.proofs.machine_correctness.Starting.{begins_of}
 use Rattle.command_run.specs.CodeRun as D
 use Rattle.command_run.specs.CodeRun.{all_seen, words_for}
 use Rattle.command_run.specs.ExecAnswer.{TellsRun as TellsMeant, Coded, IsBoundOf, RunsInPlace, RunsOn, Execs, Misspelt, Small, Ran}

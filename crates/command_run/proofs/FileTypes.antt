@@ -6,11 +6,11 @@ use Rattle.fip_language.specs.Character.{is_upper_name}
 use Rattle.fip_language.specs.SoundTable.{AreTypes, IsSoundTable}
 use Rattle.fip_language.specs.Table.{Shape, Table, shapes}
 use Rattle.fip_machine.specs.cell_code.declared.code.Code.{Code}
-use Rattle.machine_correctness.specs.code_file.CodeText.{code_text, functions_text, table_text, type_text, shape_text, types_text, version_number}
-use Rattle.machine_correctness.specs.code_file.Plain.{PlainCode, plain_code}
-use Rattle.machine_correctness.specs.code_file.Spelling.{◌+++◌, each, four, two, name_text, upper_name_text}
-use Rattle.machine_correctness.specs.code_rules.Codes.{plain}
-use Rattle.machine_correctness.specs.code_rules.Tables.{AreSoundTables, IsSoundType}
+use Rattle.command_eval.specs.machine_correctness.code_file.CodeText.{code_text, functions_text, table_text, type_text, shape_text, types_text, version_number}
+use Rattle.command_eval.specs.machine_correctness.code_file.Plain.{PlainCode, plain_code}
+use Rattle.command_eval.specs.machine_correctness.code_file.Spelling.{◌+++◌, each, four, two, name_text, upper_name_text}
+use Rattle.command_eval.specs.machine_correctness.code_rules.Codes.{plain}
+use Rattle.command_eval.specs.machine_correctness.code_rules.Tables.{AreSoundTables, IsSoundType}
 use Rattle.command_eval.specs.command_source.Codes.{IsSoundFile}
 
 -- ---- pieces of a text

@@ -9,7 +9,7 @@ use Rattle.fip_language.specs.Values.{Values}
 use Rattle.fip_language.specs.ValueText.{SpellsValues}
 use Rattle.cell_store.specs.Made.{Loading}
 use Rattle.fip_machine.specs.machine_cells.Small.{store_of}
-use Rattle.machine_correctness.specs.run_loading.Loading.{first_store, first_words}
+use Rattle.command_eval.specs.machine_correctness.run_loading.Loading.{first_store, first_words}
 use Rattle.value_text.specs.FirstStore.{loaded_places, loaded_words}
 use Rattle.value_text.proofs.Exact.{accepts_text}
 use Rattle.value_text.proofs.Tables.{is_table, types_alive}

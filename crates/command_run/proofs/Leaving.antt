@@ -6,16 +6,16 @@ use Rattle.fip_base.specs.declared.plain.Stack.{Stack}
 use Rattle.fip_language.specs.Values.{Values}
 use Rattle.cell_store.specs.Made.{Stored}
 use Rattle.command_words.specs.Words.{Room}
-use Rattle.machine_correctness.specs.machine_semantics.Runs.{loaded}
-use Rattle.machine_correctness.specs.machine_semantics.States.{State}
+use Rattle.command_eval.specs.machine_correctness.machine_semantics.Runs.{loaded}
+use Rattle.command_eval.specs.machine_correctness.machine_semantics.States.{State}
 use Rattle.fip_machine.specs.declared.gauge.Gauge.{Gauge}
 use Rattle.fip_machine.specs.declared.machine.Ended.{Ended}
 use Rattle.fip_machine.specs.Machines.{Seen}
 use Rattle.fip_machine.specs.Tasks.{state_with}
 use Rattle.fip_machine.specs.machine_cells.Small.{store_of}
-use Rattle.machine_correctness.specs.code_rules.Codes.{PlainCode, plain}
-use Rattle.machine_correctness.specs.separation.Codes.{run_code}
-use Rattle.machine_correctness.specs.run_loading.Loading.{first_store, first_words}
+use Rattle.command_eval.specs.machine_correctness.code_rules.Codes.{PlainCode, plain}
+use Rattle.command_eval.specs.machine_correctness.separation.Codes.{run_code}
+use Rattle.command_eval.specs.machine_correctness.run_loading.Loading.{first_store, first_words}
 use Rattle.session_semantics.specs.Talk.{frames_of}
 use Rattle.command_eval.specs.command_source.Entries.{Chosen}
 use Rattle.command_run.specs.CodeRun as D

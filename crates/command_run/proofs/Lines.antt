@@ -7,7 +7,7 @@ use Rattle.fip_language.specs.Table.{Table, shapes}
 use Rattle.fip_language.specs.Values.{Value, Int, Node, Values, End, More}
 use Rattle.cell_store.specs.Cells.{Cells}
 use Rattle.value_text.specs.Standing.{Stands, StandAll}
-use Rattle.machine_correctness.specs.Meant.{ArePrintable}
+use Rattle.command_eval.specs.machine_correctness.Meant.{ArePrintable}
 
 -- the text goes on behind a value
 mutual

@@ -14,18 +14,18 @@ use Rattle.command_outcome.specs.declared.failure.Failure.TheVariants as F
 use Rattle.cell_store.specs.Cells as L
 use Rattle.cell_store.specs.Cells.{count_free}
 use Rattle.cell_store.specs.Made.{Loading}
-use Rattle.machine_correctness.specs.machine_semantics.Cells.{IsSized, IsStore, one_if_some, one_if_true}
-use Rattle.machine_correctness.proofs.separation_kinds.Basics.{both, refuted, below}
+use Rattle.command_eval.specs.machine_correctness.machine_semantics.Cells.{IsSized, IsStore, one_if_some, one_if_true}
+use Rattle.command_eval.proofs.machine_correctness.separation_kinds.Basics.{both, refuted, below}
 use Rattle.fip_machine.specs.machine_cells.Small.{store_of}
-use Rattle.machine_correctness.specs.code_rules.Codes.{PlainCode, PlainFunction}
-use Rattle.machine_correctness.specs.code_rules.Headers.{are_params, are_sizes, is_formed, is_size}
-use Rattle.machine_correctness.specs.code_rules.Limits.{most_credits, most_fields, most_registers, most_results}
-use Rattle.machine_correctness.specs.code_rules.Types.{is_type}
+use Rattle.command_eval.specs.machine_correctness.code_rules.Codes.{PlainCode, PlainFunction}
+use Rattle.command_eval.specs.machine_correctness.code_rules.Headers.{are_params, are_sizes, is_formed, is_size}
+use Rattle.command_eval.specs.machine_correctness.code_rules.Limits.{most_credits, most_fields, most_registers, most_results}
+use Rattle.command_eval.specs.machine_correctness.code_rules.Types.{is_type}
 use Rattle.value_text.specs.FirstStore.{IsInOrder}
 use Rattle.value_text.specs.Loaded.{types_of, AreSizes, AreCredits, AreZero, HasNoFree, IsGiven, IsLoaded, cell_words, needed}
 use Rattle.value_text.specs.Standing.{StandAll}
 use Rattle.value_text.proofs.Typed.{input_typed}
-use Rattle.machine_correctness.proofs.Texts.{same_cell}
+use Rattle.command_eval.proofs.machine_correctness.Texts.{same_cell}
 use Rattle.command_run.specs.CodeRun.{words_for}
 use Rattle.command_run.specs.Starting.{IsInNewStore, KeepsFromLoading}
 use Rattle.command_run.proofs.Words.{needed_words}

@@ -1,11 +1,11 @@
 -- From a machine at the start of its function, and what it says of its run, to a run of the code to its end.
 use Rattle.std.proofs.Common.{◌≡◌, ◌∙◌, ℕ, List, [], None, sym, subst}
 use Rattle.command_words.specs.Words.{Room}
-use Rattle.machine_correctness.specs.machine_semantics.Codes as R
-use Rattle.machine_correctness.specs.machine_semantics.States.{Typed, State}
-use Rattle.machine_correctness.specs.machine_semantics.Steps.{Kinds}
-use Rattle.machine_correctness.specs.separation.Codes.{run_code, AreKinds}
-use Rattle.machine_correctness.proofs.separation.KindsFound.{kinds_found}
+use Rattle.command_eval.specs.machine_correctness.machine_semantics.Codes as R
+use Rattle.command_eval.specs.machine_correctness.machine_semantics.States.{Typed, State}
+use Rattle.command_eval.specs.machine_correctness.machine_semantics.Steps.{Kinds}
+use Rattle.command_eval.specs.machine_correctness.separation.Codes.{run_code, AreKinds}
+use Rattle.command_eval.proofs.machine_correctness.separation.KindsFound.{kinds_found}
 use Rattle.fip_machine.specs.code_verify.Checked.{Checked}
 use Rattle.fip_machine.specs.declared.gauge.Gauge.{Gauge}
 use Rattle.fip_machine.specs.declared.machine.Ended.{Ended}
@@ -14,9 +14,9 @@ use Rattle.fip_machine.specs.GaugeView.{TellsRun}
 use Rattle.fip_machine.specs.Machines.{Seen}
 use Rattle.fip_machine.specs.Tasks.{state_with, IsFresh}
 use Rattle.fip_machine.specs.machine_cells.Small.{IsSmall}
-use Rattle.machine_correctness.specs.code_rules.Codes.{plain}
-use Rattle.machine_correctness.specs.Starts.{IsSoundCode}
-use Rattle.machine_correctness.proofs.EvaluatedEnds.{knows}
+use Rattle.command_eval.specs.machine_correctness.code_rules.Codes.{plain}
+use Rattle.command_eval.specs.machine_correctness.Starts.{IsSoundCode}
+use Rattle.command_eval.proofs.machine_correctness.EvaluatedEnds.{knows}
 use Rattle.command_eval.specs.command_source.Entries.{Chosen}
 use Rattle.command_run.specs.Starting.{IsStarted}
 use Rattle.command_run.proofs.Came.{Came, came, ends_last}

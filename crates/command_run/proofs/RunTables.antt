@@ -9,12 +9,12 @@ use Rattle.fip_language.specs.Character.{is_upper_name}
 use Rattle.fip_language.specs.SoundTable.{AreTypes, IsSoundTable}
 use Rattle.fip_language.specs.Table.{Shape, Table, shapes}
 use Rattle.fip_language.specs.Values.{Value, Int, Node, Values, End, More}
-use Rattle.machine_correctness.specs.code_rules.Breaks.{IsSound}
-use Rattle.machine_correctness.specs.code_rules.Codes.{PlainCode}
-use Rattle.machine_correctness.specs.code_rules.Headers.{are_params}
-use Rattle.machine_correctness.specs.code_rules.Tables.{AreSoundTables}
-use Rattle.machine_correctness.specs.code_rules.Types.{is_type}
-use Rattle.machine_correctness.specs.code_rules.declared.rule.SoundRule.TheVariants.{S0}
+use Rattle.command_eval.specs.machine_correctness.code_rules.Breaks.{IsSound}
+use Rattle.command_eval.specs.machine_correctness.code_rules.Codes.{PlainCode}
+use Rattle.command_eval.specs.machine_correctness.code_rules.Headers.{are_params}
+use Rattle.command_eval.specs.machine_correctness.code_rules.Tables.{AreSoundTables}
+use Rattle.command_eval.specs.machine_correctness.code_rules.Types.{is_type}
+use Rattle.command_eval.specs.machine_correctness.code_rules.declared.rule.SoundRule.TheVariants.{S0}
 
 -- it can't be that tables aren't sound
 pub tables : (c : PlainCode) → IsSound c → (AreSoundTables c → ⊥) → ⊥

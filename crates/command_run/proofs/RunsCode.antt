@@ -7,22 +7,22 @@ use Rattle.std.proofs.lemmas.Option.{same_Some, slice_get-map}
 use Rattle.fip_language.specs.Table.{Table}
 use Rattle.fip_language.specs.Values.{Values}
 use Rattle.fip_base.specs.declared.plain.Stack.{Stack}
-use Rattle.machine_correctness.specs.code_file.Plain.{plain_code}
+use Rattle.command_eval.specs.machine_correctness.code_file.Plain.{plain_code}
 use Rattle.command_words.specs.Words.{Room}
 use Rattle.command_outcome.specs.declared.failure.Failure.{Failure}
 use Rattle.command_outcome.specs.declared.failure.Failure.TheVariants as F
-use Rattle.machine_correctness.specs.machine_semantics.States.{State}
+use Rattle.command_eval.specs.machine_correctness.machine_semantics.States.{State}
 use Rattle.fip_machine.specs.declared.gauge.Gauge.{Gauge}
 use Rattle.fip_machine.specs.declared.machine.Ended.{Ended}
 use Rattle.fip_machine.specs.Machines.{Seen}
 use Rattle.fip_machine.specs.Tasks.{state_with}
-use Rattle.machine_correctness.specs.code_rules.Codes.{PlainCode, PlainFunction, plain, plain_function, function_at, results, results_of}
-use Rattle.machine_correctness.specs.code_rules.StackNumbers.{HasStack}
+use Rattle.command_eval.specs.machine_correctness.code_rules.Codes.{PlainCode, PlainFunction, plain, plain_function, function_at, results, results_of}
+use Rattle.command_eval.specs.machine_correctness.code_rules.StackNumbers.{HasStack}
 use Rattle.session_semantics.specs.Talk.{frames_of}
 use Rattle.command_eval.specs.command_source.Codes.{sound_view}
 use Rattle.command_eval.specs.command_source.Entries.{Chosen, IsFunctionOf}
 use Rattle.command_eval.proofs.command_source.CodeFiles.{view_same}
-use Rattle.machine_correctness.specs.tree_refinement.Agreement.{AreWordsOf}
+use Rattle.command_eval.specs.machine_correctness.tree_refinement.Agreement.{AreWordsOf}
 use Rattle.value_text.specs.Loaded.{types_of}
 use Rattle.command_eval.specs.EvalAnswer.{OrNoMemory}
 use Rattle.command_run.specs.CodeRun as D

@@ -4,10 +4,10 @@ use Rattle.std.proofs.Common.{◌≡◌, ◌∙◌, ℕ, suc, ◌+◌, false, Li
 use Rattle.std.specs.Prelude.{replicate}
 use Rattle.fip_language.specs.Values.{Value, Int, Node, Values, End, More}
 use Rattle.fip_language.specs.Store.{Cell}
-use Rattle.machine_correctness.specs.machine_semantics.Cells.{Store}
-use Rattle.machine_correctness.specs.machine_semantics.Words.{place_word}
-use Rattle.machine_correctness.specs.run_loading.Loading as R
-use Rattle.machine_correctness.specs.run_loading.Loading.{places_of, first_store, first_words}
+use Rattle.command_eval.specs.machine_correctness.machine_semantics.Cells.{Store}
+use Rattle.command_eval.specs.machine_correctness.machine_semantics.Words.{place_word}
+use Rattle.command_eval.specs.machine_correctness.run_loading.Loading as R
+use Rattle.command_eval.specs.machine_correctness.run_loading.Loading.{places_of, first_store, first_words}
 use Rattle.value_text.specs.FirstStore as V
 use Rattle.value_text.specs.FirstStore.{loaded_places, loaded_words}
 

@@ -1,13 +1,13 @@
 -- The places of the cells after a run are as few as before it: a step makes no cell.
 use Rattle.std.proofs.Common.{◌≡◌, ◌∙◌, ℕ, length, sym, ap, arith}
-use Rattle.machine_correctness.specs.machine_semantics.Cells.{size_in}
-use Rattle.machine_correctness.specs.machine_semantics.Codes.{PlainCode}
-use Rattle.machine_correctness.specs.machine_semantics.Kept.{Keeps}
-use Rattle.machine_correctness.specs.machine_semantics.Runs.{End, Over, state_of, begun, after}
-use Rattle.machine_correctness.specs.machine_semantics.States.{State}
-use Rattle.machine_correctness.specs.machine_semantics.Steps.{Kinds}
-use Rattle.machine_correctness.proofs.separation_bounds.Falling.{start_keeps}
-use Rattle.machine_correctness.proofs.separation_kinds.Basics.{length_map}
+use Rattle.command_eval.specs.machine_correctness.machine_semantics.Cells.{size_in}
+use Rattle.command_eval.specs.machine_correctness.machine_semantics.Codes.{PlainCode}
+use Rattle.command_eval.specs.machine_correctness.machine_semantics.Kept.{Keeps}
+use Rattle.command_eval.specs.machine_correctness.machine_semantics.Runs.{End, Over, state_of, begun, after}
+use Rattle.command_eval.specs.machine_correctness.machine_semantics.States.{State}
+use Rattle.command_eval.specs.machine_correctness.machine_semantics.Steps.{Kinds}
+use Rattle.command_eval.proofs.machine_correctness.separation_bounds.Falling.{start_keeps}
+use Rattle.command_eval.proofs.machine_correctness.separation_kinds.Basics.{length_map}
 use Rattle.fip_machine.specs.machine_cells.Small.{IsSmall}
 
 as_many : (s t : State) → Keeps s.store t.store → length t.store.cells ≡ length s.store.cells

@@ -9,15 +9,15 @@ use Rattle.fip_language.specs.Values.{Values}
 use Rattle.command_words.specs.Words.{Room}
 use Rattle.command_outcome.specs.declared.failure.Failure.{Failure}
 use Rattle.command_outcome.specs.declared.failure.Failure.TheVariants as F
-use Rattle.machine_correctness.specs.machine_semantics.Runs as C
-use Rattle.machine_correctness.specs.machine_semantics.Runs.{End}
-use Rattle.machine_correctness.specs.machine_semantics.States.{State}
+use Rattle.command_eval.specs.machine_correctness.machine_semantics.Runs as C
+use Rattle.command_eval.specs.machine_correctness.machine_semantics.Runs.{End}
+use Rattle.command_eval.specs.machine_correctness.machine_semantics.States.{State}
 use Rattle.fip_machine.specs.declared.machine.Ended.{Ended}
 use Rattle.fip_machine.specs.declared.machine.Ended.TheVariants as M
-use Rattle.machine_correctness.specs.tree_refinement.Agreement.{AreWordsOf}
-use Rattle.machine_correctness.specs.Ended.{EndsJustAs}
-use Rattle.machine_correctness.specs.Meant.{IsMeant}
-use Rattle.machine_correctness.proofs.Texts.{printable}
+use Rattle.command_eval.specs.machine_correctness.tree_refinement.Agreement.{AreWordsOf}
+use Rattle.command_eval.specs.machine_correctness.Ended.{EndsJustAs}
+use Rattle.command_eval.specs.machine_correctness.Meant.{IsMeant}
+use Rattle.command_eval.proofs.machine_correctness.Texts.{printable}
 use Rattle.command_eval.specs.EvalAnswer.{OrNoMemory}
 use Rattle.command_run.specs.CodeRun.{TellsCode}
 use Rattle.command_run.specs.ExecAnswer.{TellsRun}

@@ -10,7 +10,7 @@ use Rattle.fip_language.specs.Table.{Table, HasType, HaveTypes}
 use Rattle.fip_language.specs.Values.{Value, Int, Node, Values, End, More, count_of, one_of_size, cells, cells_of_all, words_of_node, words_needed, words_needed_by_all}
 use Rattle.cell_store.specs.Cells.{Cells, count_free}
 use Rattle.cell_store.specs.Made.{Loading}
-use Rattle.machine_correctness.specs.run_loading.Loading.{words_of_credits}
+use Rattle.command_eval.specs.machine_correctness.run_loading.Loading.{words_of_credits}
 use Rattle.value_text.specs.Loaded.{AreSizes, free_in, needed, wanted, words_up_to}
 use Rattle.value_text.proofs.Credits.{sum_join}
 use Rattle.value_text.proofs.Taken.{one_other, words_same, words_suc, words_zero}

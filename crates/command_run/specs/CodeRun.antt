@@ -22,19 +22,19 @@ use Rattle.fip_base.specs.declared.plain.Stack.{Stack}
 use Rattle.command_words.specs.Words.{Room}
 use Rattle.command_outcome.specs.declared.failure.Failure.{Failure}
 use Rattle.command_outcome.specs.declared.failure.Failure.TheVariants as F
-use Rattle.machine_correctness.specs.code_file.Plain.{PlainCode}
-use Rattle.machine_correctness.specs.machine_semantics.Gauges.{seen}
-use Rattle.machine_correctness.specs.machine_semantics.Runs.{End, Ends, Value, Trap, Out, Deep, Unsound, begun}
-use Rattle.machine_correctness.specs.machine_semantics.States.{State}
-use Rattle.machine_correctness.specs.machine_semantics.Steps.{Kinds}
-use Rattle.machine_correctness.specs.separation.Codes.{run_code}
-use Rattle.machine_correctness.specs.separation.Starts.{IsStart}
-use Rattle.machine_correctness.specs.code_rules.Codes as S
-use Rattle.machine_correctness.specs.code_rules.Codes.{PlainFunction, function_at}
-use Rattle.machine_correctness.specs.code_rules.StackNumbers.{HasStack}
-use Rattle.machine_correctness.specs.tree_refinement.Agreement.{AreWordsOf}
-use Rattle.machine_correctness.specs.tree_refinement.Runs.{BeginsWith}
-use Rattle.machine_correctness.specs.run_loading.Loading.{words_of_credits}
+use Rattle.command_eval.specs.machine_correctness.code_file.Plain.{PlainCode}
+use Rattle.command_eval.specs.machine_correctness.machine_semantics.Gauges.{seen}
+use Rattle.command_eval.specs.machine_correctness.machine_semantics.Runs.{End, Ends, Value, Trap, Out, Deep, Unsound, begun}
+use Rattle.command_eval.specs.machine_correctness.machine_semantics.States.{State}
+use Rattle.command_eval.specs.machine_correctness.machine_semantics.Steps.{Kinds}
+use Rattle.command_eval.specs.machine_correctness.separation.Codes.{run_code}
+use Rattle.command_eval.specs.machine_correctness.separation.Starts.{IsStart}
+use Rattle.command_eval.specs.machine_correctness.code_rules.Codes as S
+use Rattle.command_eval.specs.machine_correctness.code_rules.Codes.{PlainFunction, function_at}
+use Rattle.command_eval.specs.machine_correctness.code_rules.StackNumbers.{HasStack}
+use Rattle.command_eval.specs.machine_correctness.tree_refinement.Agreement.{AreWordsOf}
+use Rattle.command_eval.specs.machine_correctness.tree_refinement.Runs.{BeginsWith}
+use Rattle.command_eval.specs.machine_correctness.run_loading.Loading.{words_of_credits}
 use Rattle.session_semantics.specs.Talk.{frames_of}
 use Rattle.value_text.specs.Loaded.{types_of}
 use Rattle.command_eval.specs.command_source.Codes.{sound_view, IsSoundFile}

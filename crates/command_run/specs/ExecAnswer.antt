@@ -29,19 +29,19 @@ use Rattle.fip_language.specs.Statics.{NoClosed}
 use Rattle.fip_language.specs.Table.{Table}
 use Rattle.fip_language.specs.Values.{Values}
 use Rattle.fip_base.specs.declared.plain.Stack.{Stack}
-use Rattle.machine_correctness.specs.fip_trees.declared.groups.Member.{Member}
-use Rattle.machine_correctness.specs.tail_groups.Members.{AreMembers}
+use Rattle.command_eval.specs.machine_correctness.fip_trees.declared.groups.Member.{Member}
+use Rattle.command_eval.specs.machine_correctness.tail_groups.Members.{AreMembers}
 use Rattle.command_words.specs.Words.{Room}
 use Rattle.command_outcome.specs.declared.failure.Failure.{Failure}
 use Rattle.command_outcome.specs.declared.failure.Failure.TheVariants as F
-use Rattle.machine_correctness.specs.code_file.Plain.{PlainCode}
-use Rattle.machine_correctness.specs.code_rules.Codes.{PlainFunction, function_at}
-use Rattle.machine_correctness.specs.code_rules.StackNumbers.{HasStack}
+use Rattle.command_eval.specs.machine_correctness.code_file.Plain.{PlainCode}
+use Rattle.command_eval.specs.machine_correctness.code_rules.Codes.{PlainFunction, function_at}
+use Rattle.command_eval.specs.machine_correctness.code_rules.StackNumbers.{HasStack}
 use Rattle.session_semantics.specs.Talk.{frames_of}
 use Rattle.command_eval.specs.command_source.Codes.{sound_view}
 use Rattle.command_eval.specs.command_source.ProgramCode.{IsCodeOfSource}
 use Rattle.command_eval.specs.EvalAnswer.{Entry, Spells}
-use Rattle.machine_correctness.specs.Gauges.{cells_given, IsMeasured}
+use Rattle.command_eval.specs.machine_correctness.Gauges.{cells_given, IsMeasured}
 use Rattle.command_run.specs.CodeRun.{Run, all_seen, words_for}
 use Rattle.command_run.specs.GaugeText.{gauge_by_states, highest_stack, if_asked}
 

@@ -12,15 +12,15 @@ use Rattle.fip_language.specs.Values.{Values}
 use Rattle.fip_language.specs.ValueText.{SpellsValues}
 use Rattle.fip_base.specs.declared.plain.Stack.{Stack}
 use Rattle.command_words.specs.Words.{Room}
-use Rattle.machine_correctness.specs.machine_semantics.Runs.{End, Ends, loaded}
-use Rattle.machine_correctness.specs.machine_semantics.States.{State}
-use Rattle.machine_correctness.specs.machine_semantics.Steps.{Kinds}
-use Rattle.machine_correctness.specs.separation.Codes.{run_code, AreKinds}
-use Rattle.machine_correctness.specs.code_rules.Codes.{PlainCode, PlainFunction, function_at}
-use Rattle.machine_correctness.specs.code_rules.StackNumbers.{HasStack}
-use Rattle.machine_correctness.specs.run_loading.Loading.{first_store, first_words}
-use Rattle.machine_correctness.specs.run_loading.Replaying.{trace_of}
-use Rattle.machine_correctness.specs.run_loading.TraceText.{Trace}
+use Rattle.command_eval.specs.machine_correctness.machine_semantics.Runs.{End, Ends, loaded}
+use Rattle.command_eval.specs.machine_correctness.machine_semantics.States.{State}
+use Rattle.command_eval.specs.machine_correctness.machine_semantics.Steps.{Kinds}
+use Rattle.command_eval.specs.machine_correctness.separation.Codes.{run_code, AreKinds}
+use Rattle.command_eval.specs.machine_correctness.code_rules.Codes.{PlainCode, PlainFunction, function_at}
+use Rattle.command_eval.specs.machine_correctness.code_rules.StackNumbers.{HasStack}
+use Rattle.command_eval.specs.machine_correctness.run_loading.Loading.{first_store, first_words}
+use Rattle.command_eval.specs.machine_correctness.run_loading.Replaying.{trace_of}
+use Rattle.command_eval.specs.machine_correctness.run_loading.TraceText.{Trace}
 use Rattle.session_semantics.specs.Talk.{frames_of}
 use Rattle.value_text.specs.Loaded.{types_of}
 use Rattle.command_run.specs.CodeRun.{words_for}

@@ -12,12 +12,12 @@ use Rattle.command_words.specs.Words.{Room}
 use Rattle.command_outcome.specs.declared.failure.Failure.{Failure}
 use Rattle.command_outcome.specs.declared.failure.Failure.TheVariants as F
 use Rattle.cell_store.specs.Made.{Loading}
-use Rattle.machine_correctness.specs.machine_semantics.Cells.{Store, IsStore}
-use Rattle.machine_correctness.specs.machine_semantics.Runs.{loaded}
-use Rattle.machine_correctness.specs.machine_semantics.States.{State}
-use Rattle.machine_correctness.specs.separation.Codes.{run_code}
-use Rattle.machine_correctness.specs.code_rules.Codes.{PlainFunction, plain, function_at}
-use Rattle.machine_correctness.specs.code_rules.StackNumbers.{HasStack}
+use Rattle.command_eval.specs.machine_correctness.machine_semantics.Cells.{Store, IsStore}
+use Rattle.command_eval.specs.machine_correctness.machine_semantics.Runs.{loaded}
+use Rattle.command_eval.specs.machine_correctness.machine_semantics.States.{State}
+use Rattle.command_eval.specs.machine_correctness.separation.Codes.{run_code}
+use Rattle.command_eval.specs.machine_correctness.code_rules.Codes.{PlainFunction, plain, function_at}
+use Rattle.command_eval.specs.machine_correctness.code_rules.StackNumbers.{HasStack}
 use Rattle.fip_machine.specs.machine_cells.Small.{IsSmall, store_of}
 use Rattle.fip_machine.specs.declared.gauge.Gauge.{Gauge}
 use Rattle.fip_machine.specs.declared.machine.Ended.{Ended}
@@ -26,10 +26,10 @@ use Rattle.fip_machine.specs.Machines.{Seen}
 use Rattle.fip_machine.specs.Tasks.{state_with, IsFresh}
 use Rattle.value_text.specs.FirstStore.{IsInOrder}
 use Rattle.value_text.specs.Loaded.{types_of, IsLoaded}
-use Rattle.machine_correctness.specs.run_loading.Loading.{first_store, first_words}
+use Rattle.command_eval.specs.machine_correctness.run_loading.Loading.{first_store, first_words}
 use Rattle.session_semantics.specs.Talk.{frames_of}
-use Rattle.machine_correctness.specs.Meant.{ArePrintable}
-use Rattle.machine_correctness.specs.Starts.{Begins}
+use Rattle.command_eval.specs.machine_correctness.Meant.{ArePrintable}
+use Rattle.command_eval.specs.machine_correctness.Starts.{Begins}
 use Rattle.command_eval.specs.command_source.Entries.{Chosen}
 use Rattle.command_run.specs.CodeRun.{words_for}
 use Rattle.command_run.specs.GaugeText.{gauge_text}

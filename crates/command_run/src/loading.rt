@@ -4,8 +4,8 @@ ghost use Rattle.fip_language.specs.declared.limits.TheConstants.{MOST_FILE_BYTE
 ghost use Rattle.fip_language.specs.SoundTable.{IsSoundTable};
 ghost use Rattle.command_words.specs.View.{room_of};
 ghost use Rattle.command_outcome.specs.Stages.{IsOfRun};
-ghost use Rattle.machine_correctness.specs.code_rules.Codes.{plain};
-ghost use Rattle.machine_correctness.specs.code_rules.StackNumbers.{HasStack};
+ghost use Rattle.command_eval.specs.machine_correctness.code_rules.Codes.{plain};
+ghost use Rattle.command_eval.specs.machine_correctness.code_rules.StackNumbers.{HasStack};
 ghost use Rattle.value_text.specs.Loaded.{types_of, IsGiven};
 ghost use Rattle.command_run.specs.CodeRun.{is_run_failure};
 ghost use Rattle.command_run.specs.Rooms.{IsAllowed};

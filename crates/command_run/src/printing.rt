@@ -4,7 +4,7 @@ ghost use Rattle.fip_language.specs.declared.limits.TheConstants.{MOST_FIELDS};
 ghost use Rattle.fip_language.specs.PrintedText.{printed_lines};
 ghost use Rattle.fip_language.specs.Values.{Values};
 ghost use Rattle.fip_machine.specs.machine_cells.Small.{IsSmall};
-ghost use Rattle.machine_correctness.specs.Meant.{ArePrintable};
+ghost use Rattle.command_eval.specs.machine_correctness.Meant.{ArePrintable};
 ghost use Rattle.command_run.specs.GaugeText.{size_line, stack_lines};
 ghost use Rattle.command_run.specs.Starting.{gauge_lines, high_of, low_of, stack_of};
 

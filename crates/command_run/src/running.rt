@@ -9,9 +9,9 @@ ghost use Rattle.fip_machine.specs.cell_code.declared.code.Function.{Function as
 ghost use Rattle.command_words.specs.View.{room_of};
 ghost use Rattle.command_outcome.specs.Stages.{IsOfRun};
 ghost use Rattle.fip_machine.specs.machine_cells.Small.{IsSmall};
-ghost use Rattle.machine_correctness.specs.code_rules.Codes.{plain};
-ghost use Rattle.machine_correctness.specs.code_rules.StackNumbers.{HasStack};
-ghost use Rattle.machine_correctness.specs.Meant.{ArePrintable};
+ghost use Rattle.command_eval.specs.machine_correctness.code_rules.Codes.{plain};
+ghost use Rattle.command_eval.specs.machine_correctness.code_rules.StackNumbers.{HasStack};
+ghost use Rattle.command_eval.specs.machine_correctness.Meant.{ArePrintable};
 ghost use Rattle.command_eval.specs.command_source.Entries.{IsFunctionOf};
 ghost use Rattle.command_eval.specs.command_source.ProgramCode.{IsEntryOf};
 ghost use Rattle.command_eval.specs.command_source.Wanted.{Compiled, IsReady};

@@ -9,19 +9,19 @@ use Rattle.cell_code.specs.declared.kind.Label.{Label}
 use Rattle.program_front.specs.cell_lower.Limits.{registers, registers_of}
 use Rattle.program_front.specs.cell_lower.Lowered.{all_instrs}
 use Rattle.program_front.specs.cell_lower.Sizes.{IsSmall, AreSmall}
-use Rattle.compiler_correctness.proofs.SoundnessWhole.{is_asked}
+use Rattle.machine_correctness.proofs.compiler_correctness.SoundnessWhole.{is_asked}
 use Rattle.program_front.specs.cell_lower.LaidProgram.{IsAsked, IsLaidOut}
 use Rattle.code_bytes.specs.Operands.{most_operands, HaveFew}
 use Rattle.code_bytes.proofs.Whole.{laid_narrow}
-use Rattle.compiler_correctness.specs.code_size.Bounds.{IsWithin, most_for, most_labels}
+use Rattle.machine_correctness.specs.compiler_correctness.code_size.Bounds.{IsWithin, most_for, most_labels}
 use Rattle.fip_proof.specs.credit_check.Tallies.{all_needs}
-use Rattle.compiler_correctness.specs.code_size.Places.{places}
+use Rattle.machine_correctness.specs.compiler_correctness.code_size.Places.{places}
 use Rattle.program_front.specs.cell_lower.Shape.{header, headers}
-use Rattle.compiler_correctness.specs.machine_semantics.Codes as R
-use Rattle.compiler_correctness.specs.lowering_relation.LoweredBodies.{function_of}
-use Rattle.compiler_correctness.specs.lowering_relation.LoweredFunctions.{AreLowered}
-use Rattle.compiler_correctness.specs.lower_frame.Spelled.{AreSpelt}
-use Rattle.compiler_correctness.proofs.EncodingWhole.{typed_has_file}
+use Rattle.machine_correctness.specs.compiler_correctness.machine_semantics.Codes as R
+use Rattle.machine_correctness.specs.compiler_correctness.lowering_relation.LoweredBodies.{function_of}
+use Rattle.machine_correctness.specs.compiler_correctness.lowering_relation.LoweredFunctions.{AreLowered}
+use Rattle.machine_correctness.specs.compiler_correctness.lower_frame.Spelled.{AreSpelt}
+use Rattle.machine_correctness.proofs.compiler_correctness.EncodingWhole.{typed_has_file}
 use Rattle.code_file.specs.CodeText.{CodeText}
 use Rattle.code_file.specs.Plain.{PlainFunction, plain_code, plain_function, plain_label}
 use Rattle.code_file.specs.declared.tags.Version.TheVariants.{Second}

@@ -13,7 +13,7 @@ use Rattle.fip_proof.specs.Ready.{IsReady as IsReadyToDerive}
 use Rattle.fip_proof.specs.derivation_text.ProofText.{IsProofText, lines_text}
 use Rattle.program_front.specs.source_report.Report.{bare, IsAccepted}
 use Rattle.program_front.proofs.source_report.Once.{accepted_once}
-use Rattle.compiler_correctness.proofs.derivation_correctness.Whole.{ready, is_read, derived, lean}
+use Rattle.machine_correctness.proofs.compiler_correctness.derivation_correctness.Whole.{ready, is_read, derived, lean}
 use Rattle.command_source.specs.Derived.{made, IsDerivedFile, IsUnderived, KeepsFromDerive}
 use Rattle.command_source.specs.Wanted.{Lawful, IsReady, IsRefusedBy}
 

@@ -7,8 +7,9 @@ pub mod Compiling
 pub mod Rooted
 pub mod Deriving
 pub mod Entries
-pub use Rattle.compiler_correctness.proofs.fip_grammar as fip_grammar
+pub use Rattle.machine_correctness.proofs.compiler_correctness.fip_grammar as fip_grammar
 pub use Rattle.program_front.proofs.source_report as source_report
-pub use Rattle.compiler_correctness.proofs.source_safety as source_safety
-pub use Rattle.compiler_correctness.proofs.specialisation_correctness as specialisation_correctness
+pub use Rattle.machine_correctness.proofs.compiler_correctness.source_safety as source_safety
+pub use Rattle.machine_correctness.proofs.compiler_correctness.specialisation_correctness as specialisation_correctness
 pub use Rattle.program_front.proofs.static_params as static_params
+pub use Rattle.machine_correctness.proofs as machine_correctness

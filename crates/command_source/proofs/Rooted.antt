@@ -17,7 +17,7 @@ use Rattle.code_verify.specs.code_rules.Codes as S
 use Rattle.command_outcome.specs.declared.failure.Failure.{Failure}
 use Rattle.command_outcome.specs.declared.failure.Failure.TheVariants as F
 use Rattle.program_front.specs.source_report.Report.{IsAccepted}
-use Rattle.compiler_correctness.proofs.Headers.{typed_named}
+use Rattle.machine_correctness.proofs.compiler_correctness.Headers.{typed_named}
 use Rattle.command_source.specs.Codes.{has_named, names_one}
 use Rattle.command_source.specs.ProgramCode.{IsLoweredFrom}
 use Rattle.command_source.specs.Roots.{root_named}

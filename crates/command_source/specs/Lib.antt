@@ -10,4 +10,5 @@ pub use Rattle.program_front.specs.data_types as data_types
 pub use Rattle.fip_trees.specs as fip_trees
 pub use Rattle.program_front.specs.source_report as source_report
 pub use Rattle.program_front.specs.static_params as static_params
-pub use Rattle.compiler_correctness.specs.type_safety as type_safety
+pub use Rattle.machine_correctness.specs.compiler_correctness.type_safety as type_safety
+pub use Rattle.machine_correctness.specs as machine_correctness

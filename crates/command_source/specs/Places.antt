@@ -4,7 +4,7 @@
 use Rattle.std.specs.Prelude.{ℕ, ◌==◌, if◌then◌else◌, List, [], ◌∷◌, take, Option, Some, None}
 use Rattle.fip_language.specs.declared.Place.{Place}
 use Rattle.fip_base.specs.declared.refusal.Refusal.{Refusal}
-use Rattle.compiler_correctness.specs.fip_grammar.Cut.{first_place, along, next_line}
+use Rattle.machine_correctness.specs.compiler_correctness.fip_grammar.Cut.{first_place, along, next_line}
 
 -- the place behind a byte
 abbrev pub behind_byte : Place → ℕ → Place

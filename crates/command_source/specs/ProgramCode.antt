@@ -21,13 +21,13 @@ use Rattle.fip_trees.specs.Tree.{Instance, Program}
 use Rattle.program_front.specs.tail_groups.Members.{AreMembers}
 use Rattle.cell_code.specs.declared.code.Instr.{Instr}
 use Rattle.program_front.specs.cell_lower.Shape.{Header, headers}
-use Rattle.compiler_correctness.specs.code_size.Bounds.{IsWithin}
+use Rattle.machine_correctness.specs.compiler_correctness.code_size.Bounds.{IsWithin}
 use Rattle.code_bytes.specs.Operands.{most_operands, HaveFew}
 use Rattle.code_file.specs.CodeText.{CodeText}
 use Rattle.code_file.specs.Plain.{PlainFunction, PlainCode, plain_code}
 use Rattle.code_file.specs.declared.tags.Version.TheVariants.{Second}
-use Rattle.compiler_correctness.specs.lowering_relation.LoweredBodies.{function_of}
-use Rattle.compiler_correctness.specs.lowering_relation.LoweredFunctions.{AreLowered}
+use Rattle.machine_correctness.specs.compiler_correctness.lowering_relation.LoweredBodies.{function_of}
+use Rattle.machine_correctness.specs.compiler_correctness.lowering_relation.LoweredFunctions.{AreLowered}
 use Rattle.code_verify.specs.code_rules.Breaks.{IsSound}
 use Rattle.code_verify.specs.code_rules.StackNumbers.{HasStack}
 use Rattle.program_front.specs.source_report.Report.{bare, IsAccepted}

@@ -9,7 +9,7 @@ ghost use Rattle.command_outcome.specs.Stages.{IsOfSource};
 ghost use Rattle.command_outcome.specs.declared.failure.Failure.TheVariants.{NoMemory};
 ghost use Rattle.fip_trees.specs.TreeView as V;
 ghost use Rattle.fip_proof.specs.credit_check.Tallies.{all_needs};
-ghost use Rattle.compiler_correctness.specs.lower_frame.Spelled.{AreSpelt};
+ghost use Rattle.machine_correctness.specs.compiler_correctness.lower_frame.Spelled.{AreSpelt};
 ghost use Rattle.program_front.specs.source_report.Report.{bare, IsAccepted, IsMatched, Says};
 ghost use Rattle.command_source.specs.Wanted.{Wanted, Lawful, IsReport, IsRefusedBy, KeepsFrom};
 ghost use Rattle.program_front.specs.Unmatched.{IsUnmatched};

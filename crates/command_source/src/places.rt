@@ -1,6 +1,6 @@
 // Line and column of a report.
 ghost use Rattle.std.specs.Prelude.{◌≡◌, ◌+◌, ◌<◌, ◌^◌, length};
-ghost use Rattle.compiler_correctness.specs.fip_grammar.Cut.{first_place};
+ghost use Rattle.machine_correctness.specs.compiler_correctness.fip_grammar.Cut.{first_place};
 ghost use Rattle.command_source.specs.Places as P;
 
 use fip_base::plain::Place;

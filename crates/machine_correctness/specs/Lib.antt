@@ -18,3 +18,4 @@ pub use Rattle.run_loading.specs.separation as separation
 pub use Rattle.compiler_correctness.specs.source_report as source_report
 pub use Rattle.compiler_correctness.specs.tail_groups as tail_groups
 pub use Rattle.run_loading.specs.tree_refinement as tree_refinement
+pub use Rattle.compiler_correctness.specs as compiler_correctness

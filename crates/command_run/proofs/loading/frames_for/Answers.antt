@@ -1,7 +1,7 @@
 use Rattle.std.proofs.Common.{subst}
 use Rattle.fip_machine.specs.code_verify.Checked.{Checked}
-use Rattle.machine_correctness.specs.code_rules.Breaks.{IsSound}
-use Rattle.machine_correctness.specs.code_rules.Codes.{plain}
+use Rattle.command_eval.specs.machine_correctness.code_rules.Breaks.{IsSound}
+use Rattle.command_eval.specs.machine_correctness.code_rules.Codes.{plain}
 use Rattle.command_run.proofs.Beginning.{bounded}
 use Rattle.command_run.proofs.loading.frames_for.Goals as goal
 

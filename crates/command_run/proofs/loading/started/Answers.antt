@@ -3,8 +3,8 @@ use Rattle.std.proofs.lemmas.Result.{err_from_is_err_and}
 use Rattle.fip_machine.specs.cell_code.declared.code.Code.{Code}
 use Rattle.fip_machine.specs.code_verify.Checked.{Checked}
 use Rattle.command_words.specs.View.{room_of}
-use Rattle.machine_correctness.specs.code_rules.Breaks.{IsSound}
-use Rattle.machine_correctness.specs.code_rules.Codes.{plain, plain_function}
+use Rattle.command_eval.specs.machine_correctness.code_rules.Breaks.{IsSound}
+use Rattle.command_eval.specs.machine_correctness.code_rules.Codes.{plain, plain_function}
 use Rattle.value_text.specs.Loaded.{types_of, IsGiven}
 use Rattle.command_run.specs.Starting.{IsInNewStore, KeepsFromLoading}
 use Rattle.command_run.proofs.Beginning.{is_loadable, kept, moved, started}

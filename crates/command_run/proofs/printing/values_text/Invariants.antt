@@ -1,7 +1,7 @@
 use Rattle.fip_language.specs.PrintedText.{printed_lines}
 use Rattle.fip_language.specs.Values.{Values}
 use Rattle.fip_machine.specs.machine_cells.Small.{IsSmall}
-use Rattle.machine_correctness.specs.Meant.{ArePrintable}
+use Rattle.command_eval.specs.machine_correctness.Meant.{ArePrintable}
 use Rattle.command_run.proofs.Lines.{IsPrinting}
 use Rattle.command_run.proofs.printing.values_text.Given as goal
 

@@ -2,10 +2,10 @@ use Rattle.std.proofs.Common.{subst}
 use Rattle.fip_machine.specs.code_verify.Checked.{Checked, HasMachineInts}
 use Rattle.command_words.specs.View.{room_of}
 use Rattle.fip_machine.specs.GaugeView.{IsUnseen}
-use Rattle.machine_correctness.specs.code_rules.Breaks.{IsSound}
-use Rattle.machine_correctness.specs.code_rules.Codes.{plain}
-use Rattle.machine_correctness.specs.code_rules.Tables.{AreSoundTables}
-use Rattle.machine_correctness.proofs.Literals.{has_literals}
+use Rattle.command_eval.specs.machine_correctness.code_rules.Breaks.{IsSound}
+use Rattle.command_eval.specs.machine_correctness.code_rules.Codes.{plain}
+use Rattle.command_eval.specs.machine_correctness.code_rules.Tables.{AreSoundTables}
+use Rattle.command_eval.proofs.machine_correctness.Literals.{has_literals}
 use Rattle.command_run.proofs.Entry as N
 use Rattle.command_run.proofs.Execs as X
 use Rattle.command_run.proofs.FileTypes.{file_table}

@@ -2,9 +2,9 @@ use Rattle.std.proofs.Common.{subst}
 use Rattle.fip_trees.specs.TreeView.{program}
 use Rattle.program_front.specs.cell_lower.LaidProgram.{IsAsked, IsLaidOut}
 use Rattle.code_verify.specs.code_rules.Codes.{plain}
-use Rattle.compiler_correctness.proofs.SoundnessFunctions.{headed_in_memory}
-use Rattle.compiler_correctness.proofs.SoundnessWhole.{laid_out_is_sound}
-use Rattle.compiler_correctness.proofs.StackNumbers.{laid_out_has_stacks}
+use Rattle.machine_correctness.proofs.compiler_correctness.SoundnessFunctions.{headed_in_memory}
+use Rattle.machine_correctness.proofs.compiler_correctness.SoundnessWhole.{laid_out_is_sound}
+use Rattle.machine_correctness.proofs.compiler_correctness.StackNumbers.{laid_out_has_stacks}
 use Rattle.command_source.proofs.Compiling.{headed, lists_few}
 use Rattle.command_source.proofs.Told.{report_keeps}
 use Rattle.command_source.proofs.phases.lawful.Goals as goal

@@ -1,5 +1,5 @@
 use Rattle.std.proofs.Common.{◌≡◌, ◌≤◌, ◌+◌, drop}
-use Rattle.compiler_correctness.specs.fip_grammar.Cut.{first_place}
+use Rattle.machine_correctness.specs.compiler_correctness.fip_grammar.Cut.{first_place}
 use Rattle.command_source.specs.Places as P
 use Rattle.command_source.proofs.places.behind_bytes.Given as goal
 

@@ -306,6 +306,12 @@ pub record Known (n : ℕ) (ws : List ℕ) (p : ℕ) : Type 0 where
 pub known : (n : ℕ) (ws : List ℕ) (p : ℕ) → Laid n ws → cell_at (parse n ws) p ≢ None → Known n ws p
 known n ws p l h = let t = there (cell_at (parse n ws) p) h in record { cell = t.0; is = t.1; found = found n ws p t.0 l t.1 }
 
+-- a header is read alike whatever stands past the words
+pub read_twice : (ws : List ℕ) (p : ℕ) → Laid 0 ws → cell_at (parse 0 ws) p ≢ None → get_or ws p 0 ≡ get_or ws p (get_or ws p 0)
+read_twice ws p l h =
+    let f = (known 0 ws p l h).found in
+    get_or_from_slice_get ws p f.head 0 f.read ∙ sym (get_or_from_slice_get ws p f.head (get_or ws p 0) f.read)
+
 -- only cells are released
 pub released_there : (n : ℕ) (ws : List ℕ) (p : ℕ) → slice_get (flags n ws) p ≡ Some true → cell_at (parse n ws) p ≢ None
 released_there n [] p e = absurd (none-some true e)

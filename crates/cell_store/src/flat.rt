@@ -2,7 +2,7 @@
 // the cell is released, and the fields behind it.
 ghost use Rattle.std.specs.Prelude.{◌≡◌, ◌≢◌, ℕ, ◌+◌, ◌*◌, ◌<◌, ◌≤◌, ◌^◌, ◌↔◌, Bool, false, true, [], ◌∷◌, ◌++◌, None};
 ghost use Rattle.std.specs.Prelude.{Some, Err, IsTrue, IfOk, OnOk, OnErr, IfSome, IfNone, MatchOption, length, vec_len};
-ghost use Rattle.std.specs.Prelude.{replicate, option_map, option_and_then, slice_get, slice_set};
+ghost use Rattle.std.specs.Prelude.{replicate, option_map, option_and_then, slice_get, slice_set, slice_index_or, ◌%◌};
 ghost use Rattle.std.specs.Vec.{vec_capacity};
 ghost use Rattle.fip_language.specs.declared.limits.TheConstants.{MOST_FIELDS, MOST_STORE_WORDS};
 ghost use Rattle.fip_language.specs.Store.{Cell};
@@ -52,14 +52,36 @@ impl Model for Flat {
         s.left };
 }
 
+// Puts words over those from `start` on.
+#[inline(always)]
+fn write_slice(words: &mut [u64], start: usize, new: &[u64])
+    requires room { start + length new.now ≤ length words.old }
+    ensures written { words.new ≡ over_at words.old start new.now }
+{
+    for (i, word) in new.iter().enumerate() {
+        words[start + i] = *word;
+    }
+}
+
 fn write_words(words: &mut Vec<u64>, start: usize, new: &[u64])
     requires room { start + length new.now ≤ length words.old.items }
     ensures written { words.new.items ≡ over_at words.old.items start new.now }
     ensures same { vec_len words.new ≡ vec_len words.old }
 {
-    for (i, word) in new.iter().enumerate() {
-        words[start + i] = *word;
-    }
+    write_slice(words.as_mut_slice(), start, new);
+}
+
+// The cell at a place gets this constructor and these words, as many as it has, and stays released or not.
+#[inline(always)]
+fn rewrite(words: &mut Vec<u64>, place: usize, tag: u32, fields: &[u64])
+    requires room { place + 1 + length fields.now ≤ length words.old.items }
+    ensures written { words.new.items ≡ over_at (slice_set words.old.items place (64 * tag + 2 * length fields.now
+        + slice_index_or words.old.items place 0 % 2)) (place + 1) fields.now }
+    ensures same { vec_len words.new ≡ vec_len words.old }
+{
+    let words = words.as_mut_slice();
+    words[place] = 64 * tag as u64 + 2 * fields.len() as u64 + words[place] % 2;
+    write_slice(words, place + 1, fields);
 }
 
 // Puts the words of a cell behind the others, which may have to grow.
@@ -334,9 +356,7 @@ impl Flat {
         ensures pushed { self.new.pushed ≡ self.old.pushed }
         ensures left { self.new.left ≡ self.old.left }
     {
-        let place = p as usize;
-        self.words[place] = 64 * tag as u64 + 2 * fields.len() as u64 + self.words[place] % 2;
-        write_words(&mut self.words, place + 1, fields);
+        rewrite(&mut self.words, p as usize, tag, fields);
     }
 
     /// Releases the cell at place p.

@@ -278,7 +278,7 @@ impl Walk {
             place,
             annotation: None,
         };
-        let mut binders = Vec::new(self.alloc);
+        let mut binders = Vec::with_capacity(self.alloc, 1)?;
         binders.push(binder)?;
         put(out, binders, bound)?;
         Ok(Argument::Variable {

@@ -43,7 +43,7 @@ module _ (s : D.Source) (i : ℕ) (f : FunctionSource) (l : IsLookedUp s) (h : i
       sym (twice (map use_of f.mentions.sites.items))
       ∙ ap reverse (ap (λ (g : Heard). g.sites) heard_there ∙ block_sites (declared_with s.decls.now []) true (nothing (length f.function.now.parameters.items)) (block f.function.now.body))
 
-  pub binders_there : f.mentions.binders ≡ binders_in (function_source f)
+  pub binders_there : length f.mentions.binders.items ≡ binders_in (function_source f)
   binders_there =
       ap (λ (g : Heard). g.binders) heard_there
       ∙ block_binders (declared_with s.decls.now []) (nothing (length f.function.now.parameters.items)) (block f.function.now.body)

@@ -3,7 +3,7 @@ use Rattle.std.proofs.Common.{◌≡◌, ℕ, zero, suc, ◌+◌, ◌<◌, Bool,
 use Rattle.std.specs.List.{list_any}
 use Rattle.reached_instances.specs.SharedTrees.{AreShared, same_branch}
 use Rattle.fip_base.specs.fip_language.Every.{Every}
-use Rattle.std.specs.Prelude.{◌&&◌, bytes_eq}
+use Rattle.std.specs.Prelude.{◌^◌, ◌&&◌, bytes_eq}
 use Rattle.reached_instances.specs.declared.closed.Head.{Head}
 use Rattle.reached_instances.specs.declared.closed.Head.TheVariants as H
 use Rattle.reached_instances.specs.Closed.{same_head}
@@ -47,7 +47,7 @@ so_many_rows [] = refl
 so_many_rows (k ∷ ks) = ap suc (so_many_rows ks)
 
 -- what the set says of its keys, as branches
-pub added_row : (r : D.Closed) (ks ls : List D.Closed) → ls ≡ (if list_any ((P.TheImpl.eq-value).it r) ks then ks else ks ++ r ∷ []) → AreShared (branches ks) → Every (λ i. i < length (branches ks) + 1) r.arguments.items → length ks < 4294967294 → Added (branches ks) (branch r) (branches ls)
+pub added_row : (r : D.Closed) (ks ls : List D.Closed) → ls ≡ (if list_any ((P.TheImpl.eq-value).it r) ks then ks else ks ++ r ∷ []) → AreShared (branches ks) → Every (λ i. i < length (branches ks) + 1) r.arguments.items → length ks < 2 ^ 63 → Added (branches ks) (branch r) (branches ls)
 added_row r ks ls e s w few =
     let n = so_many_rows ks in
     subst (Added (branches ks) (branch r)) (sym (ap branches e ∙ rows_after r ks)) (adds_branch (list_any (λ y. same_branch (branch r) y) (branches ks)) (branches ks) (branch r) refl s w (omega (arith, n, few)))

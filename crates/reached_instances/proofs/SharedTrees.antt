@@ -1,6 +1,7 @@
 -- Trees that share their parts stand for different closed trees.
 use Rattle.std.proofs.Common.{◌≡◌, ℕ, zero, suc, ◌+◌, ◌<◌, ◌≤◌, ◌⊎◌, inl, inr, Bool, true, false, ◌&&◌, List, [], ◌∷◌, ◌++◌, length, slice_get, get_or, Some, refl, ap, sym, subst, ◌∙◌, arith, if◌then◌else◌, append_assoc, append-nil}
 use Rattle.std.specs.List.{list_any}
+use Rattle.std.specs.Prelude.{◌^◌}
 use Rattle.std.proofs.lemmas.List.{get_or_append_left}
 use Rattle.std.proofs.lemmas.Slice.Eq.{bytes_eq-Decides}
 use Rattle.reached_instances.specs.Closed.{Closed, Int, Applied, MoreClosed, same_closed}
@@ -196,7 +197,7 @@ pub record Added (bs : List Branch) (b : Branch) (cs : List Branch) : Type 0 whe
   pub trees : trees cs ≡ with_new same_closed (trees bs) (tree_of (trees bs) b)
   pub shared : AreShared cs
 
-pub adds_branch : (x : Bool) (bs : List Branch) (b : Branch) → list_any (λ y. same_branch b y) bs ≡ x → AreShared bs → Every (λ i. i < length bs + 1) b.arguments → length bs < 4294967294 → Added bs b (if x then bs else bs ++ b ∷ [])
+pub adds_branch : (x : Bool) (bs : List Branch) (b : Branch) → list_any (λ y. same_branch b y) bs ≡ x → AreShared bs → Every (λ i. i < length bs + 1) b.arguments → length bs < 2 ^ 63 → Added bs b (if x then bs else bs ++ b ∷ [])
 adds_branch true bs b e s w few =
     let t = tree_of (trees bs) b in
     let a = any_is same_closed closed_exact t (trees bs) _ refl (tree_among bs b s.before (found same_branch branch_exact b bs e)) in

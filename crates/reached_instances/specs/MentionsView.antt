@@ -1,5 +1,5 @@
 -- For the contracts of the code alone: what has been heard of a body when a walk has come so far, and how it goes on.
-use Rattle.std.specs.Prelude.{ℕ, ◌+◌, List, [], ◌∷◌, ◌++◌, map, reverse, Option, nat_eq}
+use Rattle.std.specs.Prelude.{ℕ, ◌+◌, List, [], ◌∷◌, ◌++◌, length, map, reverse, Option, nat_eq}
 use Rattle.fip_base.specs.fip_language.Core.{Name, Written, WrittenName, Binder, Argument, Variable, Literal, Constructor}
 use Rattle.fip_base.specs.fip_language.Core.{Arguments, NoArguments, MoreArguments, Pattern, BinderPattern, LiteralPattern}
 use Rattle.fip_base.specs.fip_language.Core.{ConstructorPattern, Patterns, NoPatterns, MorePatterns, Expression, Give, Tuple}
@@ -33,7 +33,7 @@ heard m = record {
   sites = reverse (map use_of m.sites.items);
   annotations = map (λ w. V.written w.now) m.annotations.items;
   named = m.named.keys;
-  binders = m.binders;
+  binders = length m.binders.items;
 }
 
 abbrev pub with_site : Heard → Written → Heard

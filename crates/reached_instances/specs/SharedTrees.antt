@@ -48,7 +48,7 @@ AreBefore n (b ∷ bs) = Every (λ i. i < n) b.arguments × AreBefore (suc n) bs
 pub record AreShared (bs : List Branch) : Type 0 where
   pub before : AreBefore 1 bs
   pub differ : Differ (trees bs)
-  pub few : length bs + 1 < 2 ^ 32
+  pub few : length bs + 1 < 2 ^ 64
 
 -- whether two branches are the same
 abbrev pub same_branch : Branch → Branch → Bool

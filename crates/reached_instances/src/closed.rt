@@ -23,16 +23,16 @@ pub enum Head {
 #[derive(Drop, PartialEq, Eq, Hash)]
 pub struct Closed {
     pub head: Head,
-    pub arguments: Vec<u32>,
+    pub arguments: Vec<usize>,
 }
 
 /// A closed function in the place of a function parameter. What is given for the type parameters beside it stands in
 /// the tree at `there`, in which the functions are left out.
 #[derive(Clone, Copy, PartialEq, Eq, Hash)]
 pub struct Passing {
-    pub there: u32,
+    pub there: usize,
     pub parameter: usize,
-    pub passed: u32,
+    pub passed: usize,
 }
 
 /// Closed trees, each once, behind its arguments. The tree at place 0 is int.
@@ -79,7 +79,7 @@ impl Shared {
 
     /// The place of a tree, which is put behind the others where it is new. Where an argument is no place of a tree it
     /// is int.
-    pub fn share(&mut self, head: Head, arguments: Vec<u32>) -> Result<u32, NoMemory>
+    pub fn share(&mut self, head: Head, arguments: Vec<usize>) -> Result<usize, NoMemory>
         ensures grows { OnOk result (Grows self.old.branches self.new.branches) }
         ensures fits { OnOk result (self.new.fits ≡ self.old.fits) }
         ensures within { IfOk result (λ i. i < length self.new.branches + 1) }
@@ -95,14 +95,14 @@ impl Shared {
     }
 
     // Whether trees stand at all of these places.
-    fn are_within(&self, places: &[u32]) -> bool
+    fn are_within(&self, places: &[usize]) -> bool
         ensures yes { result ≡ true → AreWithin self.now.branches places.now }
         ensures no { AreWithin self.now.branches places.now → result ≡ true }
     {
         are_below(self.trees.len(), places)
     }
 
-    fn put(&mut self, head: Head, arguments: Vec<u32>) -> Result<u32, NoMemory>
+    fn put(&mut self, head: Head, arguments: Vec<usize>) -> Result<usize, NoMemory>
         requires within { AreWithin self.old.branches arguments.items }
         ensures grows { OnOk result (Grows self.old.branches self.new.branches) }
         ensures fits { OnOk result (self.new.fits ≡ self.old.fits) }
@@ -110,26 +110,24 @@ impl Shared {
         ensures place { IfOk result (λ i. tree_at (trees self.new.branches) i ≡
             Applied head (trees_at (trees self.old.branches) arguments.items)) }
     {
-        if self.trees.len() >= u32::MAX as usize - 1 {
-            return Err(NoMemory);
-        }
+        let _before = self.trees.len();
         let (at, _) = self.trees.insert_full(Closed { head, arguments })?;
-        Ok(at as u32 + 1)
+        Ok(at + 1)
     }
 
     /// The tree at a place; none at that of int.
-    pub fn at(&self, place: u32) -> Option<&Closed>
+    pub fn at(&self, place: usize) -> Option<&Closed>
         ensures { MatchOption result ((place ≡ 0) ⊎ (slice_get self.now.branches (place - 1) ≡ None))
             (λ c. (1 ≤ place) × (slice_get self.now.branches (place - 1) ≡ Some (branch c.now))) }
     {
         match place.checked_sub(1) {
-            Some(index) => self.trees.get_index(index as usize),
+            Some(index) => self.trees.get_index(index),
             None => None,
         }
     }
 
     /// The head of the tree at a place; none at that of int.
-    pub fn head_at(&self, place: u32) -> Option<Head>
+    pub fn head_at(&self, place: usize) -> Option<Head>
         ensures { result ≡ head_of (tree_at (trees self.now.branches) place) }
     {
         self.hold();
@@ -140,7 +138,7 @@ impl Shared {
     }
 
     /// The places of the arguments of the tree at a place; int has none.
-    pub fn arguments_at(&self, alloc: Global, place: u32) -> Result<Vec<u32>, NoMemory>
+    pub fn arguments_at(&self, alloc: Global, place: usize) -> Result<Vec<usize>, NoMemory>
         ensures within { IfOk result (λ v. AreWithin self.now.branches v.items) }
         ensures trees { IfOk result (λ v. trees_at (trees self.now.branches) v.items ≡
             arguments_of (tree_at (trees self.now.branches) place)) }
@@ -174,12 +172,12 @@ impl Shared {
 }
 
 // Whether these places are at most n.
-fn are_below(n: usize, places: &[u32]) -> bool
+fn are_below(n: usize, places: &[usize]) -> bool
     ensures yes { result ≡ true → Every (λ i. i < n + 1) places.now }
     ensures no { Every (λ i. i < n + 1) places.now → result ≡ true }
 {
     for place in places {
-        if *place as usize > n {
+        if *place > n {
             return false;
         }
     }
@@ -187,7 +185,7 @@ fn are_below(n: usize, places: &[u32]) -> bool
 }
 
 /// A copy of places.
-pub fn copied(alloc: Global, places: &[u32]) -> Result<Vec<u32>, NoMemory>
+pub fn copied(alloc: Global, places: &[usize]) -> Result<Vec<usize>, NoMemory>
     ensures { IfOk result (λ v. v.items ≡ places.now) }
 {
     let mut copy = Vec::new(alloc);

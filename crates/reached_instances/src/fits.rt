@@ -33,7 +33,7 @@ impl<'s, 'a> Source<'s, 'a> {
         here: &Here,
         function: usize,
         statics: &[Written],
-        arguments: &[Option<u32>],
+        arguments: &[Option<usize>],
         least: &mut Least,
     ) -> Result<bool, NoMemory>
         ensures grows { OnOk result (Grows shared.old.branches shared.new.branches) }
@@ -73,9 +73,9 @@ impl<'s, 'a> Source<'s, 'a> {
         shared: &mut Shared,
         here: &Here,
         there: &Here,
-        place: u32,
+        place: usize,
         statics: &[Written],
-        arguments: &[Option<u32>],
+        arguments: &[Option<usize>],
         least: &mut Least,
     ) -> Result<bool, NoMemory>
         ensures grows { OnOk result (Grows shared.old.branches shared.new.branches) }
@@ -110,10 +110,10 @@ impl<'s, 'a> Source<'s, 'a> {
         &self,
         shared: &mut Shared,
         there: &Here,
-        place: u32,
+        place: usize,
         number: usize,
         parameter: &Static,
-        argument: Option<u32>,
+        argument: Option<usize>,
     ) -> Result<bool, NoMemory>
         ensures grows { OnOk result (Grows shared.old.branches shared.new.branches) }
         ensures right { IsRight self.now shared.old → S.IsAsked shared.old.branches place there.now →
@@ -186,7 +186,7 @@ impl<'s, 'a> Source<'s, 'a> {
         &self,
         shared: &mut Shared,
         there: &Here,
-        passed: u32,
+        passed: usize,
         parameters: &[SignatureParameter],
         given: &ResultType,
     ) -> Result<bool, NoMemory>
@@ -319,7 +319,7 @@ impl<'s, 'a> Source<'s, 'a> {
         shared: &mut Shared,
         here: &Here,
         given: &ResultType,
-    ) -> Result<Vec<u32>, NoMemory>
+    ) -> Result<Vec<usize>, NoMemory>
         ensures grows { OnOk result (Grows shared.old.branches shared.new.branches) }
         ensures fits { OnOk result (shared.new.fits ≡ shared.old.fits) }
         ensures within { S.IsReady self.now shared.old.branches here.now →
@@ -347,7 +347,7 @@ impl<'s, 'a> Source<'s, 'a> {
         shared: &mut Shared,
         here: &Here,
         list: &[Written],
-    ) -> Result<Vec<u32>, NoMemory>
+    ) -> Result<Vec<usize>, NoMemory>
         ensures grows { OnOk result (Grows shared.old.branches shared.new.branches) }
         ensures fits { OnOk result (shared.new.fits ≡ shared.old.fits) }
         ensures within { S.IsReady self.now shared.old.branches here.now →
@@ -382,13 +382,13 @@ fn states_none(credits: &[CreditMark]) -> bool
     credits.is_empty()
 }
 
-fn are_same(places: &[u32], others: &[u32]) -> bool
+fn are_same(places: &[usize], others: &[usize]) -> bool
     ensures { result ≡ bytes_eq places.now others.now }
 {
     places == others
 }
 
-fn argument_at(arguments: &[Option<u32>], number: usize) -> Option<u32>
+fn argument_at(arguments: &[Option<usize>], number: usize) -> Option<usize>
     ensures { result ≡ argument_or_none (slice_get arguments.now number) }
 {
     match arguments.get(number) {
@@ -441,8 +441,8 @@ pub fn applied_function(
     shared: &mut Shared,
     function: usize,
     fit: bool,
-    arguments: &[Option<u32>],
-) -> Result<Option<u32>, NoMemory>
+    arguments: &[Option<usize>],
+) -> Result<Option<usize>, NoMemory>
     ensures grows { OnOk result (Grows shared.old.branches shared.new.branches) }
     ensures fits { OnOk result (shared.new.fits ≡ shared.old.fits) }
     ensures closed { AreAllWithin shared.old.branches arguments.now → IfOk result (λ o. IsPlaceOf shared.new.branches o
@@ -462,7 +462,7 @@ pub fn applied_function(
 }
 
 // All of the places; none where one of them is missing.
-fn all_of(alloc: Global, arguments: &[Option<u32>]) -> Result<Option<Vec<u32>>, NoMemory>
+fn all_of(alloc: Global, arguments: &[Option<usize>]) -> Result<Option<Vec<usize>>, NoMemory>
     ensures within { (bs : List Branch) → AreAllWithin bs arguments.now → IfOk result (λ o. AreWithinIfSome bs o) }
     ensures trees { (ts : List Closed) → IfOk result (λ o. trees_of ts o ≡ U.all_given (all_trees ts arguments.now)) }
 {
@@ -481,8 +481,8 @@ fn all_of(alloc: Global, arguments: &[Option<u32>]) -> Result<Option<Vec<u32>>, 
 fn types_of(
     alloc: Global,
     parameters: &[Static],
-    arguments: &[Option<u32>],
-) -> Result<Option<Vec<u32>>, NoMemory>
+    arguments: &[Option<usize>],
+) -> Result<Option<Vec<usize>>, NoMemory>
     ensures within { (bs : List Branch) → AreAllWithin bs arguments.now → IfOk result (λ o. AreWithinIfSome bs o) }
     ensures trees { (ts : List Closed) → get_or ts 0 Int ≡ Int → IfOk result (λ o. trees_of ts o ≡
         U.types_given (map V.static parameters.now) (all_trees ts arguments.now)) }
@@ -503,7 +503,7 @@ fn types_of(
 }
 
 // What is given for a static parameter where that is a type, and else int.
-fn type_of(parameter: &Static, argument: Option<u32>) -> Option<u32>
+fn type_of(parameter: &Static, argument: Option<usize>) -> Option<usize>
     ensures { result ≡ type_or_int (V.static parameter.now) argument }
 {
     match parameter {

@@ -39,7 +39,7 @@ impl<'r, 's, 'a> Reaching for Instances<'r, 's, 'a> {
 
     ghost breaks = { λ i. faults_of (S.source i.source.now) };
 
-    fn starts(&self, alloc: Global, shared: &mut Shared) -> Result<Vec<u32>, NoMemory> {
+    fn starts(&self, alloc: Global, shared: &mut Shared) -> Result<Vec<usize>, NoMemory> {
         let mut places = Vec::new(alloc);
         let mut number = 0;
         for found in &self.source.functions {
@@ -54,9 +54,9 @@ impl<'r, 's, 'a> Reaching for Instances<'r, 's, 'a> {
         alloc: Global,
         shared: &mut Shared,
         number: usize,
-        place: u32,
+        place: usize,
         least: &mut Least,
-    ) -> Result<Vec<u32>, NoMemory> {
+    ) -> Result<Vec<usize>, NoMemory> {
         match self.source.here(shared, place, number)? {
             Some(here) => {
                 let places = self.source.callees(shared, &here, least)?;
@@ -74,7 +74,7 @@ impl<'s, 'a> Source<'s, 'a> {
         shared: &mut Shared,
         here: &Here,
         least: &mut Least,
-    ) -> Result<Vec<u32>, NoMemory>
+    ) -> Result<Vec<usize>, NoMemory>
         ensures grows { OnOk result (Grows shared.old.branches shared.new.branches) }
         ensures right { IsRight self.now shared.old → AreWithin shared.old.branches here.now.given.items →
             OnOk result (IsRight self.now shared.new) }
@@ -104,7 +104,7 @@ impl<'s, 'a> Source<'s, 'a> {
         here: &Here,
         sites: &[CallSite<'_>],
         least: &mut Least,
-    ) -> Result<Vec<u32>, NoMemory>
+    ) -> Result<Vec<usize>, NoMemory>
         ensures grows { OnOk result (Grows shared.old.branches shared.new.branches) }
         ensures right { IsRight self.now shared.old → AreWithin shared.old.branches here.now.given.items →
             OnOk result (IsRight self.now shared.new) }
@@ -133,7 +133,7 @@ fn put_root(
     shared: &mut Shared,
     number: usize,
     statics: &[Static],
-    places: &mut Vec<u32>,
+    places: &mut Vec<usize>,
 ) -> Result<(), NoMemory>
     ensures { AreWithin shared.old.branches places.old.items → OnOk result (Put shared.old shared.new
         places.old.items places.new.items (root_if (map V.static statics.now) number)) }
@@ -157,7 +157,7 @@ fn has_statics(statics: &[Static]) -> bool
     }
 }
 
-fn put_some(places: &mut Vec<u32>, place: Option<u32>) -> Result<(), NoMemory>
+fn put_some(places: &mut Vec<usize>, place: Option<usize>) -> Result<(), NoMemory>
     ensures { OnOk result (places.new.items ≡ with_place places.old.items place) }
 {
     if let Some(place) = place {
@@ -183,7 +183,7 @@ impl<'r, 's, 'a> Reaching for Passed<'r, 's, 'a> {
 
     ghost breaks = { λ i n c. [] };
 
-    fn starts(&self, alloc: Global, _: &mut Shared) -> Result<Vec<u32>, NoMemory> {
+    fn starts(&self, alloc: Global, _: &mut Shared) -> Result<Vec<usize>, NoMemory> {
         let places = copied(alloc, self.instances.as_slice())?;
         Ok(places)
     }
@@ -193,9 +193,9 @@ impl<'r, 's, 'a> Reaching for Passed<'r, 's, 'a> {
         alloc: Global,
         shared: &mut Shared,
         _: usize,
-        place: u32,
+        place: usize,
         _: &mut Least,
-    ) -> Result<Vec<u32>, NoMemory> {
+    ) -> Result<Vec<usize>, NoMemory> {
         let arguments = shared.arguments_at(alloc, place)?;
         let places = functions_among(alloc, shared, &arguments)?;
         Ok(places)
@@ -203,7 +203,7 @@ impl<'r, 's, 'a> Reaching for Passed<'r, 's, 'a> {
 }
 
 // Those of the places at which a function stands.
-fn functions_among(alloc: Global, shared: &Shared, list: &[u32]) -> Result<Vec<u32>, NoMemory>
+fn functions_among(alloc: Global, shared: &Shared, list: &[usize]) -> Result<Vec<usize>, NoMemory>
     ensures { AreWithin shared.now.branches list.now → IfOk result (λ v. Put shared.now shared.now [] v.items
         (functions_among (trees_at (trees shared.now.branches) list.now))) }
 {
@@ -215,7 +215,7 @@ fn functions_among(alloc: Global, shared: &Shared, list: &[u32]) -> Result<Vec<u
 }
 
 // Puts a function behind the others; int and data types aren't put.
-fn put_function(shared: &Shared, place: u32, places: &mut Vec<u32>) -> Result<(), NoMemory>
+fn put_function(shared: &Shared, place: usize, places: &mut Vec<usize>) -> Result<(), NoMemory>
     ensures { place < length shared.now.branches + 1 → AreWithin shared.now.branches places.old.items →
         OnOk result (Put shared.now shared.now places.old.items places.new.items
         (functions_among (MoreClosed (tree_at (trees shared.now.branches) place) NoClosed))) }

@@ -9,7 +9,7 @@ ghost use Rattle.reached_instances.specs.SourceView as S;
 ghost use Rattle.reached_instances.specs.TypeInstances.{annotation_of, arity};
 
 use fip_base::core_form::{
-    Argument, Binder, Binding, Block, Clause, Expression, Function, Pattern, Written,
+    Argument, Binder, Binding, Block, Clause, Expression, Function, Parameter, Pattern, Written,
 };
 use fip_base::plain::{NoMemory, Place};
 use fip_trees::decls::{DeclaredType, Decls};
@@ -33,8 +33,8 @@ pub struct Mentions<'a> {
     pub annotations: Vec<&'a Written>,
     /// The data types without parameters whose constructors are named, each once.
     pub named: IndexSet<u32>,
-    /// How many binders there are, parameters included.
-    pub binders: usize,
+    /// The binders, those of the parameters first.
+    pub binders: Vec<&'a Binder>,
 }
 
 /// What the body of a function mentions.
@@ -51,10 +51,21 @@ pub fn mentions_of<'a>(
         sites: Vec::new(alloc),
         annotations: Vec::new(alloc),
         named: IndexSet::new(alloc),
-        binders: function.parameters.len(),
+        binders: parameter_binders(alloc, &function.parameters)?,
     };
     mentions.add_block(decls, &function.body)?;
     Ok(mentions)
+}
+
+// The binders of parameters.
+fn parameter_binders<'a>(alloc: Global, list: &'a [Parameter]) -> Result<Vec<&'a Binder>, NoMemory>
+    ensures { IfOk result (λ v. length v.items ≡ length list.now) }
+{
+    let mut binders = Vec::new(alloc);
+    for parameter in list {
+        binders.push(&parameter.binder)?;
+    }
+    Ok(binders)
 }
 
 impl<'a> Mentions<'a> {
@@ -163,10 +174,7 @@ impl<'a> Mentions<'a> {
         ensures { OnOk result (M.heard self.new ≡ M.with_annotation (M.heard self.old)
             (option_map V.written binder.now.annotation)) }
     {
-        match self.binders.checked_add(1) {
-            Some(binders) => self.binders = binders,
-            None => return Err(NoMemory),
-        }
+        self.binders.push(binder)?;
         self.add_annotation(&binder.annotation)
     }
 

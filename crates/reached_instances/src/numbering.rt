@@ -1,7 +1,7 @@
 // Numbers for what is reached: first what is there at the start, and then, in order of number, what each leads to that
 // has no number yet.
-ghost use Rattle.std.specs.Prelude.{◌≡◌, ℕ, ◌<◌, ◌≤◌, List, [], length, nat_eq, slice_get, get_or, None, IfOk, IfSome};
-ghost use Rattle.std.specs.Prelude.{false, true, OnOk};
+ghost use Rattle.std.specs.Prelude.{◌≡◌, ℕ, ◌<◌, ◌≤◌, ◌^◌, List, [], length, nat_eq, slice_get, get_or, None};
+ghost use Rattle.std.specs.Prelude.{IfOk, IfSome, OnOk, false, true};
 ghost use Rattle.std.specs.List.{position};
 ghost use Rattle.fip_trees.specs.Least.{after};
 ghost use Rattle.fip_trees.specs.declared.least.Violation.{Violation};
@@ -32,7 +32,7 @@ pub trait Reaching {
     ghost breaks: { Self → ℕ → Closed → List Violation };
 
     /// The places of what is there at the start.
-    fn starts(&self, alloc: Global, shared: &mut Shared) -> Result<Vec<u32>, NoMemory>
+    fn starts(&self, alloc: Global, shared: &mut Shared) -> Result<Vec<usize>, NoMemory>
         ensures started { Self.is_right self.now shared.old → IfOk result (λ v. Started (Self.is_right self.now)
             (Self.starts self.now shared.old) shared.old shared.new v.items) };
 
@@ -42,9 +42,9 @@ pub trait Reaching {
         alloc: Global,
         shared: &mut Shared,
         number: usize,
-        place: u32,
+        place: usize,
         least: &mut Least,
-    ) -> Result<Vec<u32>, NoMemory>
+    ) -> Result<Vec<usize>, NoMemory>
         ensures visited { Self.is_right self.now shared.old → IfOk result (λ v. Started (Self.is_right self.now)
             (Self.next self.now (tree_at (trees shared.old.branches) place)) shared.old shared.new v.items) }
         ensures least { Self.is_right self.now shared.old → OnOk result (least.new ≡
@@ -54,7 +54,7 @@ pub trait Reaching {
 /// Places, each once, in the order in which they came.
 #[derive(Drop)]
 pub struct Places {
-    set: IndexSet<u32>,
+    set: IndexSet<usize>,
 }
 
 impl Model for Places {
@@ -72,7 +72,7 @@ impl Places {
         }
     }
 
-    fn add_all(&mut self, places: &[u32]) -> Result<(), NoMemory>
+    fn add_all(&mut self, places: &[usize]) -> Result<(), NoMemory>
         ensures added { OnOk result (self.new ≡ with_all nat_eq self.old places.now) }
     {
         for place in places {
@@ -82,7 +82,7 @@ impl Places {
     }
 
     /// The places, in order.
-    pub fn as_slice(&self) -> &[u32]
+    pub fn as_slice(&self) -> &[usize]
         ensures same { result.now ≡ self.now }
     {
         self.set.as_slice()
@@ -91,19 +91,20 @@ impl Places {
     /// How many there are.
     pub fn len(&self) -> usize
         ensures count { result ≡ length self.now }
+        ensures small { result < 2 ^ 63 }
     {
         self.set.len()
     }
 
     /// The place of a number.
-    pub fn at(&self, number: usize) -> Option<u32>
+    pub fn at(&self, number: usize) -> Option<usize>
         ensures { result ≡ slice_get self.now number }
     {
         self.set.get_index(number).copied()
     }
 
     /// The number of a place; none where it has none.
-    pub fn number_of(&self, place: u32) -> Option<usize>
+    pub fn number_of(&self, place: usize) -> Option<usize>
         ensures number { result ≡ position (nat_eq place) self.now }
         ensures within { IfSome result (λ i. i < length self.now) }
     {
@@ -111,7 +112,7 @@ impl Places {
     }
 }
 
-/// All that is reached, in the order of the numbers; none where it is more than the most.
+/// All that is reached, in the order of the numbers; none where it is more than the most. It is never 2^63 places.
 pub fn number<R: Reaching>(
     alloc: Global,
     reaching: &R,
@@ -120,6 +121,7 @@ pub fn number<R: Reaching>(
     least: &mut Least,
 ) -> Result<Option<Places>, NoMemory>
     ensures few { IfOk result (λ o. IfSome o (λ v. length v ≤ most)) }
+    ensures small { IfOk result (λ o. o ≡ None → most < 2 ^ 63) }
     ensures right { R.is_right reaching.now shared.old → OnOk result (R.is_right reaching.now shared.new) }
     ensures grows { R.is_right reaching.now shared.old →
         OnOk result (Grows shared.old.branches shared.new.branches) }
@@ -149,6 +151,7 @@ fn reach<R: Reaching>(
 ) -> Result<bool, NoMemory>
     requires empty { places.now ≡ [] }
     ensures few { IfOk result (λ all. all ≡ true → length places.new ≤ most) }
+    ensures small { IfOk result (λ all. all ≡ false → most < 2 ^ 63) }
     ensures right { R.is_right reaching.now shared.old → OnOk result (R.is_right reaching.now shared.new) }
     ensures grows { R.is_right reaching.now shared.old →
         OnOk result (Grows shared.old.branches shared.new.branches) }
@@ -201,7 +204,7 @@ fn add_next<R: Reaching>(
     alloc: Global,
     reaching: &R,
     number: usize,
-    place: u32,
+    place: usize,
     shared: &mut Shared,
     places: &mut Places,
     least: &mut Least,

@@ -36,7 +36,7 @@ pub struct FunctionSource<'s> {
 
 impl<'s> FunctionSource<'s> {
     // What is given for the type parameter of a name.
-    fn given_type(&self, given: &[u32], name: &[u8]) -> Option<u32>
+    fn given_type(&self, given: &[usize], name: &[u8]) -> Option<usize>
         ensures given { (ts : List Closed) → option_map (tree_at ts) result ≡
             type_at (map V.static self.now.function.now.statics.items) (trees_at ts given.now)
             (meaning name.now self.now.statics) }
@@ -49,7 +49,7 @@ impl<'s> FunctionSource<'s> {
     }
 
     // What is given for the function parameter of a name.
-    fn given_function(&self, given: &[u32], name: &[u8]) -> Option<u32>
+    fn given_function(&self, given: &[usize], name: &[u8]) -> Option<usize>
         ensures given { (ts : List Closed) → option_map (tree_at ts) result ≡
             function_at (map V.static self.now.function.now.statics.items) (trees_at ts given.now)
             (meaning name.now self.now.statics) }
@@ -63,7 +63,7 @@ impl<'s> FunctionSource<'s> {
 }
 
 // What is given for the static parameter at a place, where that is a type.
-fn type_given(statics: &[Static], given: &[u32], place: usize) -> Option<u32>
+fn type_given(statics: &[Static], given: &[usize], place: usize) -> Option<usize>
     ensures given { (ts : List Closed) → option_map (tree_at ts) result ≡
         if_type (slice_get (map V.static statics.now) place) (closed_at (trees_at ts given.now) place) }
     ensures within { (bs : List Branch) → AreWithin bs given.now → NoneOrWithin bs result }
@@ -76,7 +76,7 @@ fn type_given(statics: &[Static], given: &[u32], place: usize) -> Option<u32>
 }
 
 // What is given for the static parameter at a place, where that is a function.
-fn function_given(statics: &[Static], given: &[u32], place: usize) -> Option<u32>
+fn function_given(statics: &[Static], given: &[usize], place: usize) -> Option<usize>
     ensures given { (ts : List Closed) → option_map (tree_at ts) result ≡
         if_function (slice_get (map V.static statics.now) place) (closed_at (trees_at ts given.now) place) }
     ensures within { (bs : List Branch) → AreWithin bs given.now → NoneOrWithin bs result }
@@ -88,7 +88,7 @@ fn function_given(statics: &[Static], given: &[u32], place: usize) -> Option<u32
     }
 }
 
-fn at(places: &[u32], i: usize) -> Option<u32>
+fn at(places: &[usize], i: usize) -> Option<usize>
     ensures { result ≡ slice_get places.now i }
 {
     places.get(i).copied()
@@ -109,7 +109,7 @@ pub struct Source<'s, 'a> {
 #[derive(Drop)]
 pub struct Here {
     pub function: usize,
-    pub given: Vec<u32>,
+    pub given: Vec<usize>,
     pub number: usize,
 }
 
@@ -330,7 +330,12 @@ impl<'s, 'a> Source<'s, 'a> {
     }
 
     /// The closed function at a place; none where no function stands there.
-    pub fn here(&self, shared: &Shared, place: u32, number: usize) -> Result<Option<Here>, NoMemory>
+    pub fn here(
+        &self,
+        shared: &Shared,
+        place: usize,
+        number: usize,
+    ) -> Result<Option<Here>, NoMemory>
         ensures { IfOk result (λ o. S.IsHere shared.now.branches place number o) }
     {
         match shared.head_at(place) {
@@ -348,7 +353,7 @@ impl<'s, 'a> Source<'s, 'a> {
     }
 
     /// What is given for the type parameter of a name; none where there is no such parameter.
-    pub fn given_type(&self, here: &Here, name: &[u8]) -> Option<u32>
+    pub fn given_type(&self, here: &Here, name: &[u8]) -> Option<usize>
         ensures given { S.IsLookedUp self.now → (ts : List Closed) → option_map (tree_at ts) result ≡
             given_type (S.source self.now) (S.instance ts here.now) name.now }
         ensures within { (bs : List Branch) → AreWithin bs here.now.given.items → NoneOrWithin bs result }
@@ -360,7 +365,7 @@ impl<'s, 'a> Source<'s, 'a> {
     }
 
     /// What is given for the function parameter of a name; none where there is no such parameter.
-    pub fn given_function(&self, here: &Here, name: &[u8]) -> Option<u32>
+    pub fn given_function(&self, here: &Here, name: &[u8]) -> Option<usize>
         ensures given { S.IsLookedUp self.now → (ts : List Closed) → option_map (tree_at ts) result ≡
             given_function (S.source self.now) (S.instance ts here.now) name.now }
         ensures within { (bs : List Branch) → AreWithin bs here.now.given.items → NoneOrWithin bs result }
@@ -372,7 +377,7 @@ impl<'s, 'a> Source<'s, 'a> {
     }
 
     /// Whether the closed type at a place is int, or none of its constructors has a field.
-    pub fn is_scalar(&self, shared: &Shared, place: u32) -> bool
+    pub fn is_scalar(&self, shared: &Shared, place: usize) -> bool
         ensures { S.IsLookedUp self.now → result ≡
             is_scalar (S.source self.now) (tree_at (trees shared.now.branches) place) }
     {

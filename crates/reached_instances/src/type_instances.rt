@@ -38,9 +38,9 @@ pub struct TypeInstances<'r, 's, 'a> {
 pub fn field_place(
     alloc: Global,
     shared: &mut Shared,
-    given: &[u32],
+    given: &[usize],
     ty: &FieldType,
-) -> Result<u32, NoMemory>
+) -> Result<usize, NoMemory>
     ensures grows { AreWithin shared.old.branches given.now →
         OnOk result (Grows shared.old.branches shared.new.branches) }
     ensures fits { AreWithin shared.old.branches given.now → OnOk result (shared.new.fits ≡ shared.old.fits) }
@@ -66,9 +66,9 @@ pub fn field_place(
 pub fn field_places(
     alloc: Global,
     shared: &mut Shared,
-    given: &[u32],
+    given: &[usize],
     types: &[FieldType],
-) -> Result<Vec<u32>, NoMemory>
+) -> Result<Vec<usize>, NoMemory>
     ensures { AreWithin shared.old.branches given.now → IfOk result (λ v. Put shared.old shared.new [] v.items
         (map (T.field_type (trees_at (trees shared.old.branches) given.now)) (map S.ty types.now))) }
 {
@@ -81,7 +81,7 @@ pub fn field_places(
 }
 
 // What is given for a type parameter.
-fn given_at(given: &[u32], k: u32) -> u32
+fn given_at(given: &[usize], k: u32) -> usize
     ensures { result ≡ get_or given.now k 0 }
 {
     match given.get(k as usize) {
@@ -91,7 +91,7 @@ fn given_at(given: &[u32], k: u32) -> u32
 }
 
 // Puts a type behind the others, unless it is int.
-fn put(places: &mut Vec<u32>, place: u32) -> Result<(), NoMemory>
+fn put(places: &mut Vec<usize>, place: usize) -> Result<(), NoMemory>
     ensures { OnOk result (places.new.items ≡ with_unless_int places.old.items place) }
 {
     if place != 0 {
@@ -100,7 +100,7 @@ fn put(places: &mut Vec<u32>, place: u32) -> Result<(), NoMemory>
     Ok(())
 }
 
-fn put_all(shared: &Shared, places: &mut Vec<u32>, more: &[u32]) -> Result<(), NoMemory>
+fn put_all(shared: &Shared, places: &mut Vec<usize>, more: &[usize]) -> Result<(), NoMemory>
     ensures { AreWithin shared.now.branches places.old.items → AreWithin shared.now.branches more.now →
         OnOk result (Put shared.now shared.now places.old.items places.new.items
         (all_of T.unless_int (all_at (trees shared.now.branches) more.now))) }
@@ -117,7 +117,7 @@ impl<'s, 'a> Source<'s, 'a> {
         shared: &mut Shared,
         here: &Here,
         written: &Written,
-        places: &mut Vec<u32>,
+        places: &mut Vec<usize>,
     ) -> Result<(), NoMemory>
         ensures { S.IsReady self.now shared.old.branches here.now → AreWithin shared.old.branches places.old.items →
             OnOk result (Put shared.old shared.new places.old.items places.new.items (T.unless_int
@@ -134,7 +134,7 @@ impl<'s, 'a> Source<'s, 'a> {
         shared: &mut Shared,
         here: &Here,
         list: &[&Written],
-        places: &mut Vec<u32>,
+        places: &mut Vec<usize>,
     ) -> Result<(), NoMemory>
         ensures { S.IsReady self.now shared.old.branches here.now → AreWithin shared.old.branches places.old.items →
             OnOk result (Put shared.old shared.new places.old.items places.new.items (T.types_written
@@ -152,7 +152,7 @@ impl<'s, 'a> Source<'s, 'a> {
         &self,
         shared: &mut Shared,
         numbers: &[u32],
-        places: &mut Vec<u32>,
+        places: &mut Vec<usize>,
     ) -> Result<(), NoMemory>
         ensures { AreWithin shared.old.branches places.old.items → OnOk result (Put shared.old shared.new
             places.old.items places.new.items (map (λ n. Applied (H.«Type» n) NoClosed) numbers.now)) }
@@ -170,7 +170,7 @@ impl<'s, 'a> Source<'s, 'a> {
         &self,
         shared: &mut Shared,
         here: &Here,
-        places: &mut Vec<u32>,
+        places: &mut Vec<usize>,
     ) -> Result<(), NoMemory>
         ensures { S.IsReady self.now shared.old.branches here.now → AreWithin shared.old.branches places.old.items →
             OnOk result (Put shared.old shared.new places.old.items places.new.items (T.types_in
@@ -191,8 +191,8 @@ impl<'s, 'a> Source<'s, 'a> {
     fn put_instance(
         &self,
         shared: &mut Shared,
-        place: u32,
-        places: &mut Vec<u32>,
+        place: usize,
+        places: &mut Vec<usize>,
     ) -> Result<(), NoMemory>
         ensures { S.IsLookedUp self.now → AreWithin shared.old.branches places.old.items → OnOk result
             (Put shared.old shared.new places.old.items places.new.items
@@ -210,8 +210,8 @@ impl<'s, 'a> Source<'s, 'a> {
     fn put_instances(
         &self,
         shared: &mut Shared,
-        instances: &[u32],
-        places: &mut Vec<u32>,
+        instances: &[usize],
+        places: &mut Vec<usize>,
     ) -> Result<(), NoMemory>
         ensures { S.IsLookedUp self.now → AreWithin shared.old.branches instances.now →
             AreWithin shared.old.branches places.old.items → OnOk result
@@ -229,8 +229,8 @@ impl<'s, 'a> Source<'s, 'a> {
         &self,
         shared: &mut Shared,
         number: u32,
-        given: &[u32],
-        places: &mut Vec<u32>,
+        given: &[usize],
+        places: &mut Vec<usize>,
     ) -> Result<(), NoMemory>
         ensures { AreWithin shared.old.branches given.now → AreWithin shared.old.branches places.old.items →
             OnOk result (Put shared.old shared.new places.old.items places.new.items
@@ -249,9 +249,9 @@ impl<'s, 'a> Source<'s, 'a> {
 fn put_constructors(
     alloc: Global,
     shared: &mut Shared,
-    given: &[u32],
+    given: &[usize],
     constructors: &[DeclaredConstructor<'_>],
-    places: &mut Vec<u32>,
+    places: &mut Vec<usize>,
 ) -> Result<(), NoMemory>
     ensures { AreWithin shared.old.branches given.now → AreWithin shared.old.branches places.old.items →
         OnOk result (Put shared.old shared.new places.old.items places.new.items
@@ -267,9 +267,9 @@ fn put_constructors(
 fn put_constructor(
     alloc: Global,
     shared: &mut Shared,
-    given: &[u32],
+    given: &[usize],
     constructor: &DeclaredConstructor<'_>,
-    places: &mut Vec<u32>,
+    places: &mut Vec<usize>,
 ) -> Result<(), NoMemory>
     ensures { AreWithin shared.old.branches given.now → AreWithin shared.old.branches places.old.items →
         OnOk result (Put shared.old shared.new places.old.items places.new.items
@@ -281,7 +281,7 @@ fn put_constructor(
 }
 
 // The types among these.
-fn put_types(shared: &Shared, arguments: &[u32], places: &mut Vec<u32>) -> Result<(), NoMemory>
+fn put_types(shared: &Shared, arguments: &[usize], places: &mut Vec<usize>) -> Result<(), NoMemory>
     ensures { AreWithin shared.now.branches arguments.now → AreWithin shared.now.branches places.old.items →
         OnOk result (Put shared.now shared.now places.old.items places.new.items
         (T.types_among (trees_at (trees shared.now.branches) arguments.now))) }
@@ -293,7 +293,7 @@ fn put_types(shared: &Shared, arguments: &[u32], places: &mut Vec<u32>) -> Resul
 }
 
 // Puts a type behind the others; int and functions aren't put.
-fn put_type(shared: &Shared, place: u32, places: &mut Vec<u32>) -> Result<(), NoMemory>
+fn put_type(shared: &Shared, place: usize, places: &mut Vec<usize>) -> Result<(), NoMemory>
     ensures { place < length shared.now.branches + 1 → AreWithin shared.now.branches places.old.items →
         OnOk result (Put shared.now shared.now places.old.items places.new.items
         (T.types_among (MoreClosed (tree_at (trees shared.now.branches) place) NoClosed))) }
@@ -312,8 +312,8 @@ fn put_type(shared: &Shared, place: u32, places: &mut Vec<u32>) -> Result<(), No
 fn put_given(
     alloc: Global,
     shared: &Shared,
-    place: u32,
-    places: &mut Vec<u32>,
+    place: usize,
+    places: &mut Vec<usize>,
 ) -> Result<(), NoMemory>
     ensures { AreWithin shared.now.branches places.old.items →
         OnOk result (Put shared.now shared.now places.old.items places.new.items
@@ -327,8 +327,8 @@ fn put_given(
 fn put_passed(
     alloc: Global,
     shared: &Shared,
-    passed: &[u32],
-    places: &mut Vec<u32>,
+    passed: &[usize],
+    places: &mut Vec<usize>,
 ) -> Result<(), NoMemory>
     ensures { AreWithin shared.now.branches places.old.items →
         OnOk result (Put shared.now shared.now places.old.items places.new.items
@@ -350,7 +350,7 @@ impl<'r, 's, 'a> Reaching for TypeInstances<'r, 's, 'a> {
 
     ghost breaks = { λ i n c. [] };
 
-    fn starts(&self, alloc: Global, shared: &mut Shared) -> Result<Vec<u32>, NoMemory> {
+    fn starts(&self, alloc: Global, shared: &mut Shared) -> Result<Vec<usize>, NoMemory> {
         let mut places = Vec::new(alloc);
         let bool_place = shared.share(Head::Type(1), Vec::new(alloc))?;
         places.push(bool_place)?;
@@ -365,9 +365,9 @@ impl<'r, 's, 'a> Reaching for TypeInstances<'r, 's, 'a> {
         alloc: Global,
         shared: &mut Shared,
         _: usize,
-        place: u32,
+        place: usize,
         _: &mut Least,
-    ) -> Result<Vec<u32>, NoMemory> {
+    ) -> Result<Vec<usize>, NoMemory> {
         let given = shared.arguments_at(alloc, place)?;
         let mut places = Vec::new(alloc);
         put_all(shared, &mut places, &given)?;

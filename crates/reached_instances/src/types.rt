@@ -27,7 +27,7 @@ impl<'s, 'a> Source<'s, 'a> {
         here: &Here,
         written: &Written,
         least: &mut Least,
-    ) -> Result<Option<u32>, NoMemory>
+    ) -> Result<Option<usize>, NoMemory>
         ensures grows { OnOk result (Grows shared.old.branches shared.new.branches) }
         ensures fits { OnOk result (shared.new.fits ≡ shared.old.fits) }
         ensures closed { S.IsReady self.now shared.old.branches here.now →
@@ -68,7 +68,7 @@ impl<'s, 'a> Source<'s, 'a> {
         here: &Here,
         list: &[Written],
         least: &mut Least,
-    ) -> Result<Option<Vec<u32>>, NoMemory>
+    ) -> Result<Option<Vec<usize>>, NoMemory>
         ensures grows { OnOk result (Grows shared.old.branches shared.new.branches) }
         ensures fits { OnOk result (shared.new.fits ≡ shared.old.fits) }
         ensures closed { S.IsReady self.now shared.old.branches here.now →
@@ -97,9 +97,9 @@ impl<'s, 'a> Source<'s, 'a> {
         name: &[u8],
         place: Place,
         count: usize,
-        closed: Option<Vec<u32>>,
+        closed: Option<Vec<usize>>,
         least: &mut Least,
-    ) -> Result<Option<u32>, NoMemory>
+    ) -> Result<Option<usize>, NoMemory>
         ensures grows { OnOk result (Grows shared.old.branches shared.new.branches) }
         ensures fits { OnOk result (shared.new.fits ≡ shared.old.fits) }
         ensures closed { S.IsReady self.now shared.old.branches here.now → AreWithinIfSome shared.old.branches closed →
@@ -139,7 +139,7 @@ pub fn both(one: bool, other: bool) -> bool
 }
 
 // Puts a place, where there is one, behind the others, and says whether there is.
-fn push_some(places: &mut Vec<u32>, place: Option<u32>) -> Result<bool, NoMemory>
+fn push_some(places: &mut Vec<usize>, place: Option<usize>) -> Result<bool, NoMemory>
     ensures pushed { OnOk result (places.new.items ≡ with_place places.old.items place) }
     ensures some { IfOk result (λ b. b ≡ is_some place) }
 {
@@ -154,14 +154,14 @@ fn push_some(places: &mut Vec<u32>, place: Option<u32>) -> Result<bool, NoMemory
 
 /// What is given for a static parameter, which has no arguments.
 pub fn parameter(
-    given: u32,
+    given: usize,
     count: usize,
     rule: Rule,
     name: &[u8],
     place: Place,
     here: &Here,
     least: &mut Least,
-) -> Result<Option<u32>, NoMemory>
+) -> Result<Option<usize>, NoMemory>
     ensures closed { IfOk result (λ o. o ≡ (if count == 0 then Some given else None)) }
     ensures faults { OnOk result (least.new ≡
         after least.old (when (not (count == 0)) (broken rule place here.now.number name.now))) }
@@ -178,8 +178,8 @@ fn applied_type(
     shared: &mut Shared,
     head: TypeHead,
     count: usize,
-    closed: Option<Vec<u32>>,
-) -> Result<Option<u32>, NoMemory>
+    closed: Option<Vec<usize>>,
+) -> Result<Option<usize>, NoMemory>
     ensures grows { OnOk result (Grows shared.old.branches shared.new.branches) }
     ensures fits { OnOk result (shared.new.fits ≡ shared.old.fits) }
     ensures closed { AreWithinIfSome shared.old.branches closed → IfOk result (λ o. IsPlaceOf shared.new.branches o

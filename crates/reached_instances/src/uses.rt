@@ -27,7 +27,7 @@ impl<'s, 'a> Source<'s, 'a> {
         shared: &mut Shared,
         here: &Here,
         written: &Written,
-    ) -> Result<u32, NoMemory>
+    ) -> Result<usize, NoMemory>
         ensures grows { OnOk result (Grows shared.old.branches shared.new.branches) }
         ensures fits { OnOk result (shared.new.fits ≡ shared.old.fits) }
         ensures within { S.IsReady self.now shared.old.branches here.now →
@@ -55,7 +55,7 @@ impl<'s, 'a> Source<'s, 'a> {
         place: Place,
         statics: &[Written],
         least: &mut Least,
-    ) -> Result<Option<u32>, NoMemory>
+    ) -> Result<Option<usize>, NoMemory>
         ensures grows { OnOk result (Grows shared.old.branches shared.new.branches) }
         ensures right { IsRight self.now shared.old → AreWithin shared.old.branches here.now.given.items →
             OnOk result (IsRight self.now shared.new) }
@@ -103,7 +103,7 @@ impl<'s, 'a> Source<'s, 'a> {
         function: usize,
         statics: &[Written],
         least: &mut Least,
-    ) -> Result<Option<u32>, NoMemory>
+    ) -> Result<Option<usize>, NoMemory>
         ensures grows { OnOk result (Grows shared.old.branches shared.new.branches) }
         ensures right { IsRight self.now shared.old → AreWithin shared.old.branches here.now.given.items →
             OnOk result (IsRight self.now shared.new) }
@@ -134,7 +134,7 @@ impl<'s, 'a> Source<'s, 'a> {
         function: usize,
         statics: &[Written],
         least: &mut Least,
-    ) -> Result<Vec<Option<u32>>, NoMemory>
+    ) -> Result<Vec<Option<usize>>, NoMemory>
         ensures grows { OnOk result (Grows shared.old.branches shared.new.branches) }
         ensures right { IsRight self.now shared.old → AreWithin shared.old.branches here.now.given.items →
             OnOk result (IsRight self.now shared.new) }
@@ -170,7 +170,7 @@ impl<'s, 'a> Source<'s, 'a> {
         place: usize,
         written: &Written,
         least: &mut Least,
-    ) -> Result<Option<u32>, NoMemory>
+    ) -> Result<Option<usize>, NoMemory>
         ensures grows { OnOk result (Grows shared.old.branches shared.new.branches) }
         ensures right { IsRight self.now shared.old → AreWithin shared.old.branches here.now.given.items →
             OnOk result (IsRight self.now shared.new) }
@@ -204,7 +204,7 @@ impl<'s, 'a> Source<'s, 'a> {
         here: &Here,
         written: &Written,
         least: &mut Least,
-    ) -> Result<Option<u32>, NoMemory>
+    ) -> Result<Option<usize>, NoMemory>
         ensures grows { OnOk result (Grows shared.old.branches shared.new.branches) }
         ensures right { IsRight self.now shared.old → AreWithin shared.old.branches here.now.given.items →
             OnOk result (IsRight self.now shared.new) }

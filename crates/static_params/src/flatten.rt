@@ -132,7 +132,7 @@ impl<'r, 's, 'a> Flattening<'r, 's, 'a> {
         ensures flat { F.IsMaking self.old →
             IfOk result (λ v. v.items ≡ map (F.binder_in (F.making self.old)) (map V.binder list.now)) }
     {
-        let mut binders = Vec::new(self.source.alloc);
+        let mut binders = Vec::with_capacity(self.source.alloc, list.len())?;
         for binder in list {
             let made = self.binder(binder)?;
             binders.push(made)?;

@@ -1,5 +1,5 @@
 // The program without static parameters, or the least violation.
-ghost use Rattle.std.specs.Prelude.{◌≡◌, ◌++◌, [], None, Some, map, slice_get, IfErr, IfOk, IfSome, OnOk};
+ghost use Rattle.std.specs.Prelude.{◌≡◌, ◌++◌, [], None, Some, length, map, slice_get, IfErr, IfOk, IfSome, OnOk};
 ghost use Rattle.fip_language.specs.Mentions.{all_of};
 ghost use Rattle.fip_base.specs.CoreView as V;
 ghost use Rattle.fip_trees.specs.TreeView as W;
@@ -57,7 +57,8 @@ pub fn specialise(alloc: Global, declared: &DeclaredProgram<'_>) -> Result<Flat,
             Some(program) => Ok(Flat::new(program)),
             None => match least.into_refusal() {
                 Some(refusal) => Err(PhaseError::Refused(refusal)),
-                None => Err(PhaseError::NoMemory),
+                // A violation is noted where nothing is found.
+                None => unreachable!(),
             },
         },
     }
@@ -190,9 +191,10 @@ fn passed_of(
 {
     let mut unused = Least::new(alloc);
     let reaching = Passed { source, instances };
-    match number(alloc, &reaching, u32::MAX as usize, shared, &mut unused)? {
+    match number(alloc, &reaching, usize::MAX, shared, &mut unused)? {
         Some(passed) => Ok(passed),
-        None => Err(NoMemory),
+        // There are never so many places.
+        None => unreachable!(),
     }
 }
 
@@ -347,7 +349,7 @@ fn instances_of(
 // Puts the instances of the functions at these places behind the others.
 fn put_instances(
     flattening: &mut Flattening<'_, '_, '_>,
-    places: &[u32],
+    places: &[usize],
     instances: &mut Vec<Instance>,
 ) -> Result<(), NoMemory>
     ensures { IsMaking flattening.old → AreWithin flattening.old.shared.branches places.now →
@@ -364,7 +366,7 @@ fn put_instances(
 // Puts the instance of the function at a place behind the others.
 fn put_instance(
     flattening: &mut Flattening<'_, '_, '_>,
-    place: u32,
+    place: usize,
     instances: &mut Vec<Instance>,
 ) -> Result<(), NoMemory>
     ensures goes { IsMaking flattening.old → OnOk result (GoesOn flattening.old flattening.new) }
@@ -408,7 +410,8 @@ fn instance_of(
     found: &FunctionSource<'_>,
 ) -> Result<Instance, NoMemory>
     ensures stays { IsMaking flattening.old → OnOk result (Stays flattening.old flattening.new) }
-    ensures made { IsMaking flattening.old → found.now.mentions.binders ≡ binders_in (S.function_source found.now) →
+    ensures made { IsMaking flattening.old →
+        length found.now.mentions.binders.items ≡ binders_in (S.function_source found.now) →
         IfOk result (λ i. W.instance_of i ≡ flat_instance (making flattening.old).source
         (making flattening.old).numbers (making flattening.old).here (S.function_source found.now)) }
 {
@@ -434,7 +437,7 @@ fn instance_of(
         results,
         results_place,
         signature_tuples,
-        variables: found.mentions.binders,
+        variables: found.mentions.binders.len(),
         body,
     })
 }

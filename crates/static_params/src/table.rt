@@ -48,7 +48,7 @@ fn narrow(number: usize) -> u32
 
 impl Numbers {
     /// The number of the closed type at a place, that of int being 0.
-    pub fn type_number(&self, place: u32) -> u32
+    pub fn type_number(&self, place: usize) -> u32
         ensures { length self.now.types ≤ MOST_INSTANCES →
             result ≡ P.from_one (position (nat_eq place) self.now.types) }
     {
@@ -59,7 +59,7 @@ impl Numbers {
     }
 
     /// The numbers of closed types.
-    pub fn type_numbers(&self, alloc: Global, places: &[u32]) -> Result<Types, NoMemory>
+    pub fn type_numbers(&self, alloc: Global, places: &[usize]) -> Result<Types, NoMemory>
         ensures { length self.now.types ≤ MOST_INSTANCES → IfOk result (λ ns.
             ns ≡ map (λ i. P.from_one (position (nat_eq i) self.now.types)) places.now) }
     {
@@ -71,7 +71,7 @@ impl Numbers {
     }
 
     /// The number of the closed function at a place.
-    pub fn instance_number(&self, place: u32) -> u32
+    pub fn instance_number(&self, place: usize) -> u32
         ensures { length self.now.instances ≤ MOST_INSTANCES →
             result ≡ P.or_zero (position (nat_eq place) self.now.instances) }
     {
@@ -106,7 +106,7 @@ fn put_row(
     source: &Source<'_, '_>,
     shared: &mut Shared,
     numbers: &Numbers,
-    place: u32,
+    place: usize,
     table: &mut TypeTable,
 ) -> Result<(), NoMemory>
     ensures grows { AreNumbers shared.old numbers.now → OnOk result (Grows shared.old.branches shared.new.branches) }
@@ -130,7 +130,7 @@ fn put_row_of(
     source: &Source<'_, '_>,
     shared: &mut Shared,
     numbers: &Numbers,
-    place: u32,
+    place: usize,
     number: u32,
     table: &mut TypeTable,
 ) -> Result<(), NoMemory>
@@ -170,7 +170,7 @@ pub fn declaring_of(
 fn put_declaring(
     source: &Source<'_, '_>,
     shared: &Shared,
-    place: u32,
+    place: usize,
     declaring: &mut Vec<u32>,
 ) -> Result<(), NoMemory>
     ensures { OnOk result (declaring.new.items ≡ declaring.old.items ++ P.declaring_of (S.source source.now)
@@ -208,7 +208,7 @@ fn data_type(
     alloc: Global,
     shared: &mut Shared,
     numbers: &Numbers,
-    given: &[u32],
+    given: &[usize],
     declared: &DeclaredType<'_>,
 ) -> Result<DataType, NoMemory>
     ensures grows { AreNumbers shared.old numbers.now → AreWithin shared.old.branches given.now →
@@ -234,7 +234,7 @@ fn closed_constructor(
     alloc: Global,
     shared: &mut Shared,
     numbers: &Numbers,
-    given: &[u32],
+    given: &[usize],
     declared: &DeclaredConstructor<'_>,
 ) -> Result<Constructor, NoMemory>
     ensures grows { AreNumbers shared.old numbers.now → AreWithin shared.old.branches given.now →

@@ -41,6 +41,7 @@ returns-clause-made c = λ m e.
     let results = c.in_ok-results.ensures.flat s2.ready ∙ ap (λ (v : Making). map (type_in v) (result_types (V.result_type g.result))) s2.same in
     let body = c.in_ok-body.ensures.flat s3.ready ∙ ap (λ (v : Making). block_in v (V.block g.body)) s3.same in
     let bracket = c.bracket_of-results_place.ensures in
+    let count = c.len.ensures ∙ c.args.found.now.mentions.binders.ok.0 ∙ e in
     let root = c.is_root-root.ensures ∙ ap (λ (l : List Static). is_root (map V.static l)) c.deref-5.ensures.value in
     λ i. record {
       name = name i;
@@ -53,6 +54,6 @@ returns-clause-made c = λ m e.
       results = results i;
       results_place = bracket i;
       signature_tuples = tuples i;
-      variables = e i;
+      variables = count i;
       body = body i;
     }

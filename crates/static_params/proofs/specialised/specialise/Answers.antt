@@ -1,4 +1,7 @@
-use Rattle.std.proofs.Common.{◌∙◌, Option, IfSome, sym, ap₂, subst}
+use Rattle.std.proofs.Common.{◌∙◌, Option, IfSome, sym, ap, ap₂, subst}
+use Rattle.std.specs.Prelude.{option_map}
+use Rattle.std.proofs.lemmas.Option.{none-some}
+use Rattle.fip_trees.specs.Least.{refusal}
 use Rattle.fip_trees.specs.declared.program.Program.{Program}
 use Rattle.static_params.specs.Answers.{IsAccepted}
 use Rattle.static_params.specs.FlatView.{IsNamed}
@@ -12,6 +15,11 @@ new-requires c =
     let here = ap₂ (λ x y. source_of x y) c.core.ensures.same c.decls.ensures.same in
     let made = subst (λ (o : Option Program). IfSome o (λ (p : Program). IsAccepted (source_of c.core.result.now c.decls.result.now) p)) c.in-Some.is (c.in-Ok.ensures.accepted c.new-least.ensures.none) in
     record { sound = program_sound c.args.declared.now.core c.args.declared.now.decls c.in-Some.program c.core.ensures.declared (subst (λ (x : Source). IsAccepted x c.in-Some.program) here made) }
+
+pub prove-unreachable-requires : goal.prove-unreachable-requires
+prove-unreachable-requires c =
+    let named = c.in-Ok.ensures.refused c.new-least.ensures.none c.in-None.is in
+    none-some (refusal named.0) (sym c.in-None-into_refusal.is ∙ c.into_refusal.ensures.least ∙ ap (option_map refusal) named.1)
 
 pub returns-in-Some-into_refusal-clause-refused : goal.returns-in-Some-into_refusal-clause-refused
 returns-in-Some-into_refusal-clause-refused c =

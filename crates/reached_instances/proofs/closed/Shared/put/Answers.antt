@@ -14,9 +14,9 @@ within c = subst (λ (k : Kept). Every (λ i. i < length k.branches + 1) c.args.
 
 added : (c : goal.In_ok-at) → Added (branches c.self.inside.trees.keys) (branch (record { head = c.args.head; arguments = c.args.arguments })) (branches c.insert_full.new.self.keys)
 added c =
-    let few = c.if-len.false in
-    let len = c.len.ensures.len in
-    added_row (record { head = c.args.head; arguments = c.args.arguments }) c.self.inside.trees.keys c.insert_full.new.self.keys c.in_ok-at.ensures.keys c.self.invariant (within c) (omega (arith, few, len))
+    let small = c.len-before.ensures.small in
+    let len = c.len-before.ensures.len in
+    added_row (record { head = c.args.head; arguments = c.args.arguments }) c.self.inside.trees.keys c.insert_full.new.self.keys c.in_ok-at.ensures.keys c.self.invariant (within c) (omega (arith, small, len))
 
 placed : (c : goal.In_ok-at) → slice_get (trees (branches c.insert_full.new.self.keys)) (c.in_ok-at.at + 1) ≡ Some (Applied c.args.head (trees_at (trees (branches c.self.inside.trees.keys)) c.args.arguments.items))
 placed c =

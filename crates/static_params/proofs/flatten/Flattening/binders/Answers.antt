@@ -9,7 +9,7 @@ loop-binder-init c = record {
   stays = λ m. stays_same c.args.self.now m;
   row = λ m.
       let old = c.args.self.now in
-      ap (λ l. l ++ map (binder_in (making old)) (map V.binder c.args.list.now)) c.new-binders.ensures.items;
+      ap (λ l. l ++ map (binder_in (making old)) (map V.binder c.args.list.now)) c.in_ok-binders.ensures.items;
 }
 
 pub loop-binder-preserved : goal.loop-binder-preserved

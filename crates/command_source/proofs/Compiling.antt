@@ -1,6 +1,6 @@
 -- From what was lowered, verified and written to what is said of a code that is made of a source, and of its file.
 use Rattle.std.proofs.Common.{◌≡◌, ◌∙◌, ◌<◌, ◌≤◌, Option, Some, None, slice_get, ℕ, zero, suc, arith, List, [], ◌∷◌, map, length, refl, sym, ap, subst, inl, inr}
-use Rattle.std.specs.Prelude.{Result, Ok, Err, IfOk, IfSome, option_map}
+use Rattle.std.specs.Prelude.{Result, Ok, Err, IfOk, IfErr, IfSome, option_map}
 use Rattle.std.proofs.lemmas.Option.{slice_get-map}
 use Rattle.cell_code.specs.declared.code.Code.{Code}
 use Rattle.cell_code.specs.declared.code.Function.{Function}
@@ -23,7 +23,7 @@ use Rattle.machine_correctness.specs.compiler_correctness.lowering_relation.Lowe
 use Rattle.machine_correctness.specs.compiler_correctness.lower_frame.Spelled.{AreSpelt}
 use Rattle.machine_correctness.proofs.compiler_correctness.EncodingWhole.{typed_has_file}
 use Rattle.code_file.specs.CodeText.{CodeText}
-use Rattle.code_file.specs.Plain.{PlainFunction, plain_code, plain_function, plain_label}
+use Rattle.code_file.specs.Plain.{PlainFunction, PlainCode, plain_code, plain_function, plain_label}
 use Rattle.code_file.specs.declared.tags.Version.TheVariants.{Second}
 use Rattle.fip_base.specs.declared.refusal.Refusal.{Refusal}
 use Rattle.fip_language.specs.declared.rule.Rule.TheVariants.{E61}
@@ -41,8 +41,10 @@ use Rattle.command_source.specs.Codes.{IsSoundFile, IsUnspelt}
 use Rattle.command_source.specs.ProgramCode.{plain_header, instrs_of, AreNarrow, AreWithin, IsLoweredFrom, IsCodeOfSource, IsEntryOf, IsCompiledFile, HasFile, IsUncompiled, KeepsFromCompile}
 use Rattle.command_source.specs.Entries.{Chosen, IsNamed, IsFunctionOf}
 use Rattle.command_source.specs.Wanted.{Lawful, IsReady, IsRefusedBy}
+use Rattle.command_source.specs.Roots.{IsListing, root_lines}
+use Rattle.command_source.specs.declared.files.Compiled.{Compiled}
 use Rattle.command_source.specs.declared.known.Front.{Front}
-use Rattle.command_source.proofs.CodeFiles.{view_same}
+use Rattle.command_source.proofs.CodeFiles.{view_same, sound_file}
 
 pub headers_same : (fs : List Function) → map plain_header (map plain_function fs) ≡ map header fs
 headers_same [] = refl
@@ -110,27 +112,45 @@ pub headed_verified : (p : Program) (code : Code) (o : Result Front Failure) →
 headed_verified p code (Ok f) h typed same = subst (λ c. IsLoweredFrom (program f.typed.program) (plain_code c)) (sym same) (subst (λ q. IsLoweredFrom q (plain_code code)) (sym typed) h)
 headed_verified p code (Err f) h typed same = tt
 
-code_of_source : (source : List ℕ) (p : Program) (code : Code) → IsAccepted source p → IsLoweredFrom p (plain_code code) → IsSound (S.plain code) → IsCodeOfSource source (plain_code code)
-code_of_source source p code accepted headed sound =
-    record { program = p; accepted = accepted; lowered = headed; sound = subst IsSound (sym (view_same code)) sound }
+code_of_source : (source : List ℕ) (p : Program) (code : Code) → IsAccepted source p → IsLoweredFrom p (plain_code code) → IsSound (S.plain code) → HasFile (plain_code code) → IsCodeOfSource source (plain_code code)
+code_of_source source p code accepted headed sound filed =
+    record { program = p; accepted = accepted; lowered = headed; sound = subst IsSound (sym (view_same code)) sound; filed = filed }
 
-pub compiled_file : (source file : List ℕ) (p : Program) (code : Code) → IsAccepted source p → IsLoweredFrom p (plain_code code) → IsSound (S.plain code) → CodeText file Second (plain_code code) → length file ≤ 16777216 → IsCompiledFile source file
+compiled_file : (source file : List ℕ) (p : Program) (code : Code) → IsAccepted source p → IsLoweredFrom p (plain_code code) → IsSound (S.plain code) → CodeText file Second (plain_code code) → length file ≤ 16777216 → IsCompiledFile source file
 compiled_file source file p code accepted headed sound spelt short =
-    record { code = plain_code code; of' = code_of_source source p code accepted headed sound; spelt = spelt; short = short }
+    record { code = plain_code code; of' = code_of_source source p code accepted headed sound (file, spelt); spelt = spelt; short = short }
 
--- a code that was lowered and verified has a file
-has_file : (source : List ℕ) (p : Program) (code : Code) → IsAccepted source p → IsLoweredFrom p (plain_code code) → AreSpelt code.functions.items → IsSound (S.plain code) → HasFile (plain_code code)
+-- a code that was lowered has a file
+pub has_file : (source : List ℕ) (p : Program) (code : Code) → IsAccepted source p → IsLoweredFrom p (plain_code code) → AreSpelt code.functions.items → IsSound (S.plain code) → HasFile (plain_code code)
 has_file source p code accepted headed spelt sound = typed_has_file source p headed.members code accepted.tailed.credited.owned.matched.typed headed.found headed.types (sym (headers_same code.functions.items) ∙ headed.functions) sound spelt
 
-pub filed_verified : (source : List ℕ) (p : Program) (code : Code) (o : Result Front Failure) → IsAccepted source p → IsLoweredFrom p (plain_code code) → AreSpelt code.functions.items → IfOk o (λ f. f.verified.code ≡ code) → IfOk o (λ f. IsSound (S.plain f.verified.code)) → IfOk o (λ f. HasFile (plain_code f.verified.code))
-filed_verified source p code (Ok f) accepted headed spelt same sound = subst (λ c. HasFile (plain_code c)) (sym same) (has_file source p code accepted headed spelt (subst (λ c. IsSound (S.plain c)) same sound))
-filed_verified source p code (Err f) accepted headed spelt same sound = tt
+pub filed_verified : (code : Code) (o : Result Front Failure) → HasFile (plain_code code) → IfOk o (λ f. f.verified.code ≡ code) → IfOk o (λ f. HasFile (plain_code f.verified.code))
+filed_verified code (Ok f) filed same = subst (λ c. HasFile (plain_code c)) (sym same) filed
+filed_verified code (Err f) filed same = tt
 
-pub uncompiled : (source : List ℕ) (p : Program) (code : Code) (f : Failure) → IsAccepted source p → IsLoweredFrom p (plain_code code) → IsSound (S.plain code) → HasFile (plain_code code) → ((r : Refusal) → ◌≡◌ {A = Failure} f (F.Refused r) → IsUnspelt (plain_code code)) → IsRefusedBy (λ r. r ≡ bare E61) f → KeepsFromCompile source f
+uncompiled : (source : List ℕ) (p : Program) (code : Code) (f : Failure) → IsAccepted source p → IsLoweredFrom p (plain_code code) → IsSound (S.plain code) → HasFile (plain_code code) → ((r : Refusal) → ◌≡◌ {A = Failure} f (F.Refused r) → IsUnspelt (plain_code code)) → IsRefusedBy (λ r. r ≡ bare E61) f → KeepsFromCompile source f
 uncompiled source p code (F.Refused r) accepted headed sound filed unspelt h =
-    inr ((plain_code code, code_of_source source p code accepted headed sound, filed.0, filed.1, unspelt r refl filed.0 filed.1), h)
+    inr ((plain_code code, code_of_source source p code accepted headed sound filed, filed.0, filed.1, unspelt r refl filed.0 filed.1), h)
 uncompiled source p code F.NoMemory accepted headed sound filed unspelt h = inl tt
 uncompiled source p code f accepted headed sound filed unspelt h = absurd h
+
+-- ---- the file of just the code that was made
+
+pub made_listed : (source : List ℕ) (p : Program) (ms : List Member) (o : Result Compiled Failure) → IsAccepted source p → AreMembers p.instances ms → IfOk o (λ c. c.text.items ≡ root_lines ms 0 p.instances) → IfOk o (λ c. IsListing source c.text.items)
+made_listed source p ms (Ok c) accepted found is = record { program = p; accepted = accepted; members = ms; found = found; is = is }
+made_listed source p ms (Err f) accepted found is = tt
+
+pub made_sound : (code : Code) (o : Result Compiled Failure) → IfOk o (λ c. CodeText c.file.items Second (plain_code code)) → IfOk o (λ c. length c.file.items ≤ 16777216) → IsSound (S.plain code) → IfOk o (λ c. (d : PlainCode) × IsSoundFile c.file.items d)
+made_sound code (Ok c) spelt short sound = sound_file c.file.items code spelt short sound
+made_sound code (Err f) spelt short sound = tt
+
+pub made_file : (source : List ℕ) (p : Program) (code : Code) (o : Result Compiled Failure) → IsAccepted source p → IsLoweredFrom p (plain_code code) → IsSound (S.plain code) → IfOk o (λ c. CodeText c.file.items Second (plain_code code)) → IfOk o (λ c. length c.file.items ≤ 16777216) → IfOk o (λ c. IsCompiledFile source c.file.items)
+made_file source p code (Ok c) accepted headed sound spelt short = compiled_file source c.file.items p code accepted headed sound spelt short
+made_file source p code (Err f) accepted headed sound spelt short = tt
+
+pub made_kept : (source : List ℕ) (p : Program) (code : Code) (o : Result Compiled Failure) → IsAccepted source p → IsLoweredFrom p (plain_code code) → IsSound (S.plain code) → HasFile (plain_code code) → ((r : Refusal) → o ≡ Err (F.Refused r) → IsUnspelt (plain_code code)) → IfErr o (IsRefusedBy (λ r. r ≡ bare E61)) → IfErr o (KeepsFromCompile source)
+made_kept source p code (Ok c) accepted headed sound filed unspelt long = tt
+made_kept source p code (Err f) accepted headed sound filed unspelt long = uncompiled source p code f accepted headed sound filed (λ r e. unspelt r (ap Err e)) long
 
 -- a source of such a code breaks no rule
 pub uncompiled_ready : (source : List ℕ) → IsUncompiled source → IsReady source Lawful
@@ -139,9 +159,10 @@ uncompiled_ready source h = record { program = h.1.program; accepted = h.1.accep
 -- ---- the function that is run
 
 -- a code that was lowered and verified, and its function of a name
-pub entry_of : (source name : List ℕ) (p : Program) (code : Code) (o : Result Chosen Failure) → IsAccepted source p → IsLoweredFrom p (plain_code code) → IfOk o (λ r. r.checked.code ≡ code) → IfOk o (λ r. IsSound (S.plain r.checked.code)) → IfOk o (λ r. IsNamed name r.checked.code.functions.items r.entry) → IfOk o (IsEntryOf source name)
-entry_of source name p code (Ok r) h lowered same sound named = record { code = code_of_source source p r.checked.code h (subst (λ c. IsLoweredFrom p (plain_code c)) (sym same) lowered) sound; named = named }
-entry_of source name p code (Err f) h lowered same sound named = tt
+pub entry_of : (source name : List ℕ) (p : Program) (code : Code) (o : Result Chosen Failure) → IsAccepted source p → IsLoweredFrom p (plain_code code) → HasFile (plain_code code) → IfOk o (λ r. r.checked.code ≡ code) → IfOk o (λ r. IsSound (S.plain r.checked.code)) → IfOk o (λ r. IsNamed name r.checked.code.functions.items r.entry) → IfOk o (IsEntryOf source name)
+entry_of source name p code (Ok r) h lowered filed same sound named =
+    record { code = code_of_source source p r.checked.code h (subst (λ c. IsLoweredFrom p (plain_code c)) (sym same) lowered) sound (subst (λ c. HasFile (plain_code c)) (sym same) filed); named = named }
+entry_of source name p code (Err f) h lowered filed same sound named = tt
 
 pub sound_kept : (code : Code) (o : Result Chosen Failure) → IsSound (S.plain code) → IfOk o (λ r. r.checked.code ≡ code) → IfOk o (λ r. IsSound (S.plain r.checked.code))
 sound_kept code (Ok r) sound same = subst (λ c. IsSound (S.plain c)) (sym same) sound

@@ -59,7 +59,8 @@ held_is [] n = refl
 held_is (m ∷ ms) zero = refl
 held_is (m ∷ ms) (suc n) = held_is ms n
 
-held_same : (ds : List Instance) (ms ns : List Member) → FipCallsFip ds → AreMembers ds ms → AreMembers ds ns → (n : ℕ) → held ms n ≡ held ns n
+-- the stack number of an instance is one
+pub held_same : (ds : List Instance) (ms ns : List Member) → FipCallsFip ds → AreMembers ds ms → AreMembers ds ns → (n : ℕ) → held ms n ≡ held ns n
 held_same ds ms ns fip h k n = held_is ms n ∙ stacks_same (call_rows ds) (map frame ds) (map stack ms) (map stack ns) (h.stacks fip) (k.stacks fip) n ∙ sym (held_is ns n)
 
 -- ---- the listing

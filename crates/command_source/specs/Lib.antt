@@ -7,6 +7,7 @@ pub mod Codes
 pub mod ProgramCode
 pub mod Derived
 pub use Rattle.program_front.specs.data_types as data_types
+pub use Rattle.fip_proof.specs.derivation_making as derivation_making
 pub use Rattle.fip_trees.specs as fip_trees
 pub use Rattle.program_front.specs.source_report as source_report
 pub use Rattle.program_front.specs.static_params as static_params

@@ -5,8 +5,9 @@
 -- `check` prints it of a root. Its instructions are such as the instance is lowered to, so each of its runs ends as the
 -- source means; it has no more of them, and of label maps, than the instance's places allow, and none of them, reached or
 -- not, lists more registers than the instance's width allows. So its file is no longer than the source's program allows
--- (`code_bytes` says how long that is). The one that is stored has a file; E61 is reported only where some code of which
--- all this is so has a file that is too long, as none of a small source has.
+-- (`code_bytes` says how long that is). It has a file of the second version, which `compile` stores where it isn't too
+-- long; E61 is reported only where some code of which all this is so has a file that is too long, as none of a small
+-- source has.
 --
 -- Of the source
 --     fip fun rev(xs: list, acc: list): list { .. }
@@ -76,12 +77,17 @@ pub record IsLoweredFrom (p : Program) (code : PlainCode) : Type 0 where
   pub narrow : AreNarrow p code.functions
   pub stacks : HaveStacks p code
 
+-- A code that has a file of the second version.
+abbrev pub HasFile : PlainCode → Type 0
+HasFile code = (file : List ℕ) × CodeText file Second code
+
 -- a code that is made of this source, which breaks no rule
 pub record IsCodeOfSource (source : List ℕ) (code : PlainCode) : Type 0 where
   pub program : Program
   pub accepted : IsAccepted source program
   pub lowered : IsLoweredFrom program code
   pub sound : IsSound (sound_view code)
+  pub filed : HasFile code
 
 -- What is run by this name: such a code, and its function of this name, which isn't empty.
 pub record IsEntryOf (source name : List ℕ) (r : Chosen) : Type 0 where
@@ -94,10 +100,6 @@ pub record IsCompiledFile (source file : List ℕ) : Type 0 where
   pub of' : IsCodeOfSource source code
   pub spelt : CodeText file Second code
   pub short : length file ≤ MOST_FILE_BYTES
-
--- A code that has a file of the second version.
-abbrev pub HasFile : PlainCode → Type 0
-HasFile code = (file : List ℕ) × CodeText file Second code
 
 -- Some such code, though it is no larger than its places allow, has a file of the second version that is too long.
 abbrev pub IsUncompiled : List ℕ → Type 0

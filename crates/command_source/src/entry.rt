@@ -14,7 +14,7 @@ ghost use Rattle.fip_trees.specs.TreeView as V;
 ghost use Rattle.fip_trees.specs.declared.program.Instance.{Instance as an_instance};
 ghost use Rattle.program_front.specs.source_report.Report.{IsAccepted};
 ghost use Rattle.command_source.specs.Entries.{IsFunctionOf, IsNamed, IsRootedIn};
-ghost use Rattle.command_source.specs.ProgramCode.{IsLoweredFrom, IsEntryOf};
+ghost use Rattle.command_source.specs.ProgramCode.{IsLoweredFrom, HasFile, IsEntryOf};
 ghost use Rattle.command_source.specs.Roots as R;
 ghost use Rattle.command_source.specs.Wanted.{Root, Compiled, MissesRoot, MissesCode, IsRoot, IsCompiled, IsReady};
 ghost use Rattle.command_source.specs.Wanted.{IsRefusedBy, KeepsFrom, of_entry};
@@ -258,7 +258,7 @@ fn compiled(alloc: Global, lowered: Lowered, entry: &str) -> Result<Ready, Failu
     ensures ready { (source : List ℕ) → IsAccepted source (V.program lowered.typed.program) →
         OnOk result (IsReady source (Compiled entry.now)) }
     ensures code { (source : List ℕ) → IsAccepted source (V.program lowered.typed.program) →
-        IsLoweredFrom (V.program lowered.typed.program) (plain_code lowered.code) →
+        IsLoweredFrom (V.program lowered.typed.program) (plain_code lowered.code) → HasFile (plain_code lowered.code) →
         IfOk result (IsEntryOf source entry.now) }
     ensures kept { (source : List ℕ) → IsAccepted source (V.program lowered.typed.program) →
         IsLoweredFrom (V.program lowered.typed.program) (plain_code lowered.code) → IsSound (plain lowered.code) →

@@ -12,9 +12,11 @@ ghost use Rattle.command_source.specs.ProgramCode.{IsCompiledFile, KeepsFromComp
 ghost use Rattle.fip_language.specs.declared.rule.Rule.TheVariants.{E61};
 ghost use Rattle.command_outcome.specs.Stages.{IsOfSource};
 ghost use Rattle.program_front.specs.source_report.Report.{bare};
-ghost use Rattle.command_source.specs.Roots.{IsListing};
+ghost use Rattle.command_source.specs.Roots.{IsListing, root_lines};
+ghost use Rattle.fip_trees.specs.TreeView as V;
 ghost use Rattle.command_source.specs.Wanted.{Lawful, IsRefusedBy, KeepsFrom};
 
+use crate::known::Front;
 use crate::listing::{functions_text, roots_text};
 use crate::phases::{bare_refusal, code_of, front, lawful};
 use code_file::{WriteError, write_code};
@@ -59,8 +61,28 @@ pub fn check(alloc: Global, source: &[u8]) -> Result<Vec<u8>, Failure>
     }
 }
 
-/// The code file of a source that breaks no rule, and the lines of `check`. The refusals are those of `front`, and
-/// after them E61 where the code file that spells its code has more than 16,777,216 bytes.
+/// The file of version 2 of just the code that was made of a source, and the lines of `check`. E61 just where that code
+/// has no file of at most 16,777,216 bytes.
+pub fn file_of(alloc: Global, front: &Front) -> Result<Compiled, Failure>
+    ensures spelt { IfOk result (λ c. CodeText c.file.items Second (plain_code front.now.verified.code)) }
+    ensures short { IfOk result (λ c. length c.file.items ≤ MOST_FILE_BYTES) }
+    ensures unspelt { (r : a_refusal) → result ≡ Err (Refused r) → IsUnspelt (plain_code front.now.verified.code) }
+    ensures long { IfErr result (IsRefusedBy (λ r. r ≡ bare E61)) }
+    ensures lines { IfOk result (λ c. c.text.items
+        ≡ root_lines front.now.groups 0 (V.program front.now.typed.program).instances) }
+    ensures stage { IfErr result IsOfSource }
+{
+    match written(alloc, &front.verified) {
+        Ok(file) => {
+            let text = roots_text(alloc, &front.typed.program, &front.groups)?;
+            Ok(Compiled { file, text })
+        }
+        Err(failure) => Err(failure),
+    }
+}
+
+/// The code file of a source that breaks no rule, and the lines of `check`: what `file_of` makes of the code of `front`.
+/// The refusals are those of `front`, and after them E61.
 pub fn compile(alloc: Global, source: &[u8]) -> Result<Compiled, Failure>
     ensures listed { IfOk result (λ c. IsListing source.now c.text.items) }
     ensures sound { IfOk result (λ c. (code : PlainCode) × IsSoundFile c.file.items code) }
@@ -69,13 +91,7 @@ pub fn compile(alloc: Global, source: &[u8]) -> Result<Compiled, Failure>
     ensures stage { IfErr result IsOfSource }
 {
     match front(alloc, source) {
-        Ok(front) => match written(alloc, &front.verified) {
-            Ok(file) => {
-                let text = roots_text(alloc, &front.typed.program, &front.groups)?;
-                Ok(Compiled { file, text })
-            }
-            Err(failure) => Err(failure),
-        },
+        Ok(front) => file_of(alloc, &front),
         Err(failure) => Err(failure),
     }
 }

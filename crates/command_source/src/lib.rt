@@ -12,7 +12,7 @@ mod places;
 
 pub use derivations::{audit, bad_proof, derive};
 pub use entry::{Evaluable, Ready, eval_entry, exec_entry, run_entry};
-pub use files::{Compiled, check, compile, upgrade, verify_file};
+pub use files::{Compiled, check, compile, file_of, upgrade, verify_file};
 pub use known::Front;
 pub use phases::{front, typed_of};
 pub use places::place_at;

@@ -9,7 +9,6 @@ ghost use Rattle.command_outcome.specs.Stages.{IsOfSource};
 ghost use Rattle.command_outcome.specs.declared.failure.Failure.TheVariants.{NoMemory};
 ghost use Rattle.fip_trees.specs.TreeView as V;
 ghost use Rattle.fip_proof.specs.credit_check.Tallies.{all_needs};
-ghost use Rattle.machine_correctness.specs.compiler_correctness.lower_frame.Spelled.{AreSpelt};
 ghost use Rattle.program_front.specs.source_report.Report.{bare, IsAccepted, IsMatched, Says};
 ghost use Rattle.command_source.specs.Wanted.{Wanted, Lawful, IsReport, IsRefusedBy, KeepsFrom};
 ghost use Rattle.program_front.specs.Unmatched.{IsUnmatched};
@@ -66,16 +65,16 @@ fn failure_of(source: &[u8], error: PhaseError) -> Failure
     }
 }
 
-/// What is known of a source that breaks no rule, its code as it was lowered, which is sound; else the source's report
-/// (`program_front::front`).
+/// What is known of a source that breaks no rule, its code as it was lowered, which is sound and has a file; else the
+/// source's report (`program_front::front`).
 pub(crate) fn lawful(alloc: Global, source: &[u8]) -> Result<Lowered, Failure>
     ensures accepted { IfOk result (λ l. IsAccepted source.now (V.program l.typed.program)) }
     ensures needs { IfOk result (λ l. l.needs ≡
         all_needs (V.program l.typed.program) (V.program l.typed.program).instances) }
     ensures groups { IfOk result (λ l. AreMembers (V.program l.typed.program).instances l.groups) }
     ensures code { IfOk result (λ l. IsLoweredFrom (V.program l.typed.program) (plain_code l.code)) }
-    ensures spelt { IfOk result (λ l. AreSpelt l.code.functions.items) }
     ensures sound { IfOk result (λ l. IsSound (plain l.code)) }
+    ensures filed { IfOk result (λ l. HasFile (plain_code l.code)) }
     ensures kept { (w : Wanted) → IfErr result (KeepsFrom source.now w) }
     ensures stage { IfErr result IsOfSource }
 {

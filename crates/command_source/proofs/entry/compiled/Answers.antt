@@ -17,7 +17,7 @@ returns-in-Ok-clause-kept c = λ source accepted lowered sound.
     (root_has_function source c.args.entry.now (program c.args.lowered.typed.program) c.args.lowered.code accepted lowered (subst (λ ds. IsCompiled (root_named c.args.entry.now (instances ds))) c.as_slice.ensures.value c.in-Ok.ensures.compiled)))
 
 pub returns-in-Ok-clause-code : goal.returns-in-Ok-clause-code
-returns-in-Ok-clause-code c = λ source accepted lowered. entry_of source c.args.entry.now (program c.args.lowered.typed.program) c.args.lowered.code c.verified_entry.result accepted lowered c.verified_entry.ensures.same c.verified_entry.ensures.sound c.verified_entry.ensures.named
+returns-in-Ok-clause-code c = λ source accepted lowered filed. entry_of source c.args.entry.now (program c.args.lowered.typed.program) c.args.lowered.code c.verified_entry.result accepted lowered filed c.verified_entry.ensures.same c.verified_entry.ensures.sound c.verified_entry.ensures.named
 
 pub returns-in-Err-clause-kept : goal.returns-in-Err-clause-kept
 returns-in-Err-clause-kept c = λ source accepted lowered sound.

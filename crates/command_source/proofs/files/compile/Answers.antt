@@ -1,14 +1,15 @@
-use Rattle.std.proofs.Common.{ap, Err}
 use Rattle.fip_trees.specs.TreeView.{program}
-use Rattle.command_source.proofs.CodeFiles.{sound_file}
-use Rattle.command_source.proofs.Compiling.{compiled_file, uncompiled}
+use Rattle.command_source.proofs.Compiling.{made_listed, made_sound, made_file, made_kept}
 use Rattle.command_source.proofs.files.compile.Goals as goal
 
-pub returns-in-Ok-written-clause-sound : goal.returns-in-Ok-written-clause-sound
-returns-in-Ok-written-clause-sound c = sound_file c.in-Ok-written.file.items c.in-Ok.front.verified.code c.in-Ok-written.ensures.spelt c.in-Ok-written.ensures.short c.in-Ok.ensures.sound
+pub returns-in-Ok-clause-listed : goal.returns-in-Ok-clause-listed
+returns-in-Ok-clause-listed c = made_listed c.args.source.now (program c.in-Ok.front.typed.program) c.in-Ok.front.groups c.file_of.result c.in-Ok.ensures.accepted c.in-Ok.ensures.groups c.file_of.ensures.lines
 
-pub returns-in-Ok-written-clause-stored : goal.returns-in-Ok-written-clause-stored
-returns-in-Ok-written-clause-stored c = compiled_file c.args.source.now c.in-Ok-written.file.items (program c.in-Ok.front.typed.program) c.in-Ok.front.verified.code c.in-Ok.ensures.accepted c.in-Ok.ensures.code c.in-Ok.ensures.sound c.in-Ok-written.ensures.spelt c.in-Ok-written.ensures.short
+pub returns-in-Ok-clause-sound : goal.returns-in-Ok-clause-sound
+returns-in-Ok-clause-sound c = made_sound c.in-Ok.front.verified.code c.file_of.result c.file_of.ensures.spelt c.file_of.ensures.short c.in-Ok.ensures.sound
+
+pub returns-in-Ok-clause-stored : goal.returns-in-Ok-clause-stored
+returns-in-Ok-clause-stored c = made_file c.args.source.now (program c.in-Ok.front.typed.program) c.in-Ok.front.verified.code c.file_of.result c.in-Ok.ensures.accepted c.in-Ok.ensures.code c.in-Ok.ensures.sound c.file_of.ensures.spelt c.file_of.ensures.short
 
 pub returns-in-Ok-clause-kept : goal.returns-in-Ok-clause-kept
-returns-in-Ok-clause-kept c = uncompiled c.args.source.now (program c.in-Ok.front.typed.program) c.in-Ok.front.verified.code c.in-Err-written.failure c.in-Ok.ensures.accepted c.in-Ok.ensures.code c.in-Ok.ensures.sound c.in-Ok.ensures.filed (λ r e. c.in-Err-written.ensures.unspelt r (ap Err e)) c.in-Err-written.ensures.long
+returns-in-Ok-clause-kept c = made_kept c.args.source.now (program c.in-Ok.front.typed.program) c.in-Ok.front.verified.code c.file_of.result c.in-Ok.ensures.accepted c.in-Ok.ensures.code c.in-Ok.ensures.sound c.in-Ok.ensures.filed c.file_of.ensures.unspelt c.file_of.ensures.long

@@ -14,4 +14,4 @@ pub returns-in-Ok-clause-code : goal.returns-in-Ok-clause-code
 returns-in-Ok-clause-code c = headed_verified (V.program c.in-Ok.lowered.typed.program) c.in-Ok.lowered.code c.verified_front.result c.in-Ok.ensures.code c.verified_front.ensures.typed c.verified_front.ensures.code
 
 pub returns-in-Ok-clause-filed : goal.returns-in-Ok-clause-filed
-returns-in-Ok-clause-filed c = filed_verified c.args.source.now (V.program c.in-Ok.lowered.typed.program) c.in-Ok.lowered.code c.verified_front.result c.in-Ok.ensures.accepted c.in-Ok.ensures.code c.in-Ok.ensures.spelt c.verified_front.ensures.code c.verified_front.ensures.sound
+returns-in-Ok-clause-filed c = filed_verified c.in-Ok.lowered.code c.verified_front.result c.in-Ok.ensures.filed c.verified_front.ensures.code

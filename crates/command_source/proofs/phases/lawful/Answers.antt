@@ -5,7 +5,7 @@ use Rattle.code_verify.specs.code_rules.Codes.{plain}
 use Rattle.machine_correctness.proofs.compiler_correctness.SoundnessFunctions.{headed_in_memory}
 use Rattle.machine_correctness.proofs.compiler_correctness.SoundnessWhole.{laid_out_is_sound}
 use Rattle.machine_correctness.proofs.compiler_correctness.StackNumbers.{laid_out_has_stacks}
-use Rattle.command_source.proofs.Compiling.{headed, lists_few}
+use Rattle.command_source.proofs.Compiling.{headed, has_file, lists_few}
 use Rattle.command_source.proofs.Told.{report_keeps}
 use Rattle.command_source.proofs.phases.lawful.Goals as goal
 
@@ -28,3 +28,6 @@ returns-in-Ok-clause-sound c =
     laid_out_is_sound c.args.source.now p c.in-Ok.ensures.accepted (plain c.in-Ok.lowered.code)
     (headed_in_memory p c.in-Ok.lowered.groups c.in-Ok.lowered.code c.in-Ok.ensures.groups c.in-Ok.ensures.types c.in-Ok.ensures.functions)
     (subst (λ ns. IsAsked p ns → IsLaidOut p (plain c.in-Ok.lowered.code)) c.in-Ok.ensures.needs c.in-Ok.ensures.laid)
+
+pub returns-in-Ok-clause-filed : goal.returns-in-Ok-clause-filed
+returns-in-Ok-clause-filed c = has_file c.args.source.now (program c.in-Ok.lowered.typed.program) c.in-Ok.lowered.code c.in-Ok.ensures.accepted (returns-in-Ok-clause-code c) c.in-Ok.ensures.spelt (returns-in-Ok-clause-sound c)

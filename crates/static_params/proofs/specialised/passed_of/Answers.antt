@@ -3,11 +3,11 @@ use Rattle.reached_instances.specs.Instances.{ArePassed}
 use Rattle.reached_instances.specs.SharedTrees.{AreWithin, all_at, trees}
 use Rattle.static_params.proofs.specialised.passed_of.Goals as goal
 
-pub returns-in-Some-clause-grows : goal.returns-in-Some-clause-grows
-returns-in-Some-clause-grows c = λ a. c.in_ok-passed.ensures.grows a
+pub returns-clause-grows : goal.returns-clause-grows
+returns-clause-grows c = λ a. c.in_ok-passed.ensures.grows a
 
-pub returns-in-Some-clause-roots : goal.returns-in-Some-clause-roots
-returns-in-Some-clause-roots c = λ a.
+pub returns-clause-roots : goal.returns-clause-roots
+returns-clause-roots c = λ a.
     let n = c.in_ok-passed.ensures in
     record {
       right = (n.right a).right;
@@ -15,5 +15,5 @@ returns-in-Some-clause-roots c = λ a.
       passed = subst (λ (o : Option (List ℕ)). IfSome o (λ (v : List ℕ). AreWithin c.number.new.shared.branches v)) c.in-Some.is (n.within a);
     }
 
-pub returns-in-Some-clause-passed : goal.returns-in-Some-clause-passed
-returns-in-Some-clause-passed c = λ a. subst (λ (o : Option (List ℕ)). IfSome o (λ (v : List ℕ). ArePassed (all_at (trees c.args.shared.now.branches) c.args.instances.now) (all_at (trees c.number.new.shared.branches) v))) c.in-Some.is (c.in_ok-passed.ensures.numbered a)
+pub returns-clause-passed : goal.returns-clause-passed
+returns-clause-passed c = λ a. subst (λ (o : Option (List ℕ)). IfSome o (λ (v : List ℕ). ArePassed (all_at (trees c.args.shared.now.branches) c.args.instances.now) (all_at (trees c.number.new.shared.branches) v))) c.in-Some.is (c.in_ok-passed.ensures.numbered a)

@@ -16,8 +16,8 @@ new-requires c =
     let made = subst (λ (o : Option Program). IfSome o (λ (p : Program). IsAccepted (source_of c.core.result.now c.decls.result.now) p)) c.in-Some.is (c.in-Ok.ensures.accepted c.new-least.ensures.none) in
     record { sound = program_sound c.args.declared.now.core c.args.declared.now.decls c.in-Some.program c.core.ensures.declared (subst (λ (x : Source). IsAccepted x c.in-Some.program) here made) }
 
-pub prove-unreachable-requires : goal.prove-unreachable-requires
-prove-unreachable-requires c =
+pub unreachable-requires : goal.unreachable-requires
+unreachable-requires c =
     let named = c.in-Ok.ensures.refused c.new-least.ensures.none c.in-None.is in
     none-some (refusal named.0) (sym c.in-None-into_refusal.is ∙ c.into_refusal.ensures.least ∙ ap (option_map refusal) named.1)
 

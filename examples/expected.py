@@ -221,18 +221,28 @@ def expression(e):
     return ("Node", op, left, value, right), value
 
 
+def turned(live, tall, wide):
+    """The fields that are alive after one more turn, on a torus."""
+    near = {}
+    for i, j in live:
+        for a, b in itertools.product((-1, 0, 1), repeat=2):
+            if (a, b) != (0, 0):
+                place = ((i + a) % tall, (j + b) % wide)
+                near[place] = near.get(place, 0) + 1
+    return frozenset(p for p, n in near.items() if n == 3 or n == 2 and p in live)
+
+
 def life(turns, unit, xs):
     rows, wide = items(xs), len(str(unit))
-    live = {(i, j) for i, row in enumerate(rows) for j, c in enumerate(str(row).zfill(wide)) if c == "1"}
-    tall = len(rows)
-    for _ in range(max(turns, 0)):
-        near = {}
-        for i, j in live:
-            for a, b in itertools.product((-1, 0, 1), repeat=2):
-                if (a, b) != (0, 0):
-                    place = ((i + a) % tall, (j + b) % wide)
-                    near[place] = near.get(place, 0) + 1
-        live = {p for p, n in near.items() if n == 3 or n == 2 and p in live}
+    live = frozenset((i, j) for i, row in enumerate(rows) for j, c in enumerate(str(row).zfill(wide)) if c == "1")
+    tall, before = len(rows), {}
+    while live not in before and len(before) < turns:
+        before[live] = len(before)
+        live = turned(live, tall, wide)
+    # where it has been so before, the turns in between come again and again
+    if live in before:
+        first, states = before[live], [*before]
+        live = states[first + (turns - len(states)) % (len(states) - first)]
     return (cons(int("".join("01"[(i, j) in live] for j in range(wide))) for i in range(tall)),)
 
 

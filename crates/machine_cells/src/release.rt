@@ -9,6 +9,7 @@ ghost use Rattle.cell_store.specs.Told.{Told, Released};
 ghost use Rattle.machine_semantics.specs.Cells.{Store, Release, changed, changed_by};
 ghost use Rattle.machine_semantics.specs.Trees.{tree_of};
 ghost use Rattle.machine_cells.specs.Live.{work};
+ghost use Rattle.machine_cells.specs.Counting.{CountsReleased, CountsOne};
 ghost use Rattle.machine_cells.specs.Small.{IsSmall, store_of};
 ghost use Rattle.machine_cells.specs.Pending.{entry, entries, field_entry, Held, HeldBut};
 
@@ -44,7 +45,9 @@ fn fields_of(types: &TypeTable, ty: u32, constructor: u32) -> &[u32]
 }
 
 // Counts one more cell of a size.
-fn count_one(freed: &mut [usize; SIZES], size: usize) {
+fn count_one(freed: &mut [usize; SIZES], size: usize)
+    ensures one { CountsOne freed.old size freed.new }
+{
     if 1 <= size && size <= SIZES {
         freed[size - 1] = freed[size - 1].saturating_add(1);
     }
@@ -57,6 +60,8 @@ pub fn release_cell<C: Cells>(cells: &mut C, freed: &mut [usize; SIZES], word: u
         cells.old) (C.released cells.old)) ≡ Some s → store_of (C.cells cells.new) (C.released cells.new) ≡ s }
     ensures cells { C.cells cells.new ≡ C.cells cells.old }
     ensures pushed { C.pushed cells.new ≡ C.pushed cells.old }
+    ensures counted { CountsReleased (C.cells cells.old) (C.released cells.old) freed.old (C.cells cells.new)
+        (C.released cells.new) freed.new }
     ensures told { IsSmall (C.cells cells.old) → (s : Store) → changed (Release (word / 2)) (store_of (C.cells
         cells.old) (C.released cells.old)) ≡ Some s → (first : C) (ts : List Told) → C.was_told first ts cells.old →
         C.was_told first (ts ++ Released (word / 2) ∷ []) cells.new }
@@ -109,6 +114,8 @@ fn release_root<C: Cells>(types: &TypeTable, cells: &mut C, freed: &mut [usize; 
     ensures less { work (C.cells cells.new) (C.released cells.new) (C.pushed cells.new) ≤ work (C.cells cells.old)
         (C.released cells.old) (C.pushed cells.old) }
     ensures cells { C.cells cells.new ≡ C.cells cells.old }
+    ensures counted { CountsReleased (C.cells cells.old) (C.released cells.old) freed.old (C.cells cells.new)
+        (C.released cells.new) freed.new }
     ensures released { IsSmall (C.cells cells.old) → (first last : Store) (p : ℕ) (ps : List ℕ) → HeldBut types.now
         first (store_of (C.cells cells.old) (C.released cells.old)) last (C.pushed cells.old) entry p ps → Held
         types.now first (store_of (C.cells cells.new) (C.released cells.new)) last (C.pushed cells.new) ps }
@@ -140,6 +147,8 @@ pub fn release_tree<C: Cells>(
         store_of (C.cells cells.new) (C.released cells.new) ≡ s }
     ensures cells { C.cells cells.new ≡ C.cells cells.old }
     ensures pushed { C.pushed cells.old ≡ [] → C.pushed cells.new ≡ [] }
+    ensures counted { CountsReleased (C.cells cells.old) (C.released cells.old) freed.old (C.cells cells.new)
+        (C.released cells.new) freed.new }
     ensures told { IsSmall (C.cells cells.old) → C.pushed cells.old ≡ [] → (x : Placed) (s : Store) →
         tree_of types.now (store_of (C.cells cells.old) (C.released cells.old)) ty word ≡ Some x →
         changed_by (map (λ p. Release p) (places x)) (store_of (C.cells cells.old) (C.released cells.old)) ≡ Some s →

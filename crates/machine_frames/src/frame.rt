@@ -1,7 +1,8 @@
 // What instructions do to the words of frames. Lists of at most four registers are matched, the commonest lengths
 // first, so that each length is straight code: a list is read first and then written, since the store and the frames
 // may not be known to lie apart.
-ghost use Rattle.std.specs.Prelude.{◌≡◌, ◌≢◌, ℕ, ◌+◌, ◌<◌, ◌≤◌, List, [], ◌∷◌, ◌++◌, None, Some, length, slice_set};
+ghost use Rattle.std.specs.Prelude.{◌≡◌, ◌≢◌, ℕ, ◌+◌, ◌<◌, ◌≤◌, List, [], ◌∷◌, ◌++◌, None, Some, length, vec_len};
+ghost use Rattle.std.specs.Prelude.{slice_set};
 ghost use Rattle.fip_language.specs.declared.limits.TheConstants.{MOST_FIELDS, MOST_RESULTS};
 ghost use Rattle.fip_language.specs.Store.{Cell};
 ghost use Rattle.machine_semantics.specs.cell_code.Runnable.{AreBelow};
@@ -247,16 +248,18 @@ pub fn clear(words: &mut [u64], from: usize, to: usize)
     ensures { Clears from to words.old words.new }
 {
     let count = to.saturating_sub(from);
-    if count > 32 {
-        clear_all(words, from, to);
-    } else if count >= 16 {
-        clear_sixteens(words, from, to);
-    } else if count >= 8 {
+    if count <= 8 {
+        if count >= 4 {
+            clear_fours(words, from, to);
+        } else {
+            clear_few(words, from, to);
+        }
+    } else if count <= 16 {
         clear_eights(words, from, to);
-    } else if count >= 4 {
-        clear_fours(words, from, to);
+    } else if count <= 32 {
+        clear_sixteens(words, from, to);
     } else {
-        clear_few(words, from, to);
+        clear_all(words, from, to);
     }
 }
 
@@ -323,13 +326,13 @@ fn replace_all(words: &mut [u64], spare: &mut [u64], base: usize, own: usize, ar
 
 /// The first words of the frame at `base`, which has `own` registers, get those of some of its registers.
 #[inline(always)]
-pub fn replace(words: &mut [u64], spare: &mut [u64], base: usize, own: usize, arguments: &[u16])
+pub fn replace(words: &mut [u64], spare: &mut Vec<u64>, base: usize, own: usize, arguments: &[u16])
     requires arguments { AreBelow own arguments.now }
     requires own { base + own ≤ length words.old }
     requires room { base + length arguments.now ≤ length words.old }
-    requires spare { length arguments.now ≤ length spare.old }
+    requires spare { length arguments.now ≤ vec_len spare.old }
     ensures keeps { Keeps base words.old words.new }
-    ensures long { length spare.new ≡ length spare.old }
+    ensures long { vec_len spare.new ≡ vec_len spare.old }
     ensures given { words.new ≡ laid_at base words.old (words_from base words.old arguments.now) }
 {
     match arguments {
@@ -359,7 +362,7 @@ pub fn replace(words: &mut [u64], spare: &mut [u64], base: usize, own: usize, ar
         }
         [a] => words[base] = words[base + *a as usize],
         [] => {}
-        _ => replace_all(words, spare, base, own, arguments),
+        _ => replace_all(words, spare.as_mut_slice(), base, own, arguments),
     }
 }
 

@@ -57,3 +57,10 @@ two_more v b n c p r = elim (cases_lt n b.words) [
   | inl l ↦ (let z = r l in omega (arith, z))
   | inr l ↦ (let z = fits_own v b c.function c.frames c.base c.registers p.fits p.frames p.own p.largest in omega (arith, z, l))
 ]
+
+-- so are those of a frame that takes the place of the running one
+pub room_tail : (v : Checked) (b : Bounds) (n : ℕ) (c : Cursor) (g registers : ℕ) → c.frames ≤ b.frames → IsRoomy b n c → Fits v b g c.frames c.base → ((s : Stack) → slice_get v.stacks g ≡ Some (Some s) → registers + 2 ≤ s.words) → registers + 2 ≤ b.largest → c.base + registers ≤ n
+room_tail v b n c g registers few r fits own largest = elim (cases_lt n b.words) [
+  | inl l ↦ (let z = r l in omega (arith, z, largest))
+  | inr l ↦ (let z = fits_own v b g c.frames c.base registers fits few own largest in omega (arith, z, l))
+]

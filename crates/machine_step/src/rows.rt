@@ -23,6 +23,7 @@ ghost use Rattle.machine_frames.specs.Keeping.{Keeps};
 ghost use Rattle.machine_frames.specs.Words.{words_from, put_words};
 ghost use Rattle.machine_cells.specs.Outcomes.{truth_word};
 ghost use Rattle.machine_cells.specs.Small.{IsSmall, store_of};
+ghost use Rattle.machine_cells.specs.Counting.{CountsReleased};
 ghost use Rattle.machine_step.specs.Bounding.{AreAtMost, Fits};
 ghost use Rattle.machine_step.specs.Coming.{IsNext, IsTold, KnowsDrop, KnowsAt, moved};
 ghost use Rattle.machine_step.specs.Going.{IsDone, IsGone, IsToldWithMore, Names};
@@ -690,6 +691,8 @@ fn put_cell<C: Cells>(
         C.was_told first ts cells.old → C.was_told first (ts ++ act_tells (plain verified.now.code) ks (state_of
         verified.now bounds lent (store_of (C.cells cells.old) (C.released cells.old)) words.now cursor.old)
         (Instr.Put register ty constructor fields.now)) cells.new }
+    ensures counted { (freed : List ℕ) → CountsReleased (C.cells cells.old) (C.released cells.old) freed (C.cells
+        cells.new) (C.released cells.new) freed }
     ensures same { IsSame cursor.old cursor.new }
 {
     let word = words[cursor.base + register as usize];
@@ -748,7 +751,7 @@ fn enter_again(
     verified: &Verified,
     bounds: Bounds,
     words: &mut [u64],
-    spare: &mut [u64],
+    spare: &mut Vec<u64>,
     cursor: &mut Cursor,
     arguments: &[u16],
 ) -> Stepped
@@ -757,12 +760,12 @@ fn enter_again(
     requires waiting { Waiting verified.now bounds words.old cursor.old.frames cursor.old.base }
     requires arguments { AreBelow cursor.old.registers arguments.now }
     requires few { length arguments.now ≤ cursor.old.registers }
-    requires spare { bounds.largest ≤ length spare.old }
+    requires spare { bounds.largest ≤ vec_len spare.old }
     ensures placed { IsPlaced verified.now bounds (length words.new) cursor.new }
     ensures waiting { Waiting verified.now bounds words.new cursor.new.frames cursor.new.base }
     ensures entered { result ≡ Stepped.Entered }
     ensures frames { cursor.new.frames ≡ cursor.old.frames }
-    ensures long { length spare.new ≡ length spare.old }
+    ensures long { vec_len spare.new ≡ vec_len spare.old }
     ensures next { (ks : List Kind) (s : Store) (given : List ℕ) → IsNext verified.now bounds (Instr.Tail
         cursor.old.function arguments.now) ks s words.old cursor.old result s words.new cursor.new given }
     ensures same { IsSame cursor.old cursor.new }
@@ -831,7 +834,7 @@ fn enter_instead<'a>(
     verified: &'a Verified,
     bounds: Bounds,
     words: &mut [u64],
-    spare: &mut [u64],
+    spare: &mut Vec<u64>,
     cursor: &mut Cursor<'a>,
     function: u32,
     arguments: &[u16],
@@ -843,30 +846,26 @@ fn enter_instead<'a>(
     requires arguments { AreBelow cursor.old.registers arguments.now }
     requires callee { CanCall verified.now.code.functions.items function (length arguments.now) }
     requires covers { Covers verified.now.stacks cursor.old.function function 0 }
-    requires spare { bounds.largest ≤ length spare.old }
+    requires spare { bounds.largest ≤ vec_len spare.old }
     ensures placed { IsPlaced verified.now bounds (length words.new) cursor.new }
     ensures waiting { Waiting verified.now bounds words.new cursor.new.frames cursor.new.base }
     ensures entered { result ≡ Stepped.Entered }
     ensures frames { cursor.new.frames ≡ cursor.old.frames }
-    ensures long { length spare.new ≡ length spare.old }
+    ensures long { vec_len spare.new ≡ vec_len spare.old }
     ensures next { (ks : List Kind) (s : Store) (given : List ℕ) → IsNext verified.now bounds (Instr.Tail function
         arguments.now) ks s words.old cursor.old result s words.new cursor.new given }
     ensures raised { IsHigh cursor.old → IsRaised cursor.old cursor.new }
 {
-    let registers = function_at(verified, function as usize).registers as usize;
+    let callee = function_at(verified, function as usize);
+    let registers = callee.registers as usize;
     let base = cursor.base;
     replace(words, spare, base, cursor.registers, arguments);
     clear(words, base + arguments.len(), base + registers);
-    let frames = cursor.frames;
-    enter(
-        verified,
-        bounds,
-        words,
-        cursor,
-        function as usize,
-        base,
-        frames,
-    );
+    cursor.instrs = callee.instrs.as_slice();
+    cursor.registers = registers;
+    cursor.function = function as usize;
+    cursor.at = 0;
+    cursor.highest.words = cursor.highest.words.max(base + registers + 2);
     Stepped::Entered
 }
 
@@ -876,7 +875,7 @@ fn tail<'a>(
     verified: &'a Verified,
     bounds: Bounds,
     words: &mut [u64],
-    spare: &mut [u64],
+    spare: &mut Vec<u64>,
     cursor: &mut Cursor<'a>,
     function: u32,
     arguments: &[u16],
@@ -888,12 +887,12 @@ fn tail<'a>(
     requires arguments { AreBelow cursor.old.registers arguments.now }
     requires callee { CanCall verified.now.code.functions.items function (length arguments.now) }
     requires covers { Covers verified.now.stacks cursor.old.function function 0 }
-    requires spare { bounds.largest ≤ length spare.old }
+    requires spare { bounds.largest ≤ vec_len spare.old }
     ensures placed { IsPlaced verified.now bounds (length words.new) cursor.new }
     ensures waiting { Waiting verified.now bounds words.new cursor.new.frames cursor.new.base }
     ensures entered { result ≡ Stepped.Entered }
     ensures frames { cursor.new.frames ≡ cursor.old.frames }
-    ensures long { length spare.new ≡ length spare.old }
+    ensures long { vec_len spare.new ≡ vec_len spare.old }
     ensures next { (ks : List Kind) (s : Store) (given : List ℕ) → IsNext verified.now bounds (Instr.Tail function
         arguments.now) ks s words.old cursor.old result s words.new cursor.new given }
     ensures raised { IsHigh cursor.old → IsRaised cursor.old cursor.new }
@@ -973,6 +972,7 @@ fn keep_results(beside: &mut Beside, words: &[u64], base: usize, own: usize, res
     requires results { AreBelow own results.now }
     requires few { length results.now ≤ MOST_RESULTS }
     ensures spare { vec_len beside.new.spare ≡ vec_len beside.old.spare }
+    ensures freed { beside.new.freed ≡ beside.old.freed }
     ensures kept { take beside.new.given beside.new.results ≡ words_from base words.now results.now }
 {
     for (i, register) in results.iter().enumerate() {
@@ -1003,6 +1003,7 @@ fn give_back<'a>(
     ensures less { result ≡ Stepped.Went → weight cursor.new < weight cursor.old }
     ensures entered { result ≢ Stepped.Entered }
     ensures spare { vec_len beside.new.spare ≡ vec_len beside.old.spare }
+    ensures freed { beside.new.freed ≡ beside.old.freed }
     ensures next { (ks : List Kind) (s : Store) → IsNext verified.now bounds (Instr.Ret results.now) ks s words.old
         cursor.old result s words.new cursor.new (take beside.new.given beside.new.results) }
     ensures raised { IsHigh cursor.old → IsRaised cursor.old cursor.new }
@@ -1048,6 +1049,8 @@ fn drop_tree<C: Cells>(
         tree_of verified.now.code.types (store_of (C.cells cells.old) (C.released cells.old)) t word ≡ Some x →
         changed_by (map (λ p. Release p) (places x)) (store_of (C.cells cells.old) (C.released cells.old)) ≡ Some s →
         store_of (C.cells cells.new) (C.released cells.new) ≡ s }
+    ensures counted { CountsReleased (C.cells cells.old) (C.released cells.old) beside.old.freed (C.cells cells.new)
+        (C.released cells.new) beside.new.freed }
     ensures told { (t : ℕ) → ReleasesAt (V.plain verified.now.code) cursor.now.function cursor.now.at t →
         IsSmall (C.cells cells.old) → C.pushed cells.old ≡ [] → (x : Placed) (s : Store) →
         tree_of verified.now.code.types (store_of (C.cells cells.old) (C.released cells.old)) t word ≡ Some x →
@@ -1104,6 +1107,8 @@ fn act<'a, C: Cells, const IN_LOOP: bool>(
         instr.now) → (first : C) (ts : List Told) → C.was_told first ts cells.old → C.was_told first
         (ts ++ act_tells (plain verified.now.code) ks (state_of verified.now bounds lent (store_of (C.cells
         cells.old) (C.released cells.old)) words.old cursor.old) instr.now) cells.new }
+    ensures counted { IN_LOOP ≡ false → CountsReleased (C.cells cells.old) (C.released cells.old) beside.old.freed
+        (C.cells cells.new) (C.released cells.new) beside.new.freed }
     ensures raised { IsHigh cursor.old → IsRaised cursor.old cursor.new }
 {
     match instr {
@@ -1232,7 +1237,7 @@ fn act<'a, C: Cells, const IN_LOOP: bool>(
             verified,
             bounds,
             words,
-            beside.spare.as_mut_slice(),
+            &mut beside.spare,
             cursor,
             *function,
             arguments.as_slice(),
@@ -1291,6 +1296,8 @@ pub fn advance<'a, C: Cells, const IN_LOOP: bool>(
         words.old cursor.old)) → (first : C) (ts : List Told) → C.was_told first ts cells.old → C.was_told first
         (ts ++ next_tells kinds (plain verified.now.code) (state_of verified.now bounds lent (store_of (C.cells
         cells.old) (C.released cells.old)) words.old cursor.old)) cells.new }
+    ensures counted { IN_LOOP ≡ false → CountsReleased (C.cells cells.old) (C.released cells.old) beside.old.freed
+        (C.cells cells.new) (C.released cells.new) beside.new.freed }
     ensures raised { IsHigh cursor.old → IsRaised cursor.old cursor.new }
 {
     let instr = next_of(verified, bounds, words, cursor);

@@ -2,6 +2,8 @@ use Rattle.std.proofs.Common.{◌≡◌, ◌≢◌, ◌/◌, ◌∙◌, [], ◌�
 use Rattle.std.specs.Prelude.{slice_get, slice_set}
 use Rattle.cell_store.specs.Cells.{cell_at}
 use Rattle.cell_store.specs.Told.{Released}
+use Rattle.machine_cells.specs.Counting.{CountsReleased}
+use Rattle.machine_cells.proofs.Counts.{counts_release}
 use Rattle.machine_cells.specs.Small.{store_of}
 use Rattle.machine_cells.proofs.Pendings.{place_within, same_cell, is_there, given}
 use Rattle.machine_cells.proofs.release.release_cell.Goals as goal
@@ -50,3 +52,12 @@ returns-in_default-clause-told g c small s is first ts told =
     let within = place_within cs p there in
     let place = c.place_of.ensures (omega (arith, within, small)) in
     absurd (c.in_default.not-Some c.place_of.result (c.live_cell_at.ensures.found (subst (λ q. cell_at cs q ≢ None) (sym place) there) (subst (λ q. slice_get rs q ≡ Some false) (sym place) up.live)))
+
+pub returns-in-Some-clause-counted : goal.returns-in-Some-clause-counted
+returns-in-Some-clause-counted g c =
+    let cs = g.C.Cells.cells c.args.cells.now in
+    let rs = g.C.Cells.released c.args.cells.now in
+    let freed = c.args.freed.now in
+    let counts = c.count_one.new.freed in
+    let one = counts_release cs rs c.in-Some.place c.cell_size.result freed counts c.in-Some.ensures.live c.cell_size.ensures.size c.count_one.ensures.one in
+    subst (λ ds. CountsReleased cs rs freed ds (g.C.Cells.released c.release.new.self) counts) (sym c.release.ensures.cells) (subst (λ qs. CountsReleased cs rs freed cs qs counts) (sym c.release.ensures.released) one)

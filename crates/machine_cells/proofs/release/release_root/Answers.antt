@@ -6,6 +6,8 @@ use Rattle.fip_language.specs.Table.{constructors}
 use Rattle.fip_language.specs.Store.{Cell, words_of, places_of_all}
 use Rattle.cell_store.specs.Cells.{cell_at, number}
 use Rattle.cell_store.specs.Told.{Released}
+use Rattle.machine_cells.specs.Counting.{CountsReleased}
+use Rattle.machine_cells.proofs.Counts.{counts_release}
 use Rattle.machine_cells.specs.Small.{store_of}
 use Rattle.machine_cells.specs.Pending.{entries, word, all_places, Held}
 use Rattle.machine_cells.proofs.Pendings.{place_within, is_there, root_of, fields_held}
@@ -88,3 +90,12 @@ returns-in_default-clause-told g c small first last p ps h origin ts told =
     let within = place_within cs n.place there in
     let place : n.place ≡ e % 4294967296 = omega (arith, one, within, small) in
     absurd (c.in_default.not-Some (e % 4294967296) (c.live_cell_at.ensures.found (subst (λ q. cell_at cs q ≢ None) place there) (subst (λ q. slice_get rs q ≡ Some false) place r.live)))
+
+pub returns-in-Some-clause-counted : goal.returns-in-Some-clause-counted
+returns-in-Some-clause-counted g c =
+    let cs = g.C.Cells.cells c.args.cells.now in
+    let rs = g.C.Cells.released c.args.cells.now in
+    let freed = c.args.freed.now in
+    let counts = c.count_one.new.freed in
+    let one = counts_release cs rs c.in-Some.place c.cell_size.result freed counts c.in-Some.ensures.live c.cell_size.ensures.size c.count_one.ensures.one in
+    subst (λ ds. CountsReleased cs rs freed ds (g.C.Cells.released c.push_fields.new.cells) counts) (sym (c.push_fields.ensures.cells ∙ c.release.ensures.cells)) (subst (λ qs. CountsReleased cs rs freed cs qs counts) (sym (c.push_fields.ensures.released ∙ c.release.ensures.released)) one)

@@ -3,6 +3,8 @@ use Rattle.std.proofs.lemmas.List.{append_assoc, append-nil, map-append}
 use Rattle.fip_language.specs.Store.{places}
 use Rattle.cell_store.specs.Told.{Released}
 use Rattle.machine_cells.specs.Small.{IsSmall, store_of}
+use Rattle.machine_cells.specs.Counting.{CountsReleased}
+use Rattle.machine_cells.proofs.Counts.{counts_on}
 use Rattle.machine_cells.specs.Pending.{HeldBut}
 use Rattle.machine_semantics.proofs.Reading.{tree_read}
 use Rattle.machine_cells.proofs.Pendings.{first_held, popped, all_done}
@@ -11,6 +13,7 @@ use Rattle.machine_cells.proofs.release.release_tree.Goals as goal
 pub loop-next-init : goal.loop-next-init
 loop-next-init g c = record {
   cells = c.release_root.ensures.cells;
+  counted = c.release_root.ensures.counted;
   held = λ small empty x last tree goes.
       let s = store_of (g.C.Cells.cells c.args.cells.now) (g.C.Cells.released c.args.cells.now) in
       let z = first_held c.args.types.now s last c.args.ty c.args.word c.in-Some.root x (tree_read c.args.types.now s c.args.ty c.args.word x tree) goes (sym c.entry_of.ensures ∙ c.in-Some.is) in
@@ -21,6 +24,12 @@ loop-next-init g c = record {
 pub loop-next-preserved : goal.loop-next-preserved
 loop-next-preserved g c = record {
   cells = c.release_root-in-Some-pop.ensures.cells ∙ c.pop.ensures.cells ∙ c.loop-next.invariant.cells;
+  counted =
+      let m = c.release_root-in-Some-pop.new.cells in
+      let counts = c.release_root-in-Some-pop.new.freed in
+      let k = c.loop-next.cells in
+      let more = subst (λ cs. CountsReleased cs (g.C.Cells.released k) c.loop-next.freed (g.C.Cells.cells m) (g.C.Cells.released m) counts) c.pop.ensures.cells (subst (λ rs. CountsReleased (g.C.Cells.cells c.pop.new.self) rs c.loop-next.freed (g.C.Cells.cells m) (g.C.Cells.released m) counts) c.pop.ensures.released c.release_root-in-Some-pop.ensures.counted) in
+      counts_on (g.C.Cells.cells c.args.cells.now) (g.C.Cells.cells k) (g.C.Cells.cells m) (g.C.Cells.released c.args.cells.now) (g.C.Cells.released k) (g.C.Cells.released m) c.args.freed.now c.loop-next.freed counts c.loop-next.invariant.counted more;
   held = λ small empty x last tree goes.
       let s = store_of (g.C.Cells.cells c.args.cells.now) (g.C.Cells.released c.args.cells.now) in
       let now = store_of (g.C.Cells.cells c.loop-next.cells) (g.C.Cells.released c.loop-next.cells) in
@@ -59,3 +68,6 @@ returns-in_default-pop-clause-told g c small empty x last tree goes first ts tol
     let over = all_done c.args.types.now s now last (g.C.Cells.pushed c.loop-next.cells) held.1 c.in_default-pop.ensures.pushed.0 held.3 in
     let all : held.0 ≡ places x = sym (append-nil held.0) ∙ ap (λ ps. held.0 ++ ps) over.1 ∙ held.2 in
     subst (λ ps. g.C.Cells.was_told first (ts ++ map (λ p. Released p) ps) c.pop.new.self) all (c.pop.ensures.told first (ts ++ map (λ p. Released p) held.0) (held.4 first ts told))
+
+pub returns-in_default-pop-clause-counted : goal.returns-in_default-pop-clause-counted
+returns-in_default-pop-clause-counted g c = subst (λ cs. CountsReleased (g.C.Cells.cells c.args.cells.now) (g.C.Cells.released c.args.cells.now) c.args.freed.now cs (g.C.Cells.released c.pop.new.self) c.loop-next.freed) (sym c.pop.ensures.cells) (subst (λ rs. CountsReleased (g.C.Cells.cells c.args.cells.now) (g.C.Cells.released c.args.cells.now) c.args.freed.now (g.C.Cells.cells c.loop-next.cells) rs c.loop-next.freed) (sym c.pop.ensures.released) c.loop-next.invariant.counted)

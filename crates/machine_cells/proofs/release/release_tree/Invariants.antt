@@ -4,6 +4,7 @@ use Rattle.fip_language.specs.Store.{Placed, places}
 use Rattle.cell_store.specs.Told.{Told, Released}
 use Rattle.machine_semantics.specs.Cells.{Store, Release, changed_by}
 use Rattle.machine_semantics.specs.Trees.{tree_of}
+use Rattle.machine_cells.specs.Counting.{CountsReleased}
 use Rattle.machine_cells.specs.Live.{work}
 use Rattle.machine_cells.specs.Small.{IsSmall, store_of}
 use Rattle.machine_cells.specs.Pending.{Held}
@@ -12,6 +13,7 @@ use Rattle.machine_cells.proofs.release.release_tree.Given as goal
 abbrev pub invariant-loop-next : goal.invariant-loop-next
 invariant-loop-next g l = record {
   cells : g.C.Cells.cells l.cells ≡ g.C.Cells.cells l.fn.cells;
+  counted : CountsReleased (g.C.Cells.cells l.fn.cells) (g.C.Cells.released l.fn.cells) l.fn.freed (g.C.Cells.cells l.cells) (g.C.Cells.released l.cells) l.freed;
   held : IsSmall (g.C.Cells.cells l.fn.cells) → g.C.Cells.pushed l.fn.cells ≡ [] → (x : Placed) (s : Store) →
       tree_of l.types (store_of (g.C.Cells.cells l.fn.cells) (g.C.Cells.released l.fn.cells)) l.ty l.word ≡ Some x →
       changed_by (map (λ p. Release p) (places x)) (store_of (g.C.Cells.cells l.fn.cells) (g.C.Cells.released l.fn.cells)) ≡ Some s →

@@ -9,6 +9,8 @@ use Rattle.machine_frames.specs.machine_semantics.Words.{int_of}
 use Rattle.machine_frames.specs.machine_semantics.Codes.{plain}
 use Rattle.machine_frames.specs.machine_semantics.Steps.{act}
 use Rattle.machine_cells.specs.Small.{store_of}
+use Rattle.machine_cells.specs.Counting.{CountsReleased, held_or_freed}
+use Rattle.machine_cells.proofs.Counts.{counts_none}
 use Rattle.machine_step.specs.declared.rows.Stepped.TheVariants as S
 use Rattle.machine_step.specs.Placed.{body_at}
 use Rattle.machine_step.specs.View.{state_of}
@@ -459,3 +461,22 @@ returns-in-Free-clause-told g c ks lent known once small empty goes first ts tol
     let r = c.in-Free.register in
     let z = free_told v b ks lent s ws cursor S.Went old [] r row.0 room (subst (λ x. IsKnown (act (plain v.code) ks old x)) c.in-Free.is goes) in
     subst (λ us. g.C.Cells.was_told first (ts ++ us) c.release_cell.new.cells) (sym (ap (act_tells (plain v.code) ks old) c.in-Free.is ∙ z.2)) (c.release_cell.ensures.told small z.0 z.1 first ts told)
+
+pub returns-in-Test-clause-counted : goal.returns-in-Test-clause-counted
+returns-in-Test-clause-counted g c once =
+    let cs = g.C.Cells.cells c.args.cells.now in
+    let rs = g.C.Cells.released c.args.cells.now in
+    let freed = c.args.beside.now.freed in
+    subst (λ k. CountsReleased cs rs freed (g.C.Cells.cells k) (g.C.Cells.released k) freed) (sym (c.test.ensures.once once)) (counts_none cs rs freed)
+
+pub returns-in-Put-clause-counted : goal.returns-in-Put-clause-counted
+returns-in-Put-clause-counted g c once = c.put_cell.ensures.counted c.args.beside.now.freed
+
+pub returns-in-Drop-clause-counted : goal.returns-in-Drop-clause-counted
+returns-in-Drop-clause-counted g c once = c.drop_tree.ensures.counted
+
+pub returns-in-Free-clause-counted : goal.returns-in-Free-clause-counted
+returns-in-Free-clause-counted g c once = c.release_cell.ensures.counted
+
+pub returns-in-Ret-clause-counted : goal.returns-in-Ret-clause-counted
+returns-in-Ret-clause-counted g c once k low high few = ap (held_or_freed k (g.C.Cells.cells c.args.cells.now) (g.C.Cells.released c.args.cells.now)) c.give_back.ensures.freed

@@ -8,6 +8,7 @@ loop-i-preserved c =
     let f : ℕ → ℕ = λ j. get_or c.args.words.now (c.args.base + get_or c.args.results.now j 0) 0 in
     record {
       spare = c.loop-i.invariant.spare;
+      freed = c.loop-i.invariant.freed;
       long = length-set c.loop-i.beside.results c.loop-i.i (f c.loop-i.i) ∙ c.loop-i.invariant.long;
       kept = read_more c.loop-i.beside.results f c.loop-i.i (omega arith) c.loop-i.invariant.kept;
     }

@@ -5,6 +5,9 @@ use Rattle.fip_language.specs.Store.{Cell}
 use Rattle.cell_store.specs.Cells.{cell_at, size_in}
 use Rattle.machine_frames.specs.Words.{words_from}
 use Rattle.machine_cells.specs.Small.{store_of}
+use Rattle.machine_cells.specs.Counting.{CountsReleased}
+use Rattle.machine_cells.proofs.Counts.{counts_none, counts_write}
+use Rattle.machine_frames.proofs.Laid.{words_long}
 use Rattle.machine_cells.proofs.Pendings.{same_cell, is_there}
 use Rattle.machine_step.specs.View.{state_of}
 use Rattle.cell_store.specs.Told.{Overwritten}
@@ -60,3 +63,21 @@ returns-clause-told g c ks lent ty small goes first ts told =
           subst (g.C.Cells.was_told first (ts ++ Overwritten (word / 2) c.args.constructor (words_from cursor.base ws c.args.fields.now) ∷ [])) (sym w.cells-is) at)
       | in_default w ↦ absurd (none-some (word / 2) (sym w.in_default.is ∙ found))
     ])
+
+pub returns-clause-counted : goal.returns-clause-counted
+returns-clause-counted g c freed =
+    let ws = c.args.words.now in
+    let cursor = c.args.cursor.now in
+    let cs = g.C.Cells.cells c.args.cells.now in
+    let rs = g.C.Cells.released c.args.cells.now in
+    let after = c.match-sized_cell_of.cells in
+    let new : Cell = record { tag = c.args.constructor; fields = words_from cursor.base ws c.args.fields.now } in
+    elim c.match-sized_cell_of.branch [
+      | in-Some w ↦ (
+          let long = words_long cursor.base ws c.args.fields.now in
+          let one = counts_write cs rs w.in-Some.place new freed w.in-Some.ensures.there (long ∙ sym w.in-Some.ensures.size) in
+          let put = subst (λ qs. CountsReleased cs rs freed (slice_set cs w.in-Some.place (Some new)) qs freed) (sym w.put.ensures.released) one in
+          let all = subst (λ ds. CountsReleased cs rs freed ds (g.C.Cells.released w.put.new.cells) freed) (sym w.put.ensures.cells) put in
+          subst (λ k. CountsReleased cs rs freed (g.C.Cells.cells k) (g.C.Cells.released k) freed) (sym w.cells-is) all)
+      | in_default w ↦ subst (λ k. CountsReleased cs rs freed (g.C.Cells.cells k) (g.C.Cells.released k) freed) (sym w.cells-is) (counts_none cs rs freed)
+    ]

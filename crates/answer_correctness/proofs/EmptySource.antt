@@ -22,7 +22,7 @@ use Rattle.command_answers.specs.command_library.session_semantics.Talk as T
 use Rattle.command_answers.specs.command_library.session_semantics.Talk.{Setting, at_first}
 use Rattle.command_answers.specs.command_library.session_semantics.Turns as U
 use Rattle.command_answers.specs.command_library.session_semantics.Turns.{Task, IsTask}
-use Rattle.answer_correctness.specs.OfProgram.{IsCodeOf}
+use Rattle.command_answers.specs.CodeOf.{IsCodeOf}
 use Rattle.command_answers.specs.command_library.command_source.Derived.{IsDerivedFile}
 use Rattle.command_answers.specs.command_tasks.TasksAnswer.{IsSetting, TakesTurns}
 use Rattle.command_answers.specs.Ends as A
@@ -96,7 +96,7 @@ code_of_it = record {
   sound = code_sound;
   stacks = λ ms found i n m h k. absurd (none-some n h);
   means = λ before waits kinds i n vs calls frames s h. absurd (none-some h.instance h.there);
-  peaks = λ before waits kinds i n vs calls frames s h words last left steps e. absurd (none-some h.instance h.there);
+  peaks = λ before waits kinds i n vs calls frames s h some end last left steps e. absurd (none-some h.instance h.there);
 }
 
 -- ---- its file

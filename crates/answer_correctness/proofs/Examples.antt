@@ -1,5 +1,5 @@
 -- The examples, by computation alone.
-use Rattle.std.proofs.Common.{◌≡◌, pos, true, [], ◌∷◌, ◌++◌, Some, Ok, Err, refl}
+use Rattle.std.proofs.Common.{◌≡◌, pos, true, [], ◌∷◌, ◌++◌, Some, Ok, Err, refl, arith}
 use Rattle.std.specs.Prelude.{codes}
 use Rattle.std.specs.Fmt.{decimal}
 use Rattle.command_answers.specs.command_library.fip_language.Values.{End, More}
@@ -10,6 +10,9 @@ use Rattle.command_answers.specs.command_library.command_outcome.declared.failur
 use Rattle.command_answers.specs.Exec.{TellsAll}
 use Rattle.command_answers.specs.command_library.MadeTree.{keys_line, pads_line, lines_of_tree}
 use Rattle.answer_correctness.specs.Example.{three_keys, three_items, reversing, four_lines, increasing, increased_lines, cons, nil}
+use Rattle.answer_correctness.specs.Example.{weakened, weakened_in_vain, weakened_twice}
+use Rattle.command_answers.specs.command_source.derivation_making.Weakening.{IsLean}
+use Rattle.worked_examples.specs.source_report.ownership_calculus.Terms.{Own}
 
 pub rev_prints :
     TellsAll reversing three_items 1000 0 true (flat_meaning lists 0 three_items 1000 0) (Ok four_lines)
@@ -46,6 +49,15 @@ pub tree_prints :
     lines_of_tree 3 three_keys ≡ tree_text 3 3 (Some (record { least = pos 377401575; greatest = pos 1103527590 }))
 tree_prints = refl
 
+pub weakens_once : IsLean weakened
+weakens_once = ((refl, (Own 0, omega arith)), ((tt, tt), tt))
+
+pub weakens_in_vain : IsLean weakened_in_vain → ⊥
+weakens_in_vain ((e, (i, less)), more) = absurd (omega (arith, less))
+
+pub weakens_twice : IsLean weakened_twice → ⊥
+weakens_twice ((e, more), rest) = absurd cc
+
 pub ruleset computed = (
   rev_prints,
   rev_has_calls,
@@ -55,4 +67,7 @@ pub ruleset computed = (
   keys_are,
   pads_are,
   tree_prints,
+  weakens_once,
+  weakens_in_vain,
+  weakens_twice,
 )

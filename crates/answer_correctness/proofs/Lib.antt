@@ -1,11 +1,14 @@
-mod CodeOf
 mod Coming
 mod EmptySource
 mod Examples
-mod FileTexts
+mod Joined
 mod MeantRuns
+mod OneAnswer
 mod Refused
 mod Shown
 mod SomeAnswer
 mod SomeRun
+mod SomeEnd
+mod SomeSource
+mod TracedRuns
 mod WholeExample

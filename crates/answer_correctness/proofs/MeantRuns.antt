@@ -70,8 +70,9 @@ use Rattle.command_answers.proofs.command_library.command_run.source_report.Once
 use Rattle.command_answers.proofs.ByTrees.{gauge_is}
 use Rattle.command_answers.proofs.OneCode.{code_same}
 use Rattle.command_answers.proofs.TreesOnce.{trees_once}
-use Rattle.answer_correctness.specs.OfProgram.{IsCodeOf, IsLoaded}
-use Rattle.answer_correctness.proofs.FileTexts.{literals}
+use Rattle.command_answers.specs.CodeOf.{IsCodeOf, IsLoaded}
+use Rattle.command_answers.proofs.CodeOf.{some_calls}
+use Rattle.command_answers.proofs.FileTexts.{literals}
 
 headers_view : (fs : List F.PlainFunction) → map plain_header (map sound_function fs) ≡ map P.plain_header fs
 headers_view [] = refl
@@ -228,7 +229,7 @@ module _ (source name bytes : List ℕ) (y : Entry source name) (x : Chosen byte
         let at_end = seen_at_end before (run_code c) first room.calls (C.Value ws) ends.last ends.left ends.steps words in
         let own = seen_at_end before (run_code c) first room.calls ends.end ends.last ends.left ends.steps ends.ends in
         let all = sym at_end ∙ own in
-        let stack = h.peaks before (kinds_found c).1 (kinds_found c).2 root.place n vs room.calls frames first l ws ends.last ends.left ends.steps words in
+        let stack = h.peaks before (kinds_found c).1 (kinds_found c).2 root.place n vs room.calls frames first l (some_calls before (run_code c) first room.calls ws ends.last ends.left ends.steps words) (C.Value ws) ends.last ends.left ends.steps words in
         subst (λ ss. IsMeasured vs us d.params d.credits meant.peak ss) all
         (record {
           lowest = λ size one. lowest_by_trees c before (kinds_found c).1 n first vs us room.calls size ws ends.last ends.left ends.steps starts.0 starts.1 one words are

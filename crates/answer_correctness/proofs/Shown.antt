@@ -6,14 +6,15 @@ use Rattle.command_answers.specs.command_library.command_words.Words.{Command}
 use Rattle.command_answers.specs.command_library.command_outcome.Failures.{failure_status}
 use Rattle.command_answers.specs.command_library.command_outcome.declared.failure.Failure.{Failure}
 use Rattle.command_answers.specs.command_library.command_outcome.declared.failure.Failure.TheVariants as F
-use Rattle.command_answers.specs.Answer.{ComesTo, Shows, Host, IsAnswer, IsAlone, IsNoCommand, Answered, MayDiffer, IsOpen}
+use Rattle.command_answers.specs.Answer.{ComesTo, Shows, Host, IsAnswer, IsAlone, IsNoCommand, Answered}
+use Rattle.command_answers.specs.Open.{MayDiffer, IsOpen}
 use Rattle.command_answers.specs.Asks.{stored_name}
 use Rattle.command_answers.specs.Exec.{End}
 use Rattle.command_answers.specs.Stored.{Stores}
 use Rattle.command_answers.proofs.OneEnd.{comes_once}
 
 -- a command whose end is one
-pub settled : (files : List File) (input : List ℕ) (c : Command) (d e : End) → (MayDiffer c → ⊥) → ComesTo files input c d → ComesTo files input c e → d ≡ e
+pub settled : (files : List File) (input : List ℕ) (c : Command) (d e : End) → (MayDiffer c d e → ⊥) → ComesTo files input c d → ComesTo files input c e → d ≡ e
 settled files input c d e one h k = elim (comes_once files input c d e h k) [ inl same ↦ same | inr more ↦ absurd (one more.0) ]
 
 fails : (f : Failure) → failure_status f ≢ 0

@@ -38,7 +38,7 @@ use Rattle.command_answers.specs.command_library.run_loading.Loading.{first_stor
 use Rattle.command_answers.proofs.command_library.separation.Loading.{loaded_is}
 use Rattle.command_answers.specs.command_library.machine_semantics.States.{State}
 use Rattle.command_answers.specs.Exec.{End}
-use Rattle.answer_correctness.proofs.FileTexts.{literals}
+use Rattle.command_answers.proofs.FileTexts.{literals}
 
 -- ---- the function
 

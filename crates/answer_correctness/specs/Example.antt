@@ -1,9 +1,11 @@
--- The examples: runs of the program of lists, and a tree of three keys.
+-- The examples: runs of the program of lists, a tree of three keys, and derivations that weaken.
 use Rattle.std.specs.Prelude.{ℕ, pos, List, [], ◌∷◌, ◌++◌, Some, None}
 use Rattle.command_answers.specs.command_library.fip_language.Values.{Value, Int, Node, Values, End, More}
 use Rattle.command_answers.specs.command_library.fip_language.PrintedText.{printed_lines}
 use Rattle.worked_examples.specs.instance_semantics.Example.{lists, rev, inc, ints}
 use Rattle.command_answers.specs.command_library.command_outcome.Texts.{cells_text, stack_text, bound_text}
+use Rattle.command_answers.specs.command_library.derivation_trees.declared.derivation.RuleName.TheVariants as R
+use Rattle.command_answers.specs.command_library.derivation_trees.Trees.{Tree, Branch, NoTrees, MoreTrees}
 use Rattle.command_answers.specs.command_library.session_semantics.Example.{needs_words}
 use Rattle.command_answers.specs.Exec.{Running}
 
@@ -45,3 +47,21 @@ node l k r = Node 1 (More (Node 1 End) (More l (More (Int (pos k)) (More r End))
 
 abbrev pub three_keys : Value
 three_keys = node (node leaf 377401575 leaf) 662824084 (node leaf 1103527590 leaf)
+
+-- ---- derivations that leave a variable out
+
+-- VAR[x|]
+abbrev pub uses : ℕ → Tree
+uses x = Branch R.Variable (x ∷ []) [] NoTrees
+
+-- WEAKEN[0 1|](VAR[1|])
+abbrev pub weakened : Tree
+weakened = Branch R.Weaken (0 ∷ 1 ∷ []) [] (MoreTrees (uses 1) NoTrees)
+
+-- WEAKEN[1|](VAR[1|]), which leaves nothing out
+abbrev pub weakened_in_vain : Tree
+weakened_in_vain = Branch R.Weaken (1 ∷ []) [] (MoreTrees (uses 1) NoTrees)
+
+-- WEAKEN[0 1 2|](WEAKEN[0 1|](VAR[1|]))
+abbrev pub weakened_twice : Tree
+weakened_twice = Branch R.Weaken (0 ∷ 1 ∷ 2 ∷ []) [] (MoreTrees weakened NoTrees)

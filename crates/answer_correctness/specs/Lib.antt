@@ -1,3 +1,5 @@
-pub mod OfProgram
+pub mod Joined
+pub mod Alike
+pub mod Certain
 pub mod Example
 pub mod Empty

@@ -13,7 +13,7 @@ ghost use Rattle.command_answers.specs.command_library.session_semantics.Lines.{
 ghost use Rattle.command_answers.specs.command_library.session_semantics.Talk.{Setting, Talks, at_first};
 ghost use Rattle.command_answers.specs.command_tasks.TasksAnswer.{IsSetting};
 ghost use Rattle.command_answers.specs.Answer.{Answered, ComesTo, host};
-ghost use Rattle.answer_correctness.specs.OfProgram.{IsCodeOf};
+ghost use Rattle.command_answers.specs.CodeOf.{IsCodeOf};
 ghost use Rattle.worked_examples.specs.Empty.{empty_program};
 ghost use Rattle.answer_correctness.specs.Empty.{empty_code, empty_file, a_file};
 
@@ -62,9 +62,14 @@ pub fn an_empty_code_is_answered()
         ComesTo files input (Run r) (Err (F.Refused (of_entry E70 r.entry))) }
 {}
 
-/// `fp2 check a`, where the file a is empty, prints nothing. For who wants to see a whole answer, from words to files.
+/// Where the file a is empty, `fp2 check a` prints nothing, and `fp2 compile a b` stores the file of its code under b. For
+/// who wants to see a whole answer, from words to files.
 pub fn an_example_of_answers()
     ensures check { (input : List ℕ) →
         Answered (codes "fp2" ∷ codes "check" ∷ codes "a" ∷ []) (a_file (codes "a") [] ∷ []) input
         (host (Some []) (Some []) (Some []) (Some []) (Some (a_file (codes "a") [] ∷ [])) 0) }
+    ensures compile { (input : List ℕ) →
+        Answered (codes "fp2" ∷ codes "compile" ∷ codes "a" ∷ codes "b" ∷ []) (a_file (codes "a") [] ∷ []) input
+        (host (Some []) (Some []) (Some []) (Some [])
+        (Some (a_file (codes "a") [] ∷ a_file (codes "b") empty_file ∷ [])) 0) }
 {}

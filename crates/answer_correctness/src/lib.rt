@@ -2,6 +2,8 @@
 #![tactic(auto)]
 
 pub mod empty;
+pub mod existence;
 pub mod members;
 pub mod runs;
+pub mod stored_files;
 pub mod theorems;

@@ -24,18 +24,20 @@ ghost use Rattle.worked_examples.specs.source_report.Report.{bare, IsMatched};
 ghost use Rattle.command_answers.specs.command_library.command_source.Codes.{IsSoundFile, IsCodeListing, IsUpgraded, IsUnspelt, RefusesCode};
 ghost use Rattle.command_answers.specs.command_library.command_source.Derived.{IsDerivedFile, IsUnderived};
 ghost use Rattle.command_answers.specs.command_library.command_source.Judged.{IsBadAt};
-ghost use Rattle.command_answers.specs.command_library.command_source.ProgramCode.{IsUncompiled};
 ghost use Rattle.command_answers.specs.command_library.command_source.Roots.{IsListing};
 ghost use Rattle.command_answers.specs.command_library.command_source.Wanted.{Wanted, Compiled, Refuses, IsReady, IsReport, of_entry};
 ghost use Rattle.command_answers.specs.command_library.command_eval.EvalAnswer.{Entry as an_entry, Spells, Evaluates};
 ghost use Rattle.command_answers.specs.command_library.command_run.CodeRun.{Chosen, RunOf, SpellsFor, TellsOf, words_of as words_of_code};
 ghost use Rattle.command_answers.specs.command_library.run_loading.Example.{rewriting, file_with};
 ghost use Rattle.command_answers.specs.command_library.run_loading.Replaying.{replayed};
+ghost use Rattle.command_answers.specs.command_library.run_loading.TraceText.{Trace as a_trace};
 ghost use Rattle.command_answers.specs.command_tasks.TasksAnswer.{TakesTurns};
+ghost use Rattle.command_answers.specs.command_trace.TraceAnswer.{IsLong};
 ghost use Rattle.command_answers.specs.command_library.GenAnswer.{tree_source, build, gen_room};
 ghost use Rattle.command_answers.specs.command_library.MadeTree.{gen_input, lines_of_tree};
 ghost use Rattle.command_answers.specs.Answer.{ComesTo};
 ghost use Rattle.command_answers.specs.Asks.{ReadsInput, fetched_name, wanted};
+ghost use Rattle.command_answers.specs.CodeOf.{HasLongCode, IsSourceTrace};
 ghost use Rattle.command_answers.specs.Ends.{Does, IsTaken};
 ghost use Rattle.command_answers.specs.Exec.{End as an_end, Start, TellsAll, frames_for, run_of, running, words_of};
 
@@ -67,7 +69,7 @@ pub fn a_ready_source_is_used()
     ensures check { (source input text file : List ℕ) → IsListing source text → Does source input (Check file) (Ok text) }
     ensures compile { (source input text name out : List ℕ) → IsListing source text →
         Does source input (Compile name out) (Ok text) }
-    ensures unspelt { (source input name out : List ℕ) → IsUncompiled source →
+    ensures unspelt { (source input name out : List ℕ) → HasLongCode source →
         Does source input (Compile name out) (Err (F.Refused (bare E61))) }
     ensures eval { (source input name entry : List ℕ) (calls frames : ℕ) (e : an_end) →
         Evaluates source entry input calls frames e → Does source input (Eval name entry calls frames) e }
@@ -77,8 +79,8 @@ pub fn a_ready_source_is_used()
         Does source input (Derive name out) (Err (F.Refused (bare E74))) }
 {}
 
-/// What is asked of a run and of tasks is enough; what keeps a run from its values keeps a trace from them. For who asks
-/// whether an entry can be run.
+/// What is asked of a run, of a trace and of tasks is enough; what keeps a run from its values keeps a trace from them. For
+/// who asks whether an entry can be run.
 pub fn a_ready_entry_is_run()
     ensures misspelt { (source input : List ℕ) (r : Request) (y : an_entry source r.entry) (at : ℕ) →
         IsPlace (Spells y) input at → Does source input (Exec r) (Err (F.BadInput at)) }
@@ -93,6 +95,14 @@ pub fn a_ready_entry_is_run()
         (f : Failure) → Spells s.entry input vs → words_of s.entry vs ≤ room.words →
         TellsAll (running s) vs room.calls (frames_for s room) false (run_of s vs room) (Err f) →
         Does source input (Trace name entry out room) (Err f) }
+    ensures traced { (source input name entry out text : List ℕ) (room : Room) (s : Start source entry) (vs : Values)
+        (t : a_trace) → Spells s.entry input vs → words_of s.entry vs ≤ room.words →
+        TellsAll (running s) vs room.calls (frames_for s room) false (run_of s vs room) (Ok text) →
+        IsSourceTrace source entry input room t → (IsLong t → ⊥) →
+        Does source input (Trace name entry out room) (Ok text) }
+    ensures untraced { (source input name entry out : List ℕ) (room : Room) (t : a_trace) →
+        IsSourceTrace source entry input room t → IsLong t →
+        Does source input (Trace name entry out room) (Err (F.Refused (bare E75))) }
     ensures tasks { (source input name : List ℕ) (seed turns : ℕ) (room : Room) (e : an_end) →
         TakesTurns source input room e → Does source input (Tasks name seed turns room) e }
 {}

@@ -23,26 +23,41 @@ ghost use Rattle.worked_examples.specs.lowering_relation.LoweredBodies.{function
 ghost use Rattle.command_answers.specs.command_library.code_rules.StackNumbers.{HasStack};
 ghost use Rattle.command_answers.specs.command_library.command_source.Codes.{sound_view, IsSoundFile, IsUnspelt};
 ghost use Rattle.command_answers.specs.command_library.command_source.ProgramCode.{IsCodeOfSource};
-ghost use Rattle.command_answers.specs.command_library.command_words.Words.{Command, Room};
+ghost use Rattle.command_answers.specs.command_library.command_words.Words.{Command, Room, IsCommand};
 ghost use Rattle.command_answers.specs.command_library.command_run.CodeRun.{RunsCode};
 ghost use Rattle.worked_examples.specs.source_report.Report.{IsAccepted};
 ghost use Rattle.command_answers.specs.command_library.command_outcome.Successes.{tree_text};
 ghost use Rattle.command_answers.specs.command_library.command_outcome.declared.failure.Failure.TheVariants as F;
 ghost use Rattle.command_answers.specs.command_library.command_source.Wanted.{Wanted, Refuses};
+ghost use Rattle.command_answers.specs.command_source.derivation_making.Weakening.{IsLean};
 ghost use Rattle.command_answers.specs.command_library.MadeTree.{keys_line, pads_line, lines_of_tree};
 ghost use Rattle.command_answers.specs.Answer.{Answered, Host, IsNoCommand};
+ghost use Rattle.command_answers.specs.CodeOf.{IsCodeOf, IsLoaded, IsSourceFile};
 ghost use Rattle.command_answers.specs.Ends.{OnSource};
 ghost use Rattle.command_answers.specs.Exec.{End as an_end, Execs, TellsAll};
 ghost use Rattle.command_answers.specs.GaugeText.{highest_of, lowest_of};
-ghost use Rattle.answer_correctness.specs.OfProgram.{IsCodeOf, IsLoaded};
+ghost use Rattle.command_answers.specs.Open.{IsOpen};
+ghost use Rattle.answer_correctness.specs.Alike.{Finds, AreAlike};
 ghost use Rattle.answer_correctness.specs.Example.{three_items, reversing, four_lines, increasing, increased_lines};
-ghost use Rattle.answer_correctness.specs.Example.{cons, nil, three_keys};
+ghost use Rattle.answer_correctness.specs.Example.{cons, nil, three_keys, weakened, weakened_in_vain, weakened_twice};
 
 /// Words that are no command are answered with status 2, or 10 for want of memory. For who calls the program with any
 /// words.
 pub fn no_command_has_one_answer()
     ensures law { (words : List (List ℕ)) (files : List File) (input : List ℕ) (h : Host) → IsNoCommand words →
         Answered words files input h → (h.status ≡ 10) ⊎ (h.status ≡ 2) }
+{}
+
+/// Two answers of the same words, on the same files and input and behind the same on out and err, have the same status,
+/// and leave the same on out and err, unless memory was wanting. But two codes of an accepted source may differ in whether
+/// they have a file or a trace that can be stored: then of two answers of `compile` one is E61, and of two of `trace` one is
+/// E75; and what a session replies isn't said. So codes differ in what is left, stored and traced alone. For who compares
+/// two calls.
+pub fn an_answer_is_one()
+    ensures law { (words : List (List ℕ)) (files : List File) (input out err : List ℕ) (h k : Host) →
+        Finds h out err → Finds k out err → Answered words files input h → Answered words files input k →
+        h.status ≢ 10 → k.status ≢ 10 → AreAlike h k
+        ⊎ ((c : Command) × IsCommand words c × ((d : an_end) × (e : an_end) × IsOpen files input c d e)) }
 {}
 
 /// Where the status isn't 0, out and all files are as they were; where it is 0, err is. For who goes on after a failure.
@@ -89,6 +104,15 @@ pub fn an_example_of_gen()
     ensures none { lines_of_tree 1 nil ≡ tree_text 1 0 None }
 {}
 
+/// A node of a derivation that leaves something out may stand, but not in vain, and not below another. For who reads
+/// derivations that were made.
+#[tactic(auto, using(crate::proofs::Examples::computed))]
+pub fn an_example_of_weakening()
+    ensures once { IsLean weakened }
+    ensures vain { IsLean weakened_in_vain → ⊥ }
+    ensures twice { IsLean weakened_twice → ⊥ }
+{}
+
 /// A code of a program has a file, so it is unspelt only where that is too long. For who is told E61.
 pub fn only_a_long_code_is_unspelt()
     ensures law { (p : Program) (code : PlainCode) → IsCodeOf p code → IsUnspelt code →
@@ -110,12 +134,10 @@ pub fn a_code_holds_what_its_program_does()
         ≡ (flat_meaning p i vs calls frames).peak.frames }
 {}
 
-/// The code that `compile` makes of a source, and each that is made so, is the code of its program, whatever the compiler
-/// does: it has a file, or one that is too long, and its runs end as the program means, with its peak. For who replaces a
-/// compiler.
+/// The code that is made of a source, and each that is made so, is a code of its program, whatever the compiler does: it
+/// has a file, which may be too long, and its runs end as the program means, with its peak. For who replaces a compiler.
 pub fn a_code_of_a_source_is_one_of_its_program()
-    ensures law { (source file : List ℕ) (code : PlainCode) → (h : IsCodeOfSource source code) →
-        CodeText file Second code → IsCodeOf h.program code }
+    ensures law { (source : List ℕ) (code : PlainCode) → (h : IsCodeOfSource source code) → IsCodeOf h.program code }
 {}
 
 /// `run` on the file of a code of a source's program tells what `exec` tells of the source, with the same entry, input and

@@ -33,6 +33,7 @@ use Rattle.command_answers.specs.Exec as X
 use Rattle.command_answers.specs.Exec.{End, Start, Running, gauge_by_trees, stack_of_peak}
 use Rattle.command_answers.specs.GaugeText.{gauge_text, gauge_by_states, if_asked, highest_of, lowest_of}
 use Rattle.command_answers.specs.Generating as G
+use Rattle.command_answers.proofs.SourceCode.{source_trace}
 
 -- ---- the gauge
 
@@ -101,5 +102,5 @@ text_end (Err failure) = Err failure
 
 pub trace_by_trees : (source name input : List ℕ) (room : Room) (e : Result Kept Failure) → Traces source name input room e → TracesTo source name input room (text_end e)
 trace_by_trees source name input room _ (C.Ended f h) = Ended f (exec_by_trees source name input room false (Err f) h)
-trace_by_trees source name input room _ (C.Stored text t h of' short) = Traced text t (exec_by_trees source name input room false (Ok text) h) of' short
-trace_by_trees source name input room _ (C.TooLong t of' long) = TooLong t of' long
+trace_by_trees source name input room _ (C.Stored text t h of' short) = Traced text t (exec_by_trees source name input room false (Ok text) h) (source_trace source name input room t of') short
+trace_by_trees source name input room _ (C.TooLong t of' long) = TooLong t (source_trace source name input room t of') long

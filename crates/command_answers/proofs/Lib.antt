@@ -1,5 +1,8 @@
 pub mod ByTrees
 pub mod TreesOnce
+pub mod FileTexts
+pub mod CodeOf
+pub mod SourceCode
 pub mod OneCode
 pub mod OneEnd
 pub mod OneCommand

@@ -13,16 +13,16 @@
 use Rattle.std.specs.Prelude.{◌≡◌, ◌⊎◌, ℕ, List, Option, Some, None, Ok, Err}
 use Rattle.std.specs.Io.KnownBytes.{Appends}
 use Rattle.fip_outside.specs.Files.{File, file_of}
-use Rattle.command_library.specs.command_words.Words.{Command, Compile, Verify, Upgrade, Run, Trace, Session, Audit}
-use Rattle.command_library.specs.command_words.Words.{Replay, Library, Gen, IsCommand}
+use Rattle.command_library.specs.command_words.Words.{Command, Verify, Upgrade, Run, Audit, Replay, Library, Gen}
+use Rattle.command_library.specs.command_words.Words.{IsCommand}
 use Rattle.command_library.specs.command_outcome.Failures.{failure_status, failure_text}
 use Rattle.command_library.specs.command_outcome.Texts.{not_understood_text, no_memory_text}
 use Rattle.command_library.specs.command_outcome.declared.failure.Failure.TheVariants as F
 use Rattle.command_library.specs.command_outcome.declared.failure.Object.TheVariants as O
 use Rattle.command_library.specs.command_source.Wanted.{Wanted}
 use Rattle.command_library.specs.fip_library.Texts.{IsText}
-use Rattle.command_answers.specs.Asks.{ComesToInput, fetched_name, stored_name, wanted}
-use Rattle.command_answers.specs.Ends.{OnSource, OnCode, Audits, Replays, IsTaken}
+use Rattle.command_answers.specs.Asks.{fetched_name, stored_name, wanted}
+use Rattle.command_answers.specs.Ends.{OnSource, OnCode, Audits, Replays}
 use Rattle.command_answers.specs.Exec.{End}
 use Rattle.command_answers.specs.Generating.{Generates}
 use Rattle.command_answers.specs.Stored.{Stores}
@@ -102,17 +102,3 @@ abbrev pub Answered : List (List ℕ) → List File → List ℕ → Host → Ty
 Answered words files input h = IsAlone files 10 no_memory_text h
     ⊎ (IsNoCommand words × IsAlone files 2 not_understood_text h)
     ⊎ ((c : Command) × IsCommand words c × IsAnswer c files input h)
-
--- ---- where an end isn't one
-
--- Two codes of a source may differ in whether their files, or the traces of their runs, are short enough; and what a
--- session replies isn't said.
-abbrev pub MayDiffer : Command → Type 0
-MayDiffer (Compile file out) = Unit {0}
-MayDiffer (Trace file entry out room) = Unit {0}
-MayDiffer (Session file room) = Unit {0}
-MayDiffer c = ⊥
-
--- It is such a command, its source has what it wants, and the input isn't too long.
-abbrev pub IsOpen : List File → List ℕ → Command → Type 0
-IsOpen files input c = MayDiffer c × ComesToInput c (Some files) × IsTaken c input

@@ -23,15 +23,15 @@ use Rattle.command_library.specs.command_source.Codes.{sound_view, IsSoundFile, 
 use Rattle.command_library.specs.command_source.Codes.{IsUnspelt, names_one, HasFunction}
 use Rattle.command_library.specs.command_source.Derived.{IsDerivedFile, IsUnderived}
 use Rattle.command_library.specs.command_source.Judged.{IsEarlyReport, IsProofOf, IsRejectedOf}
-use Rattle.command_library.specs.command_source.ProgramCode.{IsUncompiled}
 use Rattle.command_library.specs.command_source.Roots.{IsListing}
 use Rattle.command_library.specs.command_source.Wanted.{Wanted, Refuses, IsReady, of_entry}
 use Rattle.command_library.specs.command_eval.EvalAnswer.{Evaluates}
 use Rattle.command_library.specs.command_run.CodeRun.{RunsCode}
 use Rattle.command_tasks.specs.TasksAnswer.{TakesTurns}
 use Rattle.command_trace.specs.Replayed.{IsReplayed}
-use Rattle.command_trace.specs.TraceAnswer.{IsTraceOf, IsLong}
+use Rattle.command_trace.specs.TraceAnswer.{IsLong}
 use Rattle.command_answers.specs.Asks.{ReadsInput}
+use Rattle.command_answers.specs.CodeOf.{HasLongCode, IsSourceTrace}
 use Rattle.command_answers.specs.Exec.{End, Execs}
 
 -- ---- a source that must be accepted
@@ -40,18 +40,19 @@ abbrev pub ListsRoots : List ℕ → End → Type 0
 ListsRoots source (Ok text) = IsListing source text
 ListsRoots source (Err failure) = ⊥
 
--- the lines of `check`; or E61, of a source with some code whose file is too long
+-- the lines of `check`; or E61, of a code of the source that has no file that isn't too long
 abbrev pub Compiles : List ℕ → End → Type 0
 Compiles source (Ok text) = IsListing source text
-Compiles source (Err failure) = IsUncompiled source × (failure ≡ F.Refused (bare E61))
+Compiles source (Err failure) = HasLongCode source × (failure ≡ F.Refused (bare E61))
 
--- as `exec` without the gauge, where some trace can be stored; or E75, where that of a run can't be told, or is too long
+-- as `exec` without the gauge, where the trace of a run of a code of the source can be stored; or E75, where it can't be
+-- told, or is too long
 pub data TracesTo (source name input : List ℕ) (room : Room) : End → Type 0 where
   Ended : (failure : Failure) → Execs source name input room false (Err failure) →
       TracesTo source name input room (Err failure)
   Traced : (text : List ℕ) (t : T.Trace) → Execs source name input room false (Ok text) →
-      IsTraceOf source name input room t → (IsLong t → ⊥) → TracesTo source name input room (Ok text)
-  TooLong : (t : T.Trace) → IsTraceOf source name input room t → IsLong t →
+      IsSourceTrace source name input room t → (IsLong t → ⊥) → TracesTo source name input room (Ok text)
+  TooLong : (t : T.Trace) → IsSourceTrace source name input room t → IsLong t →
       TracesTo source name input room (Err (F.Refused (bare E75)))
 
 -- The replies of a session, of which it is said alone that they are no failure.

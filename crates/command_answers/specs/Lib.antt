@@ -2,9 +2,11 @@ pub mod Asks
 pub mod GaugeText
 pub mod Exec
 pub mod Generating
+pub mod CodeOf
 pub mod Ends
 pub mod Stored
 pub mod Answer
+pub mod Open
 pub use Rattle.command_library.specs as command_library
 pub use Rattle.command_library.specs.command_run as command_run
 pub use Rattle.command_library.specs.command_source as command_source

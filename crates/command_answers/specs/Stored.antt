@@ -7,11 +7,11 @@ use Rattle.fip_outside.specs.Files.{File, HoldsFile, KeepsOthers}
 use Rattle.command_library.specs.command_words.Words.{Room, Command, Compile, Derive, Trace, Upgrade}
 use Rattle.command_library.specs.command_source.Codes.{IsUpgraded}
 use Rattle.command_library.specs.command_source.Derived.{IsDerivedFile}
-use Rattle.command_library.specs.command_source.ProgramCode.{IsCompiledFile}
 use Rattle.command_library.specs.command_source.Wanted.{Compiled, IsReady}
 use Rattle.command_tasks.specs.run_loading.TraceText as T
 use Rattle.command_tasks.specs.run_loading.TraceText.{trace_text}
-use Rattle.command_trace.specs.TraceAnswer.{IsTraceOf, IsLong}
+use Rattle.command_trace.specs.TraceAnswer.{IsLong}
+use Rattle.command_answers.specs.CodeOf.{IsSourceFile, IsSourceTrace}
 use Rattle.command_answers.specs.Exec.{End}
 
 -- what an object tells, where it tells something
@@ -19,10 +19,11 @@ abbrev pub IsTold : {A : Type 0} → Option A → A → Type 0
 IsTold None x = Unit {0}
 IsTold (Some y) x = y ≡ x
 
--- On the input, or on some input where it told nothing, the entry of the source has a run with this file of its trace.
+-- On the input, or on some input where it told nothing, a code of the source has a run of the entry with this file of its
+-- trace.
 abbrev pub IsTraceFile : (source name : List ℕ) → Room → Option (List ℕ) → List ℕ → Type 0
 IsTraceFile source name room input bytes = (text : List ℕ) × IsTold input text × (t : T.Trace)
-    × IsTraceOf source name text room t × (IsLong t → ⊥) × (bytes ≡ trace_text t)
+    × IsSourceTrace source name text room t × (IsLong t → ⊥) × (bytes ≡ trace_text t)
 
 -- What is stored, by the files before, and by what the input told: the command's file is there and has what is wanted.
 -- `compile` stores the file of a code of its source, `upgrade` that of the second version of the code that it fetched,
@@ -30,7 +31,7 @@ IsTraceFile source name room input bytes = (text : List ℕ) × IsTold input tex
 -- source's code on the input.
 abbrev pub IsMadeBy : Command → Option (List ℕ) → Option (List File) → List ℕ → Type 0
 IsMadeBy (Compile file out) input files bytes =
-    (source : List ℕ) × HoldsFile files file source × IsCompiledFile source bytes
+    (source : List ℕ) × HoldsFile files file source × IsSourceFile source bytes
 IsMadeBy (Upgrade file out) input files bytes =
     (code : List ℕ) × HoldsFile files file code × IsUpgraded code bytes
 IsMadeBy (Derive file out) input files bytes =

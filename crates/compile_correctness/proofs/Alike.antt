@@ -2,15 +2,15 @@
 -- Idea: the file's code has a function of a name just where the source has a root of it that isn't plain.
 use Rattle.std.proofs.Common.{◌≡◌, ◌∙◌, ◌<◌, ◌≤◌, ℕ, true, false, Bool, List, [], length, Option, Some, None, true≢false, inl, inr, refl, sym, ap, subst, arith}
 use Rattle.std.specs.Prelude.{Result, Err}
-use Rattle.fip_language.specs.declared.rule.Rule.TheVariants.{E70}
-use Rattle.fip_base.specs.declared.refusal.Refusal.{Refusal}
-use Rattle.fip_trees.specs.Tree.{Instance, Program}
+use Rattle.command_run.specs.cell_lower.fip_language.declared.rule.Rule.TheVariants.{E70}
+use Rattle.command_run.specs.cell_lower.fip_base.declared.refusal.Refusal.{Refusal}
+use Rattle.command_run.specs.fip_trees.Tree.{Instance, Program}
 use Rattle.command_words.specs.Words.{Room}
-use Rattle.command_outcome.specs.declared.failure.Failure.{Failure}
-use Rattle.command_outcome.specs.declared.failure.Failure.TheVariants as F
-use Rattle.code_file.specs.Plain.{PlainCode}
-use Rattle.source_report.specs.Report.{IsAccepted}
-use Rattle.source_report.proofs.Once.{accepted_not, accepted_once}
+use Rattle.command_run.specs.session_semantics.command_outcome.declared.failure.Failure.{Failure}
+use Rattle.command_run.specs.session_semantics.command_outcome.declared.failure.Failure.TheVariants as F
+use Rattle.command_run.specs.code_file.Plain.{PlainCode}
+use Rattle.command_run.specs.source_report.Report.{IsAccepted}
+use Rattle.command_run.proofs.source_report.Once.{accepted_not, accepted_once}
 use Rattle.command_run.specs.command_source.Codes.{sound_view, IsSoundFile, HasFunction, names_one}
 use Rattle.command_run.specs.command_source.ProgramCode.{IsCompiledFile}
 use Rattle.command_run.specs.command_source.Roots.{root_named}

@@ -3,35 +3,35 @@
 -- of the instances that aren't plain, in their order.
 use Rattle.std.proofs.Common.{◌≡◌, ◌∙◌, ◌<◌, ◌≤◌, ◌+◌, ◌*◌, ℕ, zero, suc, Bool, true, false, ◌&&◌, not, ◌==◌, nat_lt, List, [], ◌∷◌, length, map, Option, Some, None, slice_get, option_map, if◌then◌else◌, refl, sym, ap, subst, arith}
 use Rattle.std.proofs.lemmas.Option.{none-some, same_Some, slice_get-map}
-use Rattle.fip_language.specs.declared.FunKind.{FunKind}
-use Rattle.fip_language.specs.declared.FunKind.TheVariants.{Fip, Fbip, Fun}
-use Rattle.fip_language.specs.declared.limits.TheConstants.{MOST_FILE_BYTES}
-use Rattle.fip_language.specs.Table.{Table}
-use Rattle.fip_trees.specs.declared.groups.Member.{Member}
-use Rattle.fip_trees.specs.Tree.{Instance, Program}
-use Rattle.cell_lower.specs.Limits.{is_ruled, registers}
-use Rattle.cell_lower.specs.Shape.{Header, header_of, entry_name, and_if, headers_from}
+use Rattle.command_run.specs.cell_lower.fip_language.declared.FunKind.{FunKind}
+use Rattle.command_run.specs.cell_lower.fip_language.declared.FunKind.TheVariants.{Fip, Fbip, Fun}
+use Rattle.command_run.specs.cell_lower.fip_language.declared.limits.TheConstants.{MOST_FILE_BYTES}
+use Rattle.command_run.specs.cell_lower.fip_language.Table.{Table}
+use Rattle.command_run.specs.fip_trees.declared.groups.Member.{Member}
+use Rattle.command_run.specs.fip_trees.Tree.{Instance, Program}
+use Rattle.command_run.specs.cell_lower.Limits.{is_ruled, registers}
+use Rattle.command_run.specs.cell_lower.Shape.{Header, header_of, entry_name, and_if, headers_from}
 use Rattle.code_bytes.specs.Bytes.{label_bytes, function_bytes, functions_bytes, table_bytes, most_constructors, most_bytes}
 use Rattle.code_bytes.specs.Operands.{most_operands}
 use Rattle.code_bytes.proofs.Lengths.{AllHaveFew, IsShort, shorter, together, some_short, LabelsFew, bytes_for, function_short, code_short, maps_few}
-use Rattle.code_file.specs.CodeText.{CodeText, function_text}
-use Rattle.code_file.specs.Plain.{PlainLabel, PlainFunction, PlainCode}
-use Rattle.code_file.specs.Spelling.{each}
-use Rattle.code_file.specs.declared.tags.Version.TheVariants.{Second}
-use Rattle.separation.proofs.Sound.{formed}
-use Rattle.code_size.specs.Bounds.{most_instructions, most_labels}
-use Rattle.separation_kinds.proofs.Basics.{both}
-use Rattle.lowering_relation.specs.LoweredBodies.{has_function, one_more, if_function, function_of}
-use Rattle.code_rules.specs.Codes as S
-use Rattle.code_rules.specs.Headers.{is_formed, are_good_maps, are_params, are_sizes, are_types}
-use Rattle.code_rules.specs.Limits.{most_credits, most_registers, most_results}
-use Rattle.tail_groups.specs.Registers as G
-use Rattle.source_report.specs.Report.{IsAccepted}
-use Rattle.source_report.proofs.Once.{accepted_once}
+use Rattle.command_run.specs.code_file.CodeText.{CodeText, function_text}
+use Rattle.command_run.specs.code_file.Plain.{PlainLabel, PlainFunction, PlainCode}
+use Rattle.command_run.specs.code_file.Spelling.{each}
+use Rattle.command_run.specs.code_file.declared.tags.Version.TheVariants.{Second}
+use Rattle.command_run.proofs.separation.Sound.{formed}
+use Rattle.command_run.specs.cell_lower.code_size.Bounds.{most_instructions, most_labels}
+use Rattle.command_run.proofs.machine_correctness.separation_kinds.Basics.{both}
+use Rattle.command_run.specs.lowering_relation.LoweredBodies.{has_function, one_more, if_function, function_of}
+use Rattle.command_run.specs.code_rules.Codes as S
+use Rattle.command_run.specs.code_rules.Headers.{is_formed, are_good_maps, are_params, are_sizes, are_types}
+use Rattle.command_run.specs.code_rules.Limits.{most_credits, most_registers, most_results}
+use Rattle.command_run.specs.tail_groups.Registers as G
+use Rattle.command_run.specs.source_report.Report.{IsAccepted}
+use Rattle.command_run.proofs.source_report.Once.{accepted_once}
 use Rattle.command_run.specs.command_source.Codes.{sound_label, sound_function, sound_view}
 use Rattle.command_run.specs.command_source.ProgramCode as C
 use Rattle.command_run.specs.command_source.ProgramCode.{IsCodeOfSource, IsUncompiled}
-use Rattle.machine_correctness.proofs.Peaks.{header_at, counted_at}
+use Rattle.command_run.proofs.machine_correctness.Peaks.{header_at, counted_at}
 
 -- ---- one function
 

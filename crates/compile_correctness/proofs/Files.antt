@@ -1,12 +1,12 @@
 -- The file that is compiled of a source, and the one that is upgraded, are those of one sound code.
 use Rattle.std.proofs.Common.{◌≡◌, ◌<◌, ◌≤◌, ℕ, List, length, sym, ap, subst, arith}
-use Rattle.fip_language.proofs.OnePlace.{IsPlace-not_spelt}
-use Rattle.command_outcome.specs.declared.failure.Failure.{Failure}
-use Rattle.code_file.specs.CodeText.{IsFileOf}
-use Rattle.code_file.specs.Plain.{PlainCode}
-use Rattle.code_file.specs.declared.tags.Version.TheVariants.{Second}
-use Rattle.code_file.proofs.Whole.{one_code}
-use Rattle.code_rules.specs.Breaks.{IsLeast}
+use Rattle.command_run.proofs.source_report.fip_language.OnePlace.{IsPlace-not_spelt}
+use Rattle.command_run.specs.session_semantics.command_outcome.declared.failure.Failure.{Failure}
+use Rattle.command_run.specs.code_file.CodeText.{IsFileOf}
+use Rattle.command_run.specs.code_file.Plain.{PlainCode}
+use Rattle.command_run.specs.code_file.declared.tags.Version.TheVariants.{Second}
+use Rattle.command_run.proofs.code_file.Whole.{one_code}
+use Rattle.command_run.specs.code_rules.Breaks.{IsLeast}
 use Rattle.command_run.specs.command_source.Codes.{sound_view, IsSoundFile, RefusesCode, LongFile, BadFile, UnsoundFile, IsUpgraded}
 use Rattle.command_run.specs.command_source.ProgramCode.{IsCodeOfSource, IsCompiledFile}
 

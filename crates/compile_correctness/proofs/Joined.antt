@@ -4,44 +4,44 @@
 -- speaks, and `exec` comes to one thing.
 use Rattle.std.proofs.Common.{◌≡◌, ◌≢◌, ◌∙◌, ◌<◌, ◌≤◌, ℕ, true, Bool, List, [], ◌∷◌, ◌++◌, length, Option, Some, None, slice_get, refl, sym, ap, ap₂, subst, arith}
 use Rattle.std.specs.Prelude.{Result, Ok, Err}
-use Rattle.fip_language.specs.declared.FunKind.TheVariants.{Fip}
-use Rattle.fip_language.specs.Meaning.{Answer, Gives, Trap, Out, Deep, Stuck, meaning}
-use Rattle.fip_language.specs.Meaning as M
-use Rattle.fip_language.specs.Prefix.{IsPlace}
-use Rattle.fip_language.specs.PrintedText.{printed_lines}
-use Rattle.fip_language.specs.Statics.{NoClosed}
-use Rattle.fip_language.specs.Table.{Table}
-use Rattle.fip_language.specs.Values.{Values}
-use Rattle.fip_language.specs.ValueText.{SpellsValues}
-use Rattle.fip_base.specs.declared.plain.Param.{Param}
-use Rattle.fip_base.specs.declared.plain.Stack.{Stack}
-use Rattle.fip_trees.specs.declared.groups.Member.{Member}
-use Rattle.fip_trees.specs.Tree.{Instance, Program}
-use Rattle.tail_groups.specs.Members.{AreMembers}
+use Rattle.command_run.specs.cell_lower.fip_language.declared.FunKind.TheVariants.{Fip}
+use Rattle.command_run.specs.cell_lower.fip_language.Meaning.{Answer, Gives, Trap, Out, Deep, Stuck, meaning}
+use Rattle.command_run.specs.cell_lower.fip_language.Meaning as M
+use Rattle.command_run.specs.cell_lower.fip_language.Prefix.{IsPlace}
+use Rattle.command_run.specs.cell_lower.fip_language.PrintedText.{printed_lines}
+use Rattle.command_run.specs.cell_lower.fip_language.Statics.{NoClosed}
+use Rattle.command_run.specs.cell_lower.fip_language.Table.{Table}
+use Rattle.command_run.specs.cell_lower.fip_language.Values.{Values}
+use Rattle.command_run.specs.cell_lower.fip_language.ValueText.{SpellsValues}
+use Rattle.command_run.specs.cell_lower.fip_base.declared.plain.Param.{Param}
+use Rattle.command_run.specs.cell_lower.fip_base.declared.plain.Stack.{Stack}
+use Rattle.command_run.specs.fip_trees.declared.groups.Member.{Member}
+use Rattle.command_run.specs.fip_trees.Tree.{Instance, Program}
+use Rattle.command_run.specs.tail_groups.Members.{AreMembers}
 use Rattle.command_words.specs.Words.{Room}
-use Rattle.command_outcome.specs.declared.failure.Failure.{Failure}
-use Rattle.command_outcome.specs.declared.failure.Failure.TheVariants as F
-use Rattle.separation_bounds.proofs.Ending.{ends_once}
-use Rattle.machine_semantics.specs.Runs as C
-use Rattle.machine_semantics.specs.Runs.{End, Over}
-use Rattle.machine_semantics.specs.States.{State}
-use Rattle.lowering_relation.specs.LoweredBodies.{function_of}
-use Rattle.code_rules.specs.Codes.{PlainCode, PlainFunction, function_at, is_fip, results, results_of}
-use Rattle.code_rules.specs.StackNumbers.{HasStack}
-use Rattle.code_rules.proofs.Numbers.{has_once}
-use Rattle.tree_refinement.specs.Agreement.{AreWordsOf}
-use Rattle.tree_refinement.specs.Runs.{IsSameEnd}
-use Rattle.session_semantics.specs.Talk.{frames_of}
-use Rattle.type_safety.specs.Soundness.{parameter_types}
-use Rattle.value_text.specs.Loaded.{types_of}
+use Rattle.command_run.specs.session_semantics.command_outcome.declared.failure.Failure.{Failure}
+use Rattle.command_run.specs.session_semantics.command_outcome.declared.failure.Failure.TheVariants as F
+use Rattle.command_run.proofs.machine_correctness.separation_bounds.Ending.{ends_once}
+use Rattle.command_run.specs.lowering_relation.machine_semantics.Runs as C
+use Rattle.command_run.specs.lowering_relation.machine_semantics.Runs.{End, Over}
+use Rattle.command_run.specs.lowering_relation.machine_semantics.States.{State}
+use Rattle.command_run.specs.lowering_relation.LoweredBodies.{function_of}
+use Rattle.command_run.specs.code_rules.Codes.{PlainCode, PlainFunction, function_at, is_fip, results, results_of}
+use Rattle.command_run.specs.code_rules.StackNumbers.{HasStack}
+use Rattle.command_run.proofs.machine_correctness.code_rules.Numbers.{has_once}
+use Rattle.command_run.specs.machine_correctness.tree_refinement.Agreement.{AreWordsOf}
+use Rattle.command_run.specs.machine_correctness.tree_refinement.Runs.{IsSameEnd}
+use Rattle.command_run.specs.session_semantics.Talk.{frames_of}
+use Rattle.command_run.specs.command_eval.type_safety.Soundness.{parameter_types}
+use Rattle.command_run.specs.value_text.Loaded.{types_of}
 use Rattle.command_run.specs.command_source.Codes.{sound_view}
 use Rattle.command_run.specs.command_source.ProgramCode.{IsCompiledFile}
 use Rattle.command_run.specs.command_eval.EvalAnswer.{Entry, Spells}
-use Rattle.machine_correctness.specs.Gauges.{IsMeasured}
-use Rattle.machine_correctness.proofs.EvaluatedEnds.{ends_as, meant_not_deep}
-use Rattle.machine_correctness.proofs.Flat.{runs_flat}
-use Rattle.machine_correctness.proofs.Made.{IsMadeOf}
-use Rattle.machine_correctness.proofs.Peaks.{made_measured}
+use Rattle.command_run.specs.machine_correctness.Gauges.{IsMeasured}
+use Rattle.command_run.proofs.machine_correctness.EvaluatedEnds.{ends_as, meant_not_deep}
+use Rattle.command_run.proofs.machine_correctness.Flat.{runs_flat}
+use Rattle.command_run.proofs.machine_correctness.Made.{IsMadeOf}
+use Rattle.command_run.proofs.machine_correctness.Peaks.{made_measured}
 use Rattle.command_run.specs.CodeRun as D
 use Rattle.command_run.specs.CodeRun.{RunsCode, TellsCode, all_seen, words_for}
 use Rattle.command_run.specs.ExecAnswer.{TellsRun, Coded, IsBoundOf, RunsInPlace, RunsOn, Execs, Misspelt, Small, Ran, answer_of, frames_for, words_of}

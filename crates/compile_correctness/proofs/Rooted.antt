@@ -4,26 +4,26 @@ use Rattle.std.proofs.Common.{◌≡◌, ◌∙◌, ◌<◌, ℕ, zero, suc, Boo
 use Rattle.std.specs.Prelude.{bytes_eq}
 use Rattle.std.proofs.lemmas.Option.{none-some, same_Some, slice_get-map}
 use Rattle.std.proofs.lemmas.Slice.Eq.{bytes_eq-Decides}
-use Rattle.fip_language.specs.declared.FunKind.{FunKind}
-use Rattle.fip_language.specs.declared.FunKind.TheVariants.{Fip, Fbip, Fun}
-use Rattle.fip_language.specs.Every.{Among}
-use Rattle.fip_base.specs.declared.refusal.Refusal.{Refusal}
-use Rattle.fip_trees.specs.Tree.{Instance, Program}
-use Rattle.code_file.specs.Plain as F
-use Rattle.code_rules.specs.Codes.{PlainFunction, function_at}
-use Rattle.lowering_relation.specs.LoweredBodies.{has_function, one_more, if_function, function_of}
-use Rattle.cell_lower.specs.Shape.{Header, header_of, headers}
-use Rattle.compiler_correctness.proofs.SoundTypes.{typed_sound}
-use Rattle.source_report.specs.Report.{IsAccepted}
-use Rattle.source_report.proofs.Once.{accepted_once}
-use Rattle.compiler_correctness.proofs.Headers.{typed_named}
+use Rattle.command_run.specs.cell_lower.fip_language.declared.FunKind.{FunKind}
+use Rattle.command_run.specs.cell_lower.fip_language.declared.FunKind.TheVariants.{Fip, Fbip, Fun}
+use Rattle.command_run.specs.cell_lower.fip_language.Every.{Among}
+use Rattle.command_run.specs.cell_lower.fip_base.declared.refusal.Refusal.{Refusal}
+use Rattle.command_run.specs.fip_trees.Tree.{Instance, Program}
+use Rattle.command_run.specs.code_file.Plain as F
+use Rattle.command_run.specs.code_rules.Codes.{PlainFunction, function_at}
+use Rattle.command_run.specs.lowering_relation.LoweredBodies.{has_function, one_more, if_function, function_of}
+use Rattle.command_run.specs.cell_lower.Shape.{Header, header_of, headers}
+use Rattle.command_run.proofs.compiler_correctness.SoundTypes.{typed_sound}
+use Rattle.command_run.specs.source_report.Report.{IsAccepted}
+use Rattle.command_run.proofs.source_report.Once.{accepted_once}
+use Rattle.command_run.proofs.compiler_correctness.Headers.{typed_named}
 use Rattle.command_run.specs.command_source.Codes.{sound_view, has_named, names_one}
 use Rattle.command_run.specs.command_source.ProgramCode.{IsCodeOfSource}
 use Rattle.command_run.specs.command_source.Roots.{root_named}
 use Rattle.command_run.specs.command_source.Wanted.{MissesCode}
 use Rattle.command_run.specs.command_eval.EvalAnswer.{Entry}
 use Rattle.command_run.proofs.command_eval.Meant.{typed_of}
-use Rattle.machine_correctness.proofs.Entries.{plain_header, IsNamed, named}
+use Rattle.command_run.proofs.machine_correctness.Entries.{plain_header, IsNamed, named}
 use Rattle.command_run.proofs.CodeOnce.{long}
 use Rattle.command_run.proofs.Entry.{IsRootAt, root_at, header_at}
 use Rattle.compile_correctness.proofs.Views.{headers_view}
@@ -152,12 +152,12 @@ names_found (b ∷ name) fs e = (name_found (b ∷ name) fs e, λ none. let z : 
 
 -- ---- a root that isn't plain has a function of its name
 
-function_with : (fs : List PlainFunction) (m : ℕ) (h : Header) → slice_get (map plain_header fs) m ≡ Some h → (g : PlainFunction) × (slice_get fs m ≡ Some g) × (plain_header g ≡ h)
+pub function_with : (fs : List PlainFunction) (m : ℕ) (h : Header) → slice_get (map plain_header fs) m ≡ Some h → (g : PlainFunction) × (slice_get fs m ≡ Some g) × (plain_header g ≡ h)
 function_with [] m h e = absurd (none-some h e)
 function_with (g ∷ fs) zero h e = (g, refl, same_Some (plain_header g) h e)
 function_with (g ∷ fs) (suc m) h e = function_with fs m h e
 
-among_at : {A : Type 0} (xs : List A) (i : ℕ) (x : A) → slice_get xs i ≡ Some x → Among x xs
+pub among_at : {A : Type 0} (xs : List A) (i : ℕ) (x : A) → slice_get xs i ≡ Some x → Among x xs
 among_at [] i x e = absurd (none-some x e)
 among_at (y ∷ xs) zero x e = inl (sym (same_Some y x e))
 among_at (y ∷ xs) (suc i) x e = inr (among_at xs i x e)

@@ -2,8 +2,8 @@
 use Rattle.std.proofs.Common.{◌≡◌, ◌<◌, ◌≤◌, ℕ, Bool, List, length, refl, ap, arith}
 use Rattle.std.specs.Prelude.{Result, Err}
 use Rattle.command_words.specs.Words.{Room}
-use Rattle.command_outcome.specs.declared.failure.Failure.{Failure}
-use Rattle.command_outcome.specs.declared.failure.Failure.TheVariants as F
+use Rattle.command_run.specs.session_semantics.command_outcome.declared.failure.Failure.{Failure}
+use Rattle.command_run.specs.session_semantics.command_outcome.declared.failure.Failure.TheVariants as F
 use Rattle.command_run.specs.command_source.Codes.{IsUpgraded, HasFunction}
 use Rattle.command_run.specs.CodeRun as D
 use Rattle.command_run.specs.CodeRun.{Chosen, RunsCode}

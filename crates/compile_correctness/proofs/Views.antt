@@ -1,17 +1,17 @@
 -- The code of a source, as the rules of sound code see it, is made of the source.
 use Rattle.std.proofs.Common.{◌≡◌, ◌∙◌, ℕ, List, [], ◌∷◌, map, refl, sym, ap, subst}
-use Rattle.cell_code.specs.declared.code.Instr.{Instr}
-use Rattle.fip_language.specs.Core.{Core}
-use Rattle.code_file.specs.Plain as F
-use Rattle.separation.specs.Codes.{run_function}
-use Rattle.lowering_relation.specs.LoweredFunctions.{AreLowered}
-use Rattle.lowering_simulation.specs.Lowered as L
-use Rattle.source_report.specs.Report.{IsParsed}
+use Rattle.command_run.specs.cell_lower.cell_code.declared.code.Instr.{Instr}
+use Rattle.command_run.specs.cell_lower.fip_language.Core.{Core}
+use Rattle.command_run.specs.code_file.Plain as F
+use Rattle.command_run.specs.separation.Codes.{run_function}
+use Rattle.command_run.specs.lowering_relation.LoweredFunctions.{AreLowered}
+use Rattle.command_run.specs.source_report.lowering_simulation.Lowered as L
+use Rattle.command_run.specs.source_report.Report.{IsParsed}
 use Rattle.command_run.specs.command_source.Codes.{sound_function, sound_view}
 use Rattle.command_run.specs.command_source.ProgramCode as C
 use Rattle.command_run.specs.command_source.ProgramCode.{IsCodeOfSource}
-use Rattle.machine_correctness.proofs.Entries.{plain_header}
-use Rattle.machine_correctness.proofs.Made.{IsMadeOf}
+use Rattle.command_run.proofs.machine_correctness.Entries.{plain_header}
+use Rattle.command_run.proofs.machine_correctness.Made.{IsMadeOf}
 
 pub headers_view : (fs : List F.PlainFunction) → map plain_header (map sound_function fs) ≡ map C.plain_header fs
 headers_view [] = refl

@@ -4,13 +4,13 @@
 -- On a source with `fip fun rev(..)` and `fun dup(..)` and on the file that is compiled of it both end with the same text
 -- for the entry rev, and both with E70 for the entry pop; for the entry dup `exec` ends with E71 and `run` with E70.
 use Rattle.std.specs.Prelude.{◌≡◌, ◌⊎◌, ◌<◌, ◌≤◌, ℕ, Bool, false, List, length, Result, Err}
-use Rattle.fip_language.specs.declared.limits.TheConstants.{MOST_FILE_BYTES}
-use Rattle.fip_language.specs.declared.rule.Rule.TheVariants.{E70, E71}
-use Rattle.fip_base.specs.declared.refusal.Refusal.{Refusal}
+use Rattle.command_run.specs.cell_lower.fip_language.declared.limits.TheConstants.{MOST_FILE_BYTES}
+use Rattle.command_run.specs.cell_lower.fip_language.declared.rule.Rule.TheVariants.{E70, E71}
+use Rattle.command_run.specs.cell_lower.fip_base.declared.refusal.Refusal.{Refusal}
 use Rattle.command_words.specs.Words.{Room}
-use Rattle.command_outcome.specs.declared.failure.Failure.{Failure}
-use Rattle.command_outcome.specs.declared.failure.Failure.TheVariants as F
-use Rattle.code_file.specs.Plain.{PlainCode}
+use Rattle.command_run.specs.session_semantics.command_outcome.declared.failure.Failure.{Failure}
+use Rattle.command_run.specs.session_semantics.command_outcome.declared.failure.Failure.TheVariants as F
+use Rattle.command_run.specs.code_file.Plain.{PlainCode}
 use Rattle.command_run.specs.command_source.Codes.{sound_view, IsSoundFile, RefusesCode, HasFunction, names_one}
 use Rattle.command_run.specs.command_source.Wanted.{Compiled, Refuses, IsReady, of_entry}
 use Rattle.command_run.specs.CodeRun.{RunsCode}

@@ -1,19 +1,19 @@
 // The laws on files that `compile` and `upgrade` store. Each is the contract of a function that does nothing.
 ghost use Rattle.std.specs.Prelude.{◌≡◌, ◌<◌, ◌≤◌, ℕ, List, Bool, Result, length};
 ghost use Rattle.command_words.specs.Words.{Room};
-ghost use Rattle.command_outcome.specs.declared.failure.Failure.{Failure};
+ghost use Rattle.command_run.specs.session_semantics.command_outcome.declared.failure.Failure.{Failure};
 ghost use Rattle.code_bytes.specs.Bytes.{most_bytes};
-ghost use Rattle.code_file.specs.CodeText.{CodeText};
-ghost use Rattle.code_file.specs.Plain.{PlainCode};
-ghost use Rattle.code_file.specs.declared.tags.Version.TheVariants.{Second};
+ghost use Rattle.command_run.specs.code_file.CodeText.{CodeText};
+ghost use Rattle.command_run.specs.code_file.Plain.{PlainCode};
+ghost use Rattle.command_run.specs.code_file.declared.tags.Version.TheVariants.{Second};
 ghost use Rattle.compile_correctness.specs.Ends.{ExecEnds, RunEnds, AreAlike};
-ghost use Rattle.fip_language.specs.declared.limits.TheConstants.{MOST_FILE_BYTES};
-ghost use Rattle.fip_trees.specs.Tree.{Program};
+ghost use Rattle.command_run.specs.cell_lower.fip_language.declared.limits.TheConstants.{MOST_FILE_BYTES};
+ghost use Rattle.command_run.specs.fip_trees.Tree.{Program};
 ghost use Rattle.command_run.specs.CodeRun.{RunsCode};
 ghost use Rattle.command_run.specs.ExecAnswer.{Execs};
 ghost use Rattle.command_run.specs.command_source.Codes.{IsUpgraded};
 ghost use Rattle.command_run.specs.command_source.ProgramCode.{IsCodeOfSource, IsCompiledFile, IsUncompiled};
-ghost use Rattle.source_report.specs.Report.{IsAccepted};
+ghost use Rattle.command_run.specs.source_report.Report.{IsAccepted};
 
 /// The file that `compile` stores of a source is run as the source is executed, with the same input and options: both
 /// print the same values and the same lines of the gauge, or tell the same bad input, the same words that are missing,

@@ -17,10 +17,13 @@ use Rattle.command_answers.specs.command_library.command_run.Leaving.{IsLeftBy, 
 use Rattle.command_answers.specs.command_library.GenAnswer.{build, gen_room, tree_source}
 use Rattle.command_answers.specs.command_library.MadeTree.{gen_input}
 use Rattle.command_answers.specs.command_library.command_run.declared.running.Left.{Left}
+use Rattle.command_answers.specs.CodeOf.{IsSourceEntry}
 use Rattle.command_answers.specs.Stored.{IsTold}
+use Rattle.command_answers.proofs.SourceCode.{source_entry}
 use Rattle.fip_driver.specs.Delivered.{Outcome, Seen, Told, ToldFailure, Delivered}
 use Rattle.fip_driver.specs.Fetched.{FetchFails, StoreFails, ReadFails, IsEarlyFailure}
-use Rattle.fip_driver.specs.Left.{LeftOn, LeftBy, LeavesCells, Remains, Leaves, LeavesFor, is_run_status}
+use Rattle.fip_driver.specs.Left.{LeftOn, LeftBy, LeavesCells, LeavesFor, is_run_status}
+use Rattle.fip_driver.specs.Outcome.{Remains, Leaves}
 
 -- ---- what is no end of a run
 
@@ -60,9 +63,13 @@ pub remains_on : (IsSuch : Chosen → Type 0) (told : Option (List ℕ)) (room :
 remains_on IsSuch told room r input ended None such is e h = sym e
 remains_on IsSuch told room r input ended (Some l) such is e h = (sym e, (input, is, (r, such, h)))
 
+-- what is left by a code that was made of a source is left by a code of the source
+by_source : (source name : List ℕ) (told : Option (List ℕ)) (room : Room) (l : Left) → LeftOn (IsEntryOf source name) told room l → LeftOn (IsSourceEntry source name) told room l
+by_source source name told room l (input, is, (r, such, by)) = (input, is, (r, source_entry source name r such, by))
+
 pub leaves_exec : (r : Request) (files : Option (List File)) (told : Option (List ℕ)) (source : List ℕ) (ended : Bool) (left : Option Left) → HoldsFile files r.file source → Remains (LeftOn (IsEntryOf source r.entry) told r.room) ended left → Leaves (Exec r) files told ended left
 leaves_exec r files told source ended None found h = λ cells. h
-leaves_exec r files told source ended (Some l) found h = (h.0, (source, found, h.1))
+leaves_exec r files told source ended (Some l) found h = (h.0, (source, found, by_source source r.entry told r.room l h.1))
 
 pub leaves_run : (r : Request) (files : Option (List File)) (told : Option (List ℕ)) (code : List ℕ) (ended : Bool) (left : Option Left) → HoldsFile files r.file code → Remains (LeftOn (IsFunctionOf code r.entry) told r.room) ended left → Leaves (Run r) files told ended left
 leaves_run r files told code ended None found h = λ cells. h
@@ -70,11 +77,11 @@ leaves_run r files told code ended (Some l) found h = (h.0, (code, found, h.1))
 
 pub leaves_trace : (file entry out : List ℕ) (room : Room) (files : Option (List File)) (told : Option (List ℕ)) (source : List ℕ) (ended : Bool) (left : Option Left) → HoldsFile files file source → Remains (LeftOn (IsEntryOf source entry) told room) ended left → Leaves (Trace file entry out room) files told ended left
 leaves_trace file entry out room files told source ended None found h = λ cells. h
-leaves_trace file entry out room files told source ended (Some l) found h = (h.0, (source, found, h.1))
+leaves_trace file entry out room files told source ended (Some l) found h = (h.0, (source, found, by_source source entry told room l h.1))
 
 pub leaves_gen : (seed count : ℕ) (files : Option (List File)) (told : Option (List ℕ)) (ended : Bool) (left : Option Left) → is_some left ≡ ended → IfSome left (LeavesOf (IsEntryOf tree_source build) (gen_input seed count) gen_room) → Leaves (Gen seed count) files told ended left
 leaves_gen seed count files told ended None e h = λ cells. sym e
-leaves_gen seed count files told ended (Some l) e h = (sym e, h)
+leaves_gen seed count files told ended (Some l) e (r, such, by) = (sym e, (r, source_entry tree_source build r such, by))
 
 -- a trace that was made is stored, or nothing is left
 pub leaves_stored : (file entry out : List ℕ) (room : Room) (files : Option (List File)) (told : Option (List ℕ)) (source : List ℕ) (before now : ℕ) (o : Outcome) (ran left : Option Left) → HoldsFile files file source → Remains (LeftOn (IsEntryOf source entry) told room) true ran → IfErr o (StoreFails before now) → OnOk o (left ≡ ran) → OnErr o (left ≡ None) → Leaves (Trace file entry out room) files told (is_run_end o) left

@@ -40,6 +40,7 @@ use Rattle.command_answers.specs.Asks.{ReadsInput, CallsNoFolder, fetched_name, 
 use Rattle.command_answers.specs.Ends.{OnSource, Refused, LongInput, Ready, Does, TracesTo, IsTaken, Judges, Audits, Reported, NoProof, Judged}
 use Rattle.command_answers.specs.Exec.{End}
 use Rattle.command_answers.proofs.ByTrees.{exec_by_trees, gen_by_trees, trace_by_trees}
+use Rattle.command_answers.proofs.SourceCode.{long_code, source_trace}
 use Rattle.fip_driver.specs.Fetched.{FetchFails, FileFails, StoreFails, JudgeFails, ReadFails}
 use Rattle.fip_driver.specs.Faults.{end_of, IsFault, Closes}
 use Rattle.fip_driver.specs.Outcome.{compiled_end, IsInputFault, ReadOutcome, SourceOutcome, FileOutcome, AuditOutcome, CommandOutcome}
@@ -118,7 +119,7 @@ read_traces source name room before left rose read o c end le h = (read, whole_o
 -- the file that is stored
 is_trace_file : (source name input : List ℕ) (left : Option (List ℕ)) (room : Room) (k : Kept) (e : Result Kept Failure) → IsTold left input → Traces source name input room e → e ≡ Ok k → IsTraceFile source name room left k.file
 is_trace_file source name input left room k e told (Ended failure h) is = absurd cc
-is_trace_file source name input left room k e told (Stored text t h of' short) is = let same : trace_text t ≡ k.file = cc in (input, told, t, of', short, sym same)
+is_trace_file source name input left room k e told (Stored text t h of' short) is = let same : trace_text t ≡ k.file = cc in (input, told, t, source_trace source name input room t of', short, sym same)
 is_trace_file source name input left room k e told (LongTrace t of' long) is = absurd cc
 
 pub trace_made : (source name : List ℕ) (room : Room) (before left : Option (List ℕ)) (read : List ℕ) (o : Result compiled_file Failure) → Consumes before left read → IsAtEnd left → KeptOrNoMemory (Traces source name read room) o → IfOk o (λ c. IsTraceFile source name room before c.file.items)
@@ -165,7 +166,7 @@ compile_refused file out source left fr ir f (inr h) = let i = any_told left [] 
     ready = uncompiled_ready source h.0
 
     by : (f : Failure) (input : List ℕ) → IsRefusedBy (λ r. r ≡ bare E61) f → IsFault (Compile file out) (IsReady source Lawful) fr ir (Err f) ⊎ OnSource source input (Compile file out) Lawful (Err f)
-    by (F.Refused r) input e = inr (Ready (Err (F.Refused r)) ready (no_input (Compile file out) input (λ r. r)) (h.0, ap F.Refused e))
+    by (F.Refused r) input e = inr (Ready (Err (F.Refused r)) ready (no_input (Compile file out) input (λ r. r)) (long_code source h.0, ap F.Refused e))
     by F.NoMemory input e = inl tt
     by failure input e = absurd e
 

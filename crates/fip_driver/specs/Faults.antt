@@ -109,11 +109,6 @@ IsCounted files rose o = Unit {0}
 
 -- ---- whose turn it was, by what a command comes to
 
--- the words
-abbrev pub IsBeforeSource : Outcome → Type 0
-IsBeforeSource (Err F.NotUnderstood) = Unit {0}
-IsBeforeSource o = ⊥
-
 -- the words, the folder, or the source or the code
 abbrev pub IsBeforeInput : Outcome → Type 0
 IsBeforeInput (Err F.NotUnderstood) = Unit {0}
@@ -139,10 +134,6 @@ IsBeforeInputOf c o = IsBeforeInput o
 abbrev pub HadInput : List (List ℕ) → Option (List File) → Outcome → Type 0
 HadInput words files o =
     (c : Command) × IsCommand words c × ReadsInput c × (IsBeforeInputOf c o → ⊥) × ComesToInput c files
-
--- The words ask for a command that calls the folder, and its turn had come.
-abbrev pub HadFolder : List (List ℕ) → Outcome → Type 0
-HadFolder words o = (c : Command) × IsCommand words c × (CallsNoFolder c → ⊥) × (IsBeforeSource o → ⊥)
 
 -- The words ask for a command that doesn't read the input.
 abbrev pub LeavesInput : List (List ℕ) → Type 0

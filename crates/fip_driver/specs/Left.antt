@@ -7,11 +7,11 @@ use Rattle.std.specs.Prelude.{◌≡◌, ℕ, Bool, true, false, ◌==◌, List,
 use Rattle.fip_outside.specs.Files.{File, HoldsFile}
 use Rattle.command_words.specs.Words.{Room, Command, Exec, Run, Trace, Gen, IsCommand}
 use Rattle.command_answers.specs.command_library.command_source.Entries.{Chosen, IsFunctionOf}
-use Rattle.command_answers.specs.command_library.command_source.ProgramCode.{IsEntryOf}
 use Rattle.command_answers.specs.command_library.command_run.Leaving.{LeavesOf}
 use Rattle.command_answers.specs.command_library.command_run.declared.running.Left.{Left}
 use Rattle.command_answers.specs.command_library.GenAnswer.{build, gen_room, tree_source}
 use Rattle.command_answers.specs.command_library.MadeTree.{gen_input}
+use Rattle.command_answers.specs.CodeOf.{IsSourceEntry}
 use Rattle.command_answers.specs.Stored.{IsTold}
 
 -- those that run a code, and leave it
@@ -30,25 +30,15 @@ LeftOn IsSuch told room l = (input : List ℕ) × IsTold told input × LeavesOf 
 -- or just the code of the file.
 abbrev pub LeftBy : Command → Option (List File) → Option (List ℕ) → Left → Type 0
 LeftBy (Exec r) files told l =
-    (source : List ℕ) × HoldsFile files r.file source × LeftOn (IsEntryOf source r.entry) told r.room l
+    (source : List ℕ) × HoldsFile files r.file source × LeftOn (IsSourceEntry source r.entry) told r.room l
 LeftBy (Run r) files told l =
     (bytes : List ℕ) × HoldsFile files r.file bytes × LeftOn (IsFunctionOf bytes r.entry) told r.room l
 LeftBy (Trace file entry out room) files told l =
-    (source : List ℕ) × HoldsFile files file source × LeftOn (IsEntryOf source entry) told room l
-LeftBy (Gen seed count) files told l = LeavesOf (IsEntryOf tree_source build) (gen_input seed count) gen_room l
+    (source : List ℕ) × HoldsFile files file source × LeftOn (IsSourceEntry source entry) told room l
+LeftBy (Gen seed count) files told l = LeavesOf (IsSourceEntry tree_source build) (gen_input seed count) gen_room l
 LeftBy c files told l = ⊥
 
--- Where a run ended something is left, which is such; else nothing.
-abbrev pub Remains : (Left → Type 0) → (ended : Bool) → Option Left → Type 0
-Remains IsSuch ended None = ended ≡ false
-Remains IsSuch ended (Some l) = (ended ≡ true) × IsSuch l
-
--- The same of the command.
-abbrev pub Leaves : Command → Option (List File) → Option (List ℕ) → (ended : Bool) → Option Left → Type 0
-Leaves c files told ended None = LeavesCells c → ended ≡ false
-Leaves c files told ended (Some l) = (ended ≡ true) × LeftBy c files told l
-
--- The same of words.
+-- Where a run ended of a command that these words ask for something is left, by that command; else nothing.
 abbrev pub LeavesFor : List (List ℕ) → Option (List File) → Option (List ℕ) → (ended : Bool) → Option Left → Type 0
 LeavesFor words files told ended None = (c : Command) → IsCommand words c → LeavesCells c → ended ≡ false
 LeavesFor words files told ended (Some l) =

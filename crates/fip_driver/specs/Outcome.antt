@@ -1,5 +1,5 @@
 -- It serves the proof of `fp2`: what a command comes to, before it is handed to the sinks.
-use Rattle.std.specs.Prelude.{◌≡◌, ◌⊎◌, ℕ, ◌<◌, ◌≤◌, List, length, Option, Some, None, Result, Ok, Err}
+use Rattle.std.specs.Prelude.{◌≡◌, ◌⊎◌, ℕ, ◌<◌, ◌≤◌, Bool, true, false, List, length, Option, Some, None, Result, Ok, Err}
 use Rattle.std.specs.declared.vec.Vec.{Vec}
 use Rattle.std.specs.declared.alloc.Global.{Global}
 use Rattle.fip_language.specs.declared.limits.TheConstants.{MOST_FILE_BYTES}
@@ -7,15 +7,26 @@ use Rattle.fip_outside.specs.Files.{File}
 use Rattle.command_words.specs.Words.{Command, IsCommand}
 use Rattle.command_answers.specs.command_library.command_source.Wanted.{Wanted, IsReady}
 use Rattle.command_answers.specs.command_library.command_source.declared.files.Compiled.{Compiled}
+use Rattle.command_answers.specs.command_library.command_run.declared.running.Left.{Left}
 use Rattle.command_outcome.specs.declared.failure.Failure.{Failure}
 use Rattle.command_outcome.specs.declared.failure.Failure.TheVariants as F
 use Rattle.command_outcome.specs.declared.failure.Object.TheVariants as O
-use Rattle.command_answers.specs.Asks.{HasWanted}
+use Rattle.command_answers.specs.Asks.{CallsNoFolder, HasWanted}
 use Rattle.command_answers.specs.Ends.{OnSource, OnCode}
 use Rattle.command_answers.specs.Exec.{End}
 use Rattle.command_answers.specs.Stored.{IsTold, IsStored, IsUnstored}
 use Rattle.fip_driver.specs.Delivered.{Outcome}
 use Rattle.fip_driver.specs.Faults.{IsFault, Closes, IsUntoldAudit, WordsOutcome}
+use Rattle.fip_driver.specs.Left.{LeavesCells, LeftBy}
+
+-- the words are refused
+abbrev pub IsBeforeSource : Outcome → Type 0
+IsBeforeSource (Err F.NotUnderstood) = Unit {0}
+IsBeforeSource o = ⊥
+
+-- The words ask for a command that calls the folder, and its turn had come.
+abbrev pub HadFolder : List (List ℕ) → Outcome → Type 0
+HadFolder words o = (c : Command) × IsCommand words c × (CallsNoFolder c → ⊥) × (IsBeforeSource o → ⊥)
 
 abbrev pub compiled_end : Result Compiled Failure → End
 compiled_end (Ok compiled) = Ok compiled.text.items
@@ -77,3 +88,13 @@ AreKept c left (Some name) rose old new (Ok text) = IsStored c left name old new
 AreKept c left (Some name) rose old new (Err (F.Fault O.Folder)) =
     (new ≡ old) ⊎ (rose × IsUnstored c left name old new)
 AreKept c left (Some name) rose old new (Err failure) = new ≡ old
+
+-- Where a run ended something is left, which is such; else nothing.
+abbrev pub Remains : (Left → Type 0) → (ended : Bool) → Option Left → Type 0
+Remains IsSuch ended None = ended ≡ false
+Remains IsSuch ended (Some l) = (ended ≡ true) × IsSuch l
+
+-- The same of the command.
+abbrev pub Leaves : Command → Option (List File) → Option (List ℕ) → (ended : Bool) → Option Left → Type 0
+Leaves c files told ended None = LeavesCells c → ended ≡ false
+Leaves c files told ended (Some l) = (ended ≡ true) × LeftBy c files told l

@@ -6,9 +6,8 @@ ghost use Rattle.command_words.specs.Words.{IsCommand};
 ghost use Rattle.command_words.specs.View.{command_of};
 ghost use Rattle.command_answers.specs.Asks.{ReadsInput, CallsNoFolder, ComesToInput, stored_name};
 ghost use Rattle.command_answers.specs.command_library.command_run.CodeRun.{is_run_end};
-ghost use Rattle.fip_driver.specs.Faults.{IsCounted, IsBeforeSource, IsBeforeInputOf};
-ghost use Rattle.fip_driver.specs.Left.{Leaves};
-ghost use Rattle.fip_driver.specs.Outcome.{CommandOutcome, AreKept};
+ghost use Rattle.fip_driver.specs.Faults.{IsCounted, IsBeforeInputOf};
+ghost use Rattle.fip_driver.specs.Outcome.{CommandOutcome, AreKept, IsBeforeSource, Leaves};
 
 use crate::commands::{check, compile, eval, upgrade, verify};
 use crate::derivations::{audit, derive};

@@ -8,8 +8,8 @@ ghost use Rattle.command_words.specs.Words as W;
 ghost use Rattle.command_answers.specs.command_library.command_source.Entries.{IsRootedIn};
 ghost use Rattle.command_answers.specs.command_library.command_eval.EvalAnswer.{Evaluates};
 ghost use Rattle.command_answers.specs.Asks.{ComesToInput};
-ghost use Rattle.fip_driver.specs.Faults.{IsCounted, end_of, IsBeforeSource, IsBeforeInput};
-ghost use Rattle.fip_driver.specs.Outcome.{FileOutcome, ReadOutcome, AreKept};
+ghost use Rattle.fip_driver.specs.Faults.{IsCounted, end_of, IsBeforeInput};
+ghost use Rattle.fip_driver.specs.Outcome.{FileOutcome, ReadOutcome, AreKept, IsBeforeSource};
 
 use crate::fetched::{fetch_code, fetch_source, read_input};
 use crate::stored::store;

@@ -7,8 +7,8 @@ ghost use Rattle.command_outcome.specs.Successes.{derived_text};
 ghost use Rattle.fip_trees.specs.TreeView as V;
 ghost use Rattle.command_answers.specs.command_library.command_source.Judged.{IsProofOf, IsRejectedOf};
 ghost use Rattle.fip_driver.specs.Fetched.{JudgeFails};
-ghost use Rattle.fip_driver.specs.Faults.{IsCounted, end_of, IsBeforeSource};
-ghost use Rattle.fip_driver.specs.Outcome.{AuditOutcome, FileOutcome, AreKept};
+ghost use Rattle.fip_driver.specs.Faults.{IsCounted, end_of};
+ghost use Rattle.fip_driver.specs.Outcome.{AuditOutcome, FileOutcome, AreKept, IsBeforeSource};
 
 use crate::fetched::{fetch_proof, fetch_source};
 use crate::stored::store;

@@ -11,9 +11,9 @@ ghost use Rattle.command_answers.specs.command_library.command_source.Wanted.{Co
 ghost use Rattle.command_answers.specs.command_library.command_run.CodeRun.{is_run_end, RunsCode};
 ghost use Rattle.command_answers.specs.command_library.command_run.ExecAnswer.{Execs};
 ghost use Rattle.command_answers.specs.Asks.{ComesToInput};
-ghost use Rattle.fip_driver.specs.Faults.{IsCounted, end_of, IsBeforeSource, IsBeforeInput};
-ghost use Rattle.fip_driver.specs.Left.{LeftOn, Leaves, Remains};
-ghost use Rattle.fip_driver.specs.Outcome.{FileOutcome, ReadOutcome};
+ghost use Rattle.fip_driver.specs.Faults.{IsCounted, end_of, IsBeforeInput};
+ghost use Rattle.fip_driver.specs.Left.{LeftOn};
+ghost use Rattle.fip_driver.specs.Outcome.{FileOutcome, ReadOutcome, IsBeforeSource, Leaves, Remains};
 
 use crate::fetched::{fetch_code, fetch_source, read_input};
 use command_answers::runner::{self, Left};

@@ -9,8 +9,8 @@ ghost use Rattle.command_answers.specs.command_tasks.Fronts.{IsFrontOf};
 ghost use Rattle.command_answers.specs.command_tasks.TasksAnswer.{TakesTurns};
 ghost use Rattle.command_answers.specs.Asks.{ComesToInput};
 ghost use Rattle.command_answers.specs.Ends.{Replies};
-ghost use Rattle.fip_driver.specs.Faults.{IsCounted, end_of, IsBeforeSource, IsBeforeInput};
-ghost use Rattle.fip_driver.specs.Outcome.{FileOutcome, ReadOutcome};
+ghost use Rattle.fip_driver.specs.Faults.{IsCounted, end_of, IsBeforeInput};
+ghost use Rattle.fip_driver.specs.Outcome.{FileOutcome, ReadOutcome, IsBeforeSource};
 
 use crate::fetched::{fetch_source, read_input};
 use command_answers::source::Front;

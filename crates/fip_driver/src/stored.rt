@@ -1,7 +1,7 @@
 // Storing a file before the text of a command goes out.
 ghost use Rattle.std.specs.Prelude.{◌≡◌, IfOk, IfErr};
 ghost use Rattle.fip_driver.specs.Fetched.{StoreFails, StoreKeeps};
-ghost use Rattle.fip_driver.specs.Faults.{IsBeforeSource};
+ghost use Rattle.fip_driver.specs.Outcome.{IsBeforeSource};
 
 use command_answers::source::Compiled;
 use command_outcome::{Failure, Object};

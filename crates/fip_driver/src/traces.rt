@@ -12,9 +12,9 @@ ghost use Rattle.command_answers.specs.Asks.{ComesToInput};
 ghost use Rattle.command_answers.specs.Ends.{TracesTo};
 ghost use Rattle.command_answers.specs.Stored.{IsTraceFile};
 ghost use Rattle.fip_driver.specs.Fetched.{IsLateFailure, StoreFails, StoreKeeps};
-ghost use Rattle.fip_driver.specs.Faults.{IsCounted, end_of, IsBeforeSource, IsBeforeTrace};
-ghost use Rattle.fip_driver.specs.Left.{LeftOn, Leaves, Remains};
-ghost use Rattle.fip_driver.specs.Outcome.{FileOutcome, ReadOutcome, compiled_end, AreKept};
+ghost use Rattle.fip_driver.specs.Faults.{IsCounted, end_of, IsBeforeTrace};
+ghost use Rattle.fip_driver.specs.Left.{LeftOn};
+ghost use Rattle.fip_driver.specs.Outcome.{FileOutcome, ReadOutcome, compiled_end, AreKept, IsBeforeSource, Leaves, Remains};
 
 use crate::fetched::{fetch_source, fetch_trace, read_input};
 use crate::stored::store;

@@ -4,8 +4,7 @@ use Rattle.fip_outside.specs.Faults.{Rose}
 use Rattle.command_words.specs.View.{command_of}
 use Rattle.command_answers.specs.command_library.command_run.CodeRun.{is_run_end}
 use Rattle.command_answers.specs.Asks.{stored_name, ComesToInput}
-use Rattle.fip_driver.specs.Outcome.{CommandOutcome, AreKept}
-use Rattle.fip_driver.specs.Left.{Leaves}
+use Rattle.fip_driver.specs.Outcome.{CommandOutcome, AreKept, Leaves}
 use Rattle.fip_driver.proofs.Remains.{leaves_gen}
 use Rattle.command_words.specs.Words.{IsCommand, IsTextName}
 use Rattle.fip_driver.proofs.SourceEnds.{file_outcome, audit_outcome, library_ends, gen_ends}

@@ -2,6 +2,7 @@ use Rattle.std.proofs.Common.{refl, subst}
 use Rattle.command_words.specs.Words as W
 use Rattle.command_answers.specs.command_library.command_source.ProgramCode.{IsCompiledFile}
 use Rattle.command_answers.specs.command_library.command_source.Wanted.{Lawful}
+use Rattle.command_answers.proofs.SourceCode.{source_file}
 use Rattle.fip_driver.specs.Faults.{end_of}
 use Rattle.fip_driver.proofs.SourceEnds.{compile_ends, compile_refused, source_ends, fetch_ends}
 use Rattle.fip_driver.proofs.Storing.{stored_kept, unstored}
@@ -18,7 +19,7 @@ pub returns-clause-outcome : goal.returns-clause-outcome
 returns-clause-outcome g c = λ left. fetch_ends (W.Compile c.args.file.now c.args.out.now) Lawful c.args.file.now (g.F.Folder.files c.args.folder.now) left _ _ _ c.in-Err.failure refl refl (λ r. r) c.in-Err.ensures.fails
 
 pub returns-in-Ok-compile-clause-kept : goal.returns-in-Ok-compile-clause-kept
-returns-in-Ok-compile-clause-kept g c = λ left. stored_kept (W.Compile c.args.file.now c.args.out.now) left c.args.out.now c.in-Ok-compile.compiled.file.items (g.F.Folder.files c.args.folder.now) _ _ _ _ _ c.store.result c.in-Ok.ensures.same c.in-Ok.ensures.later (c.in-Ok.bytes.items, c.in-Ok.ensures.found, subst (λ xs. IsCompiledFile xs c.in-Ok-compile.compiled.file.items) c.as_slice.ensures.value c.in-Ok-compile.ensures.stored) c.store.ensures.fails c.store.ensures.kept
+returns-in-Ok-compile-clause-kept g c = λ left. stored_kept (W.Compile c.args.file.now c.args.out.now) left c.args.out.now c.in-Ok-compile.compiled.file.items (g.F.Folder.files c.args.folder.now) _ _ _ _ _ c.store.result c.in-Ok.ensures.same c.in-Ok.ensures.later (c.in-Ok.bytes.items, c.in-Ok.ensures.found, source_file c.in-Ok.bytes.items c.in-Ok-compile.compiled.file.items (subst (λ xs. IsCompiledFile xs c.in-Ok-compile.compiled.file.items) c.as_slice.ensures.value c.in-Ok-compile.ensures.stored)) c.store.ensures.fails c.store.ensures.kept
 
 pub returns-in-Ok-compile-clause-counted : goal.returns-in-Ok-compile-clause-counted
 returns-in-Ok-compile-clause-counted g c = stored_counted (g.F.Folder.files c.args.folder.now) _ _ _ c.store.result c.in-Ok.ensures.later c.store.ensures.fails

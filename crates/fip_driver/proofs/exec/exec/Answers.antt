@@ -6,7 +6,8 @@ use Rattle.fip_driver.specs.Faults.{end_of}
 use Rattle.fip_driver.proofs.SourceEnds.{executed_ends, kept_ends, source_ends, fetch_ends}
 use Rattle.command_answers.specs.command_library.command_source.ProgramCode.{IsEntryOf}
 use Rattle.command_answers.specs.command_library.command_run.CodeRun.{is_run_end}
-use Rattle.fip_driver.specs.Left.{LeftOn, Remains}
+use Rattle.fip_driver.specs.Left.{LeftOn}
+use Rattle.fip_driver.specs.Outcome.{Remains}
 use Rattle.fip_driver.proofs.Remains.{fetch_ran, source_ran, leaves_exec}
 use Rattle.fip_driver.proofs.Counted.{late_counted, source_counted, fetch_counted}
 use Rattle.fip_driver.proofs.exec.exec.Goals as goal

@@ -8,7 +8,8 @@ use Rattle.fip_driver.proofs.CodeEnds.{run_ends, run_refused, code_ends, long_co
 use Rattle.fip_driver.proofs.SourceEnds.{missed_ends}
 use Rattle.command_answers.specs.command_library.command_source.Entries.{IsFunctionOf}
 use Rattle.command_answers.specs.command_library.command_run.CodeRun.{is_run_end}
-use Rattle.fip_driver.specs.Left.{LeftOn, Remains}
+use Rattle.fip_driver.specs.Left.{LeftOn}
+use Rattle.fip_driver.specs.Outcome.{Remains}
 use Rattle.fip_driver.proofs.Remains.{early_ran, source_ran, leaves_run}
 use Rattle.fip_driver.proofs.Counted.{late_counted, source_counted, file_counted}
 use Rattle.fip_driver.proofs.exec.run.Goals as goal

@@ -4,8 +4,8 @@ use Rattle.fip_outside.specs.Faults.{Rose}
 use Rattle.command_words.specs.Words.{Command, IsCommand}
 use Rattle.command_answers.specs.Asks.{stored_name}
 use Rattle.fip_driver.specs.Delivered.{seen}
-use Rattle.fip_driver.specs.Faults.{HadFolder, WordsOutcome}
-use Rattle.fip_driver.specs.Outcome.{AreKept}
+use Rattle.fip_driver.specs.Faults.{WordsOutcome}
+use Rattle.fip_driver.specs.Outcome.{AreKept, HadFolder}
 use Rattle.fip_driver.proofs.Outcomes.{kept_or_had, whole_outcome}
 use Rattle.fip_driver.proofs.Remains.{handed_out}
 use Rattle.fip_driver.proofs.Unread.{input_read, folder_called, files_after, last_status}

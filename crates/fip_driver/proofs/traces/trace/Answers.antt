@@ -10,7 +10,8 @@ use Rattle.fip_driver.proofs.Storing.{stored_kept, unstored}
 use Rattle.fip_driver.proofs.Unread.{late_after_input, stored_after_input}
 use Rattle.command_answers.specs.command_library.command_source.ProgramCode.{IsEntryOf}
 use Rattle.command_answers.specs.command_library.command_run.CodeRun.{is_run_failure}
-use Rattle.fip_driver.specs.Left.{LeftOn, Remains}
+use Rattle.fip_driver.specs.Left.{LeftOn}
+use Rattle.fip_driver.specs.Outcome.{Remains}
 use Rattle.fip_driver.proofs.Remains.{fetch_ran, source_ran, leaves_trace, leaves_stored}
 use Rattle.fip_driver.proofs.Counted.{stored_counted, late_failure_counted, source_counted, fetch_counted}
 use Rattle.fip_driver.proofs.traces.trace.Goals as goal

@@ -4,63 +4,62 @@
 -- and the stack of its run is that of the run on trees, whose frames have the registers that the groups tell.
 use Rattle.std.proofs.Common.{◌≡◌, ◌∙◌, ◌<◌, ◌+◌, ℕ, zero, suc, List, [], ◌∷◌, length, map, max, Option, Some, None, slice_get, refl, sym, ap, ap₂, subst, arith}
 use Rattle.std.proofs.lemmas.Option.{none-some, same_Some}
-use Rattle.command_answers.specs.command_library.fip_language.Gauge.{highest_frames, highest_words}
-use Rattle.command_answers.specs.command_library.fip_language.Meaning.{Peak, Run}
-use Rattle.command_answers.specs.command_library.fip_language.Table.{Table, HaveTypes}
-use Rattle.command_answers.specs.command_library.fip_language.Values.{Values}
-use Rattle.command_answers.specs.command_library.fip_base.declared.plain.Param.{Param}
-use Rattle.command_answers.specs.command_library.fip_base.declared.plain.Stack.{Stack}
-use Rattle.worked_examples.specs.fip_trees.Tree.{Instance, Program}
-use Rattle.worked_examples.specs.tail_groups.Members.{AreMembers}
-use Rattle.worked_examples.specs.tail_groups.Registers as T'
-use Rattle.worked_examples.specs.instance_semantics.Meaning.{flat_meaning}
-use Rattle.worked_examples.specs.cell_lower.Limits.{registers}
-use Rattle.worked_examples.specs.cell_lower.Shape.{Header, header_of, headers}
-use Rattle.worked_examples.specs.code_file.CodeText.{CodeText}
-use Rattle.worked_examples.specs.code_file.Plain as F
-use Rattle.worked_examples.specs.code_file.declared.tags.Version.TheVariants.{Second}
-use Rattle.worked_examples.specs.lowering_relation.LoweredBodies.{function_of}
-use Rattle.worked_examples.specs.lowering_relation.LoweredFunctions.{AreLowered}
-use Rattle.worked_examples.specs.lowering_simulation.CellEnds.{EndsAs, IsFunctionOf}
-use Rattle.worked_examples.specs.lowering_simulation.Lowered as L
-use Rattle.worked_examples.specs.lowering_simulation.RunEnds.{RunsTo, height, highest, words_of_all}
-use Rattle.worked_examples.specs.lowering_simulation.Wide.{AreWide}
-use Rattle.worked_examples.specs.tree_refinement.Runs.{BeginsWith}
-use Rattle.worked_examples.specs.tree_refinement.tree_semantics.Runs as T
-use Rattle.worked_examples.specs.tree_refinement.tree_semantics.States as U
-use Rattle.command_answers.specs.command_library.machine_semantics.Codes as R
-use Rattle.command_answers.specs.command_library.machine_semantics.Gauges.{seen}
-use Rattle.command_answers.specs.command_library.machine_semantics.Limits.{frame_words}
-use Rattle.command_answers.specs.command_library.machine_semantics.Runs as C
-use Rattle.command_answers.specs.command_library.machine_semantics.Runs.{Value, Ends, Over, begun, after, loaded}
-use Rattle.command_answers.specs.command_library.machine_semantics.States.{State}
-use Rattle.command_answers.specs.command_library.machine_semantics.Steps.{Kinds}
-use Rattle.command_answers.specs.command_library.code_rules.Codes.{PlainCode, PlainFunction, function_at, params, params_of}
-use Rattle.command_answers.specs.command_library.separation.Codes.{run_code, run_function, AreKinds, HasLiterals}
-use Rattle.command_answers.specs.command_library.separation.Starts.{IsStart}
-use Rattle.command_answers.specs.command_library.run_loading.Loading.{first_store, first_words}
-use Rattle.command_answers.proofs.command_library.run_loading.Begins.{begins}
-use Rattle.command_answers.proofs.command_library.separation.Loading.{loaded_is}
-use Rattle.command_answers.specs.command_library.command_run.GaugeText.{highest_stack}
-use Rattle.command_answers.specs.command_library.command_source.Codes.{sound_function, sound_view}
-use Rattle.command_answers.specs.command_library.command_source.ProgramCode as P
-use Rattle.command_answers.specs.command_library.command_source.ProgramCode.{IsCodeOfSource}
-use Rattle.command_answers.proofs.command_library.command_run.machine_correctness.Entries.{plain_header}
-use Rattle.command_answers.proofs.command_library.command_run.machine_correctness.Peaks.{header_at, counted_at}
-use Rattle.command_answers.proofs.command_library.command_run.machine_correctness.tree_refinement.Overs.{seen_at_end, seen_enough}
-use Rattle.command_answers.proofs.command_library.command_run.machine_correctness.tree_refinement.Stacks.{wide, wide_at, wide_all, tree_frames, tree_words, tree_highest, frames_from, words_from}
-use Rattle.command_answers.proofs.command_library.command_run.machine_correctness.compiler_correctness.Joined.{on_cells, begun_takes, not_stuck}
-use Rattle.command_answers.proofs.command_library.command_run.machine_correctness.compiler_correctness.in_place_safety.Within.{frame_same, variables_at}
-use Rattle.command_answers.proofs.command_library.command_run.machine_correctness.compiler_correctness.in_place_safety.Checked.{bounded}
-use Rattle.command_answers.proofs.command_library.command_run.machine_correctness.compiler_correctness.lowering_simulation.Guards.{guarded}
-use Rattle.command_answers.proofs.command_library.command_run.machine_correctness.compiler_correctness.lowering_simulation.Whole.{runs_to}
-use Rattle.command_answers.proofs.command_library.command_run.machine_correctness.compiler_correctness.source_report.Distinct.{typed_distinct}
-use Rattle.command_answers.proofs.command_library.command_run.machine_correctness.compiler_correctness.source_report.Sizing.{typed_filled}
-use Rattle.command_answers.proofs.command_library.command_run.machine_correctness.compiler_correctness.source_safety.Accepted.{credited_checked}
-use Rattle.command_answers.proofs.command_library.command_run.machine_correctness.compiler_correctness.source_safety.Formed.{typed_is_formed}
+use Rattle.command_library.specs.fip_language.Gauge.{highest_frames, highest_words}
+use Rattle.command_library.specs.fip_language.Meaning.{Peak, Run}
+use Rattle.command_library.specs.fip_language.Table.{Table, HaveTypes}
+use Rattle.command_library.specs.fip_language.Values.{Values}
+use Rattle.command_library.specs.fip_base.declared.plain.Param.{Param}
+use Rattle.command_library.specs.fip_base.declared.plain.Stack.{Stack}
+use Rattle.command_tasks.specs.source_report.fip_trees.Tree.{Instance, Program}
+use Rattle.command_tasks.specs.source_report.tail_groups.Members.{AreMembers}
+use Rattle.command_tasks.specs.source_report.tail_groups.Registers as T'
+use Rattle.command_tasks.specs.source_report.instance_semantics.Meaning.{flat_meaning}
+use Rattle.command_tasks.specs.source_report.cell_lower.Limits.{registers}
+use Rattle.command_tasks.specs.source_report.cell_lower.Shape.{Header, header_of, headers}
+use Rattle.command_tasks.specs.code_file.Plain as F
+use Rattle.command_tasks.specs.code_file.declared.tags.Version.TheVariants.{Second}
+use Rattle.command_tasks.specs.source_report.lowering_relation.LoweredBodies.{function_of}
+use Rattle.command_tasks.specs.source_report.lowering_relation.LoweredFunctions.{AreLowered}
+use Rattle.command_tasks.specs.source_report.lowering_simulation.CellEnds.{EndsAs, IsFunctionOf}
+use Rattle.command_tasks.specs.source_report.lowering_simulation.Lowered as L
+use Rattle.command_tasks.specs.source_report.lowering_simulation.RunEnds.{RunsTo, height, highest, words_of_all}
+use Rattle.command_tasks.specs.source_report.lowering_simulation.Wide.{AreWide}
+use Rattle.command_tasks.specs.run_loading.tree_refinement.Runs.{BeginsWith}
+use Rattle.command_tasks.specs.run_loading.tree_refinement.tree_semantics.Runs as T
+use Rattle.command_tasks.specs.run_loading.tree_refinement.tree_semantics.States as U
+use Rattle.command_library.specs.machine_semantics.Codes as R
+use Rattle.command_library.specs.machine_semantics.Gauges.{seen}
+use Rattle.command_library.specs.machine_semantics.Limits.{frame_words}
+use Rattle.command_library.specs.machine_semantics.Runs as C
+use Rattle.command_library.specs.machine_semantics.Runs.{End, Value, Ends, Over, begun, after, loaded}
+use Rattle.command_library.specs.machine_semantics.States.{State}
+use Rattle.command_library.specs.machine_semantics.Steps.{Kinds}
+use Rattle.command_library.specs.code_rules.Codes.{PlainCode, PlainFunction, function_at, params, params_of}
+use Rattle.command_library.specs.separation.Codes.{run_code, run_function, AreKinds, HasLiterals}
+use Rattle.command_library.specs.separation.Starts.{IsStart}
+use Rattle.command_library.specs.run_loading.Loading.{first_store, first_words}
+use Rattle.command_library.proofs.run_loading.Begins.{begins}
+use Rattle.command_library.proofs.separation.Loading.{loaded_is}
+use Rattle.command_library.specs.command_run.GaugeText.{highest_stack}
+use Rattle.command_library.specs.command_source.Codes.{sound_function, sound_view}
+use Rattle.command_library.specs.command_source.ProgramCode as P
+use Rattle.command_library.specs.command_source.ProgramCode.{IsCodeOfSource}
+use Rattle.command_library.proofs.command_run.machine_correctness.Entries.{plain_header}
+use Rattle.command_library.proofs.command_run.machine_correctness.Peaks.{header_at, counted_at}
+use Rattle.command_library.proofs.command_run.machine_correctness.tree_refinement.Overs.{seen_at_end, seen_enough}
+use Rattle.command_library.proofs.command_run.machine_correctness.tree_refinement.Stacks.{wide, wide_at, wide_all, tree_frames, tree_words, tree_highest, frames_from, words_from}
+use Rattle.command_library.proofs.command_run.machine_correctness.compiler_correctness.Joined.{on_cells, begun_takes, not_stuck}
+use Rattle.command_library.proofs.command_run.machine_correctness.compiler_correctness.in_place_safety.Within.{frame_same, variables_at}
+use Rattle.command_library.proofs.command_run.machine_correctness.compiler_correctness.in_place_safety.Checked.{bounded}
+use Rattle.command_library.proofs.command_run.machine_correctness.compiler_correctness.lowering_simulation.Guards.{guarded}
+use Rattle.command_library.proofs.command_run.machine_correctness.compiler_correctness.lowering_simulation.Whole.{runs_to}
+use Rattle.command_library.proofs.command_run.machine_correctness.compiler_correctness.source_report.Distinct.{typed_distinct}
+use Rattle.command_library.proofs.command_run.machine_correctness.compiler_correctness.source_report.Sizing.{typed_filled}
+use Rattle.command_library.proofs.command_run.machine_correctness.compiler_correctness.source_safety.Accepted.{credited_checked}
+use Rattle.command_library.proofs.command_run.machine_correctness.compiler_correctness.source_safety.Formed.{typed_is_formed}
 use Rattle.command_answers.specs.Exec.{stack_of_peak}
-use Rattle.answer_correctness.specs.OfProgram.{IsLoaded, IsCodeOf}
-use Rattle.answer_correctness.proofs.FileTexts.{literals}
+use Rattle.command_answers.specs.CodeOf.{IsLoaded, IsCodeOf}
+use Rattle.command_answers.proofs.FileTexts.{literals}
 
 headers_view : (fs : List F.PlainFunction) → map plain_header (map sound_function fs) ≡ map P.plain_header fs
 headers_view [] = refl
@@ -115,15 +114,15 @@ highest_enough code width (suc n) m (T.Going s l j) a last left steps is =
 highest_enough code width n m (T.Over b s l j) a last left steps is = highest_over code width (n + m) b s l j ∙ sym (highest_over code width n b s l j)
 
 -- with no call left a run gives no words
-some_calls : (before : Kinds) (code : R.PlainCode) (s : State) (calls : ℕ) (ws : List ℕ) (last : State) (left steps : ℕ) → Ends before code s calls (Value ws) last left steps → (k : ℕ) × (calls ≡ suc k)
+pub some_calls : (before : Kinds) (code : R.PlainCode) (s : State) (calls : ℕ) (ws : List ℕ) (last : State) (left steps : ℕ) → Ends before code s calls (Value ws) last left steps → 0 < calls
 some_calls before code s zero ws last left steps x = absurd (never x.enough x.is)
   where
     never : (n : ℕ) → after before code n (begun s zero) ≡ Over (Value ws) last left steps → ⊥
     never zero e = absurd cc
     never (suc n) e = never n e
-some_calls before code s (suc k) ws last left steps x = (k, refl)
+some_calls before code s (suc k) ws last left steps x = omega arith
 
-module _ (source : List ℕ) (code : F.PlainCode) (h : IsCodeOfSource source code) (file : List ℕ) (spelt : CodeText file Second code) where
+module _ (source : List ℕ) (code : F.PlainCode) (h : IsCodeOfSource source code) where
   abbrev c : PlainCode
   c = sound_view code
 
@@ -140,7 +139,7 @@ module _ (source : List ℕ) (code : F.PlainCode) (h : IsCodeOfSource source cod
   headed = headers_view code.functions ∙ h.lowered.functions
 
   written : HasLiterals c
-  written = literals file code (Second, spelt)
+  written = literals h.filed.0 code (Second, h.filed.1)
 
   -- the function of an instance
   function_found : (i n : ℕ) (d : Instance) → function_of p.instances i ≡ Some n → slice_get p.instances i ≡ Some d → (f : PlainFunction) × (function_at c n ≡ Some f) × (plain_header f ≡ header_of (registers h.lowered.members i) d)
@@ -204,7 +203,7 @@ module _ (source : List ℕ) (code : F.PlainCode) (h : IsCodeOfSource source cod
         runs_to trees (wide_at c) p lowered (guarded p (typed_is_formed source p typed) (typed_filled source p typed)) (typed_distinct source p typed) wide_code
         i n vs k s.free l.is takes (not_stuck source p matched i n vs (suc k) s.free l.is takes)
 
-    module _ (k : ℕ) (words : List ℕ) (last : State) (left steps : ℕ) (x : Ends before trees s (suc k) (Value words) last left steps) where
+    module _ (k : ℕ) (e : End) (last : State) (left steps : ℕ) (x : Ends before trees s (suc k) e last left steps) where
       abbrev r : RunsTo trees (wide_at c) (T.begun (T.entry n vs s.free) (suc k)) (flat_meaning p i vs (suc k) s.free)
       r = tree_run k
 
@@ -219,29 +218,27 @@ module _ (source : List ℕ) (code : F.PlainCode) (h : IsCodeOfSource source cod
 
       peak_frames : highest_frames (seen before trees x.enough (begun s (suc k))) ≡ (flat_meaning p i vs (suc k) s.free).peak.frames
       peak_frames =
-          ap highest_frames (sym (seen_enough before trees x.enough r.enough (begun s (suc k)) (Value words) last left steps x.is))
+          ap highest_frames (sym (seen_enough before trees x.enough r.enough (begun s (suc k)) e last left steps x.is))
           ∙ frames_from c before waits n [] s vs (suc k) start.0 start.1 (x.enough + r.enough) 0
           ∙ frames_same c trees (x.enough + r.enough) (T.begun (T.entry n vs s.free) (suc k))
           ∙ ap (λ (q : Peak). q.frames) high
 
       peak_words : highest_words (seen before trees x.enough (begun s (suc k))) ≡ (flat_meaning p i vs (suc k) s.free).peak.words
       peak_words =
-          ap highest_words (sym (seen_enough before trees x.enough r.enough (begun s (suc k)) (Value words) last left steps x.is))
+          ap highest_words (sym (seen_enough before trees x.enough r.enough (begun s (suc k)) e last left steps x.is))
           ∙ words_from c before waits n [] s vs (suc k) start.0 start.1 (x.enough + r.enough) 0
           ∙ words_same c trees (x.enough + r.enough) (T.begun (T.entry n vs s.free) (suc k))
           ∙ ap (λ (q : Peak). q.words) high
 
       stack_so : highest_stack (seen before trees steps (begun s (suc k))) ≡ stack_of_peak (flat_meaning p i vs (suc k) frames).peak
       stack_so =
-          ap highest_stack (seen_at_end before trees s (suc k) (Value words) last left steps x)
+          ap highest_stack (seen_at_end before trees s (suc k) e last left steps x)
           ∙ ap₂ (λ m w. record { frames = m; words = w }) peak_frames peak_words
           ∙ ap (λ m. stack_of_peak (flat_meaning p i vs (suc k) m).peak) free
 
-    pub peaks_so : (calls : ℕ) (words : List ℕ) (last : State) (left steps : ℕ) → Ends before trees s calls (Value words) last left steps → highest_stack (seen before trees steps (begun s calls)) ≡ stack_of_peak (flat_meaning p i vs calls frames).peak
-    peaks_so calls words last left steps x =
-        let k = some_calls before trees s calls words last left steps x in
-        subst (λ m. highest_stack (seen before trees steps (begun s m)) ≡ stack_of_peak (flat_meaning p i vs m frames).peak) (sym k.1)
-        (stack_so k.0 words last left steps (subst (λ m. Ends before trees s m (Value words) last left steps) k.1 x))
+    pub peaks_so : (calls : ℕ) → 0 < calls → (e : End) (last : State) (left steps : ℕ) → Ends before trees s calls e last left steps → highest_stack (seen before trees steps (begun s calls)) ≡ stack_of_peak (flat_meaning p i vs calls frames).peak
+    peaks_so zero some e last left steps x = absurd (omega (arith, some))
+    peaks_so (suc k) some e last left steps x = stack_so k e last left steps x
 
   -- it is the code of its program
   pub code_of : IsCodeOf h.program code
@@ -252,9 +249,9 @@ module _ (source : List ℕ) (code : F.PlainCode) (h : IsCodeOfSource source cod
     functions = h.lowered.functions;
     within = h.lowered.bounded;
     narrow = h.lowered.narrow;
-    spelt = (file, spelt);
+    spelt = h.filed;
     sound = h.sound;
     stacks = h.lowered.stacks;
     means = λ before waits kinds i n vs calls frames s l. means_so before waits kinds i n vs frames s l calls;
-    peaks = λ before waits kinds i n vs calls frames s l words last left steps x. peaks_so before waits kinds i n vs frames s l calls words last left steps x;
+    peaks = λ before waits kinds i n vs calls frames s l some e last left steps x. peaks_so before waits kinds i n vs frames s l calls some e last left steps x;
   }

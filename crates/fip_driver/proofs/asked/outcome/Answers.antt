@@ -9,7 +9,7 @@ use Rattle.command_answers.proofs.OneCommand.{command_once}
 use Rattle.fip_driver.proofs.Remains.{leaves_words}
 use Rattle.fip_driver.proofs.Storing.{nothing_stored}
 use Rattle.fip_driver.proofs.Unread.{input_turn, folder_turn, read_turn, on_ok}
-use Rattle.fip_driver.proofs.program.outcome.Goals as goal
+use Rattle.fip_driver.proofs.asked.outcome.Goals as goal
 
 pub returns-in-Ok-clause-read : goal.returns-in-Ok-clause-read
 returns-in-Ok-clause-read g c = on_ok c.answer.result _ _ (read_turn (map string_bytes c.args.words.now) (command_of c.in-Ok.command) c.in-Ok.ensures.ok c.answer.result _) c.answer.ensures.read

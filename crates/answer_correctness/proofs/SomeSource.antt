@@ -1,0 +1,242 @@
+-- A source that has what a command wants: its roots are listed, its derivation is made or too long, and its entry is
+-- evaluated and run, whatever the input is.
+-- The idea: a text is one of the entry's arguments or goes wrong at a place; an accepted source is never stuck; and a root
+-- is one instance, whose stack number is the least.
+use Rattle.std.proofs.Common.{◌≡◌, ◌∙◌, ◌≤◌, ◌<◌, ◌++◌, inl, inr, ℕ, Bool, false, List, Option, Some, None, length, slice_get, refl, sym, ap, subst}
+use Rattle.std.specs.Prelude.{◌⊎◌, Ok, Err, codes, option_and_then}
+use Rattle.command_answers.proofs.command_library.fip_language.Search.{le_or_less}
+use Rattle.command_answers.specs.command_library.fip_language.declared.FunKind.TheVariants.{Fun}
+use Rattle.command_answers.specs.command_library.fip_language.declared.limits.TheConstants.{MOST_FILE_BYTES}
+use Rattle.command_answers.specs.command_library.fip_language.Meaning.{Answer, Gives, Trap, Out, Deep, Stuck, Peak, Run, meaning}
+use Rattle.command_answers.specs.command_library.fip_language.Prefix as P
+use Rattle.command_answers.specs.command_library.fip_language.Prefix.{IsPlace}
+use Rattle.command_answers.specs.command_library.fip_language.PrintedText.{printed_lines}
+use Rattle.command_answers.specs.command_library.fip_language.SoundTable.{AreTypes, IsSoundTable}
+use Rattle.command_answers.specs.command_library.fip_language.Statics.{NoClosed}
+use Rattle.command_answers.specs.command_library.fip_language.Table.{Table}
+use Rattle.command_answers.specs.command_library.fip_language.Values.{Values}
+use Rattle.command_answers.specs.command_library.fip_base.declared.plain.Stack.{Stack}
+use Rattle.worked_examples.specs.fip_trees.declared.groups.Member.{Member}
+use Rattle.worked_examples.specs.fip_trees.Tree.{Instance, Program}
+use Rattle.worked_examples.specs.instance_semantics.Meaning.{flat_meaning}
+use Rattle.worked_examples.specs.source_report.Report.{IsTyped, IsAccepted}
+use Rattle.worked_examples.specs.tail_groups.Members.{AreMembers}
+use Rattle.worked_examples.specs.type_safety.Soundness.{IsSoundAnswer, parameter_types}
+use Rattle.command_answers.specs.command_library.command_words.Words.{Room, IsTextName}
+use Rattle.command_answers.specs.command_library.command_outcome.declared.failure.Failure.{Failure}
+use Rattle.command_answers.specs.command_library.command_outcome.declared.failure.Failure.TheVariants as F
+use Rattle.command_answers.specs.command_library.fip_library.declared.list.TheConstants as List'
+use Rattle.command_answers.specs.command_library.fip_library.declared.tree.TheConstants as Tree'
+use Rattle.command_answers.specs.command_library.fip_library.declared.rbtree.TheConstants as RedBlackTree'
+use Rattle.command_answers.specs.command_library.fip_library.declared.finger.TheConstants as FingerTree'
+use Rattle.command_answers.specs.command_library.fip_library.Texts.{IsText, OfList, OfTree, OfRedBlackTree, OfFingerTree}
+use Rattle.command_answers.specs.command_library.derivation_text.ProofText.{lines_text}
+use Rattle.command_answers.specs.command_library.value_text.Machine.{step, final, start}
+use Rattle.command_answers.proofs.command_library.value_text.Exact.{accepted_text, stopped_text}
+use Rattle.command_answers.proofs.command_library.value_text.Tables.{is_table, types_alive}
+use Rattle.command_answers.specs.command_library.command_source.Derived.{made, IsDerivedFile, IsUnderived}
+use Rattle.command_answers.specs.command_library.command_source.Entries.{IsRootedIn}
+use Rattle.command_answers.specs.command_library.command_source.Roots.{root_named, root_lines, held, IsListing}
+use Rattle.command_answers.specs.command_library.command_source.Wanted.{Lawful, Root, Compiled, IsRoot, IsCompiled, IsReady}
+use Rattle.command_answers.proofs.command_library.command_source.Once.{held_same}
+use Rattle.command_answers.specs.command_library.command_eval.EvalAnswer as E
+use Rattle.command_answers.specs.command_library.command_eval.EvalAnswer.{Entry, Spells, Tells, Evaluates}
+use Rattle.command_answers.proofs.command_library.command_eval.Meant.{typed_of, entry, table_sound, parameters_known, answers_soundly}
+use Rattle.command_answers.specs.command_library.command_run.ExecAnswer.{IsBoundOf}
+use Rattle.command_answers.proofs.command_library.command_run.Entry.{IsRootAt, root_at}
+use Rattle.command_answers.proofs.command_library.command_run.compiler_correctness.SoundTypes.{typed_sound}
+use Rattle.command_answers.proofs.command_library.command_run.compiler_correctness.derivation_correctness.Whole.{derived, lean, is_read}
+use Rattle.command_answers.proofs.command_library.command_source.specialisation_correctness.Meant.{root_meant}
+use Rattle.command_answers.proofs.command_tasks.source_report.FipCalls.{fip_calls}
+use Rattle.command_answers.specs.command_library.GenAnswer.{tree_source, build, gen_room}
+use Rattle.command_answers.specs.command_library.MadeTree.{gen_input, lines_of_results}
+use Rattle.command_answers.specs.Exec as X
+use Rattle.command_answers.specs.Exec.{End, Start, Running, Execs, TellsRun, gauge_by_trees}
+use Rattle.command_answers.specs.Generating as G
+use Rattle.command_answers.specs.Generating.{Makes, Generates}
+use Rattle.command_answers.specs.GaugeText.{if_asked}
+
+-- ---- what is told of an answer that isn't stuck
+
+evaluation_told : (tb : Table) (rs : List ℕ) (calls frames : ℕ) (a : Answer) → IsSoundAnswer tb rs a → (e : End) × Tells tb rs calls frames a e
+evaluation_told tb rs calls frames (Gives us left) h = (Ok (printed_lines tb rs us), refl)
+evaluation_told tb rs calls frames (Trap kind line col) h = (Err (F.Trap kind line col), refl)
+evaluation_told tb rs calls frames Out h = (Err (F.OutOfCalls calls), refl)
+evaluation_told tb rs calls frames Deep h = (Err (F.OutOfFrames frames), refl)
+evaluation_told tb rs calls frames Stuck h = absurd h
+
+run_told : (r : Running) (vs : Values) (calls frames : ℕ) (gauge : Bool) (peak : Peak) (a : Answer) → IsSoundAnswer r.types (r.instance).results a → (e : End) × TellsRun r vs calls frames gauge peak a e
+run_told r vs calls frames gauge peak (Gives us left) h =
+    (Ok (printed_lines r.types (r.instance).results us ++ if_asked gauge (gauge_by_trees r vs us peak)), refl)
+run_told r vs calls frames gauge peak (Trap kind line col) h = (Err (F.Trap kind line col), refl)
+run_told r vs calls frames gauge peak Out h = (Err (F.OutOfCalls calls), refl)
+run_told r vs calls frames gauge peak Deep h = (Err (F.OutOfFrames frames), refl)
+run_told r vs calls frames gauge peak Stuck h = absurd h
+
+-- ---- a root of an accepted source
+
+module _ (source name : List ℕ) (p : Program) (accepted : IsAccepted source p) (d : Instance) (named : root_named name p.instances ≡ Some d) where
+  abbrev root : IsRootAt name p.instances d
+  root = root_at name p.instances d named
+
+  abbrev rooted : IsRootedIn source name p root.place
+  rooted = record { accepted = accepted; root = d; there = root.there; named = named }
+
+  abbrev types : IsTyped source p
+  types = typed_of source p accepted
+
+  abbrev y : Entry source name
+  y = entry source name p root.place rooted
+
+  -- the input is a text of its arguments, or goes wrong at a place
+  pub text_or_place : (input : List ℕ) → ((vs : Values) × Spells y input vs) ⊎ ((at : ℕ) × IsPlace (Spells y) input at)
+  text_or_place input = by (P.run (step tb) (final tb) (start ks) input 0) refl
+    where
+      table : IsSoundTable p.types
+      table = table_sound source name p root.place rooted
+
+      known : AreTypes p.types (parameter_types d)
+      known = parameters_known source name p root.place rooted
+
+      by : (x : P.Outcome Values) → P.run (step p.types) (final p.types) (start (parameter_types d)) input 0 ≡ x → ((vs : Values) × Spells y input vs) ⊎ ((at : ℕ) × IsPlace (Spells y) input at)
+      by (P.Stopped at) e = inr (at, stopped_text p.types (is_table p.types table) (parameter_types d) (types_alive p.types table (parameter_types d) known) input at e)
+      by (P.Accepted vs) e = inl (vs, accepted_text p.types (is_table p.types table) (parameter_types d) (types_alive p.types table (parameter_types d) known) input vs e)
+
+  pub means : (vs : Values) (calls frames : ℕ) → flat_meaning p root.place vs calls frames ≡ meaning y.core name NoClosed vs calls frames
+  means vs calls frames =
+      root_meant source p types y.core y.parsed root.place d vs calls frames root.there root.root
+      ∙ ap (λ n. meaning y.core n NoClosed vs calls frames) root.named
+
+  pub sound : (input : List ℕ) (vs : Values) (calls frames : ℕ) → Spells y input vs → IsSoundAnswer p.types d.results (meaning y.core name NoClosed vs calls frames).answer
+  sound input vs calls frames spelt =
+      subst (λ (x : Run). IsSoundAnswer p.types d.results x.answer) (means vs calls frames)
+      (answers_soundly source name p root.place rooted input vs calls frames spelt)
+
+  pub some_evaluation : (input : List ℕ) (calls frames : ℕ) → (e : End) × Evaluates source name input calls frames e
+  some_evaluation input calls frames = by (text_or_place input)
+    where
+      by : ((vs : Values) × Spells y input vs) ⊎ ((at : ℕ) × IsPlace (Spells y) input at) → (e : End) × Evaluates source name input calls frames e
+      by (inl (vs, spelt)) =
+          let told = evaluation_told p.types d.results calls frames (meaning y.core name NoClosed vs calls frames).answer (sound input vs calls frames spelt) in
+          (told.0, E.Answered y vs told.0 spelt told.1)
+      by (inr (at, place)) = (Err (F.BadInput at), E.Misspelt y at place)
+
+  -- its stack number is one
+  bound_told : IsBoundOf y (held accepted.members root.place)
+  bound_told ms found i m at is =
+      let same : root.place ≡ i = (typed_sound source p types).roots root.place i d d root.there at root.root root.root refl in
+      held_same p.instances accepted.members ms (fip_calls source p accepted.tailed.credited.owned) accepted.groups found root.place
+      ∙ ap (held ms) same
+      ∙ ap (option_and_then (λ (n : Member). n.stack)) is
+
+  abbrev pub started : Start source name
+  started = record { entry = y; members = accepted.members; found = accepted.groups; bound = held accepted.members root.place; told = bound_told }
+
+  told_of : (input : List ℕ) (vs : Values) (room : Room) (gauge : Bool) → Spells y input vs → (e : End) × X.TellsAll (X.running started) vs room.calls (X.frames_for started room) gauge (X.run_of started vs room) e
+  told_of input vs room gauge spelt =
+      run_told (X.running started) vs room.calls (X.frames_for started room) gauge (X.run_of started vs room).peak (X.run_of started vs room).answer
+      (sound input vs room.calls (X.frames_for started room) spelt)
+
+  -- a store is great enough, or too small
+  module _ (input : List ℕ) (room : Room) (gauge : Bool) where
+    fitting : (vs : Values) → Spells y input vs → (e : End) × Execs source name input room gauge e
+    fitting vs spelt = by (le_or_less (X.words_of y vs) room.words)
+      where
+        by : (X.words_of y vs ≤ room.words) ⊎ (room.words < X.words_of y vs) → (e : End) × Execs source name input room gauge e
+        by (inl fits) = let told = told_of input vs room gauge spelt in (told.0, X.Ran started vs told.0 spelt fits told.1)
+        by (inr less) = (Err (F.TooSmall (X.words_of y vs) room.words), X.Small y vs spelt less)
+
+    pub some_run : (e : End) × Execs source name input room gauge e
+    some_run = by (text_or_place input)
+      where
+        by : ((vs : Values) × Spells y input vs) ⊎ ((at : ℕ) × IsPlace (Spells y) input at) → (e : End) × Execs source name input room gauge e
+        by (inl (vs, spelt)) = fitting vs spelt
+        by (inr (at, place)) = (Err (F.BadInput at), X.Misspelt y at place)
+
+-- ---- what is wanted
+
+root_in : (o : Option Instance) → IsRoot o → (d : Instance) × (o ≡ Some d)
+root_in None h = absurd h
+root_in (Some d) h = (d, refl)
+
+compiled_in : (o : Option Instance) → IsCompiled o → (d : Instance) × (o ≡ Some d)
+compiled_in None h = absurd h
+compiled_in (Some d) h = (d, refl)
+
+pub evaluated : (source name input : List ℕ) (calls frames : ℕ) → IsReady source (Root name) → (e : End) × Evaluates source name input calls frames e
+evaluated source name input calls frames h =
+    let r = root_in (root_named name (h.program).instances) h.has in
+    some_evaluation source name h.program h.accepted r.0 r.1 input calls frames
+
+pub executed : (source name input : List ℕ) (room : Room) (gauge : Bool) → IsReady source (Compiled name) → (e : End) × Execs source name input room gauge e
+executed source name input room gauge h =
+    let r = compiled_in (root_named name (h.program).instances) h.has in
+    some_run source name h.program h.accepted r.0 r.1 input room gauge
+
+pub listed : (source : List ℕ) → IsReady source Lawful → (text : List ℕ) × IsListing source text
+listed source h =
+    let a = h.accepted in
+    (root_lines a.members 0 (h.program).instances, record { program = h.program; accepted = a; members = a.members; found = a.groups; is = refl })
+
+pub derivable : (source : List ℕ) → IsReady source Lawful → ((file : List ℕ) × IsDerivedFile source file) ⊎ IsUnderived source
+derivable source h = by (le_or_less (length (lines_text (made h.program))) MOST_FILE_BYTES)
+  where
+    by : (length (lines_text (made h.program)) ≤ MOST_FILE_BYTES) ⊎ (MOST_FILE_BYTES < length (lines_text (made h.program))) → ((file : List ℕ) × IsDerivedFile source file) ⊎ IsUnderived source
+    by (inl short) =
+        inl (lines_text (made h.program), record { program = h.program; accepted = h.accepted; text = is_read source h.program h.accepted; derives = derived source h.program h.accepted; lean = lean source h.program h.accepted; short = short })
+    by (inr long) = inr (record { program = h.program; accepted = h.accepted; long = long })
+
+text_of : (known name text : List ℕ) → name ≡ known → IsText known text → (t : List ℕ) × IsText name t
+text_of known name text e is = (text, subst (λ n. IsText n text) (sym e) is)
+
+pub named_text : (name : List ℕ) → IsTextName name → (text : List ℕ) × IsText name text
+named_text name (inl e) = text_of (codes "list") name List'.TEXT.now e OfList
+named_text name (inr (inl e)) = text_of (codes "tree") name Tree'.TEXT.now e OfTree
+named_text name (inr (inr (inl e))) = text_of (codes "rbtree") name RedBlackTree'.TEXT.now e OfRedBlackTree
+named_text name (inr (inr (inr e))) = text_of (codes "finger") name FingerTree'.TEXT.now e OfFingerTree
+
+-- ---- the tree of `gen`
+
+module _ (seed count : ℕ) (h : IsReady tree_source (Compiled build)) where
+  abbrev found : (d : Instance) × (root_named build (h.program).instances ≡ Some d)
+  found = compiled_in (root_named build (h.program).instances) h.has
+
+  abbrev s : Start tree_source build
+  s = started tree_source build h.program h.accepted found.0 found.1
+
+  abbrev input : List ℕ
+  input = gen_input seed count
+
+  -- what is told of an answer is told of the run
+  told_so : (vs : Values) (a : Answer) (e : End) → (X.run_of s vs gen_room).answer ≡ a → TellsRun (X.running s) vs gen_room.calls (X.frames_for s gen_room) false (X.run_of s vs gen_room).peak a e → X.TellsAll (X.running s) vs gen_room.calls (X.frames_for s gen_room) false (X.run_of s vs gen_room) e
+  told_so vs a e is t = subst (λ b. TellsRun (X.running s) vs gen_room.calls (X.frames_for s gen_room) false (X.run_of s vs gen_room).peak b e) (sym is) t
+
+  module _ (vs : Values) (short : length input ≤ MOST_FILE_BYTES) (spelt : Spells s.entry input vs) (fits : X.words_of s.entry vs ≤ gen_room.words) where
+    failed : (f : Failure) → X.TellsAll (X.running s) vs gen_room.calls (X.frames_for s gen_room) false (X.run_of s vs gen_room) (Err f) → (e : End) × Makes tree_source seed count e
+    failed f t = (Err f, G.NoTree f short (X.Ran s vs (Err f) spelt fits t))
+
+    -- the end by what the source means
+    made_of : (a : Answer) → (X.run_of s vs gen_room).answer ≡ a → IsSoundAnswer (X.running s).types ((X.running s).instance).results a → (e : End) × Makes tree_source seed count e
+    made_of (Gives us left) is sound = (Ok (lines_of_results count us), G.Made s vs us left short spelt fits is)
+    made_of (Trap kind line col) is sound = failed (F.Trap kind line col) (told_so vs (Trap kind line col) (Err (F.Trap kind line col)) is refl)
+    made_of Out is sound = failed (F.OutOfCalls gen_room.calls) (told_so vs Out (Err (F.OutOfCalls gen_room.calls)) is refl)
+    made_of Deep is sound = failed (F.OutOfFrames (X.frames_for s gen_room)) (told_so vs Deep (Err (F.OutOfFrames (X.frames_for s gen_room))) is refl)
+    made_of Stuck is sound = absurd sound
+
+  some_tree : length input ≤ MOST_FILE_BYTES → (e : End) × Makes tree_source seed count e
+  some_tree short = by (text_or_place tree_source build h.program h.accepted found.0 found.1 input)
+    where
+      fitted : (vs : Values) → Spells s.entry input vs → (X.words_of s.entry vs ≤ gen_room.words) ⊎ (gen_room.words < X.words_of s.entry vs) → (e : End) × Makes tree_source seed count e
+      fitted vs spelt (inl fits) = made_of vs short spelt fits (X.run_of s vs gen_room).answer refl (sound tree_source build h.program h.accepted found.0 found.1 input vs gen_room.calls (X.frames_for s gen_room) spelt)
+      fitted vs spelt (inr less) = (Err (F.TooSmall (X.words_of s.entry vs) gen_room.words), G.NoTree _ short (X.Small s.entry vs spelt less))
+
+      by : ((vs : Values) × Spells s.entry input vs) ⊎ ((at : ℕ) × IsPlace (Spells s.entry) input at) → (e : End) × Makes tree_source seed count e
+      by (inl (vs, spelt)) = fitted vs spelt (le_or_less (X.words_of s.entry vs) gen_room.words)
+      by (inr (at, place)) = (Err (F.BadInput at), G.NoTree (F.BadInput at) short (X.Misspelt s.entry at place))
+
+  pub generated : (e : End) × Generates seed count e
+  generated = by (le_or_less (length input) MOST_FILE_BYTES)
+    where
+      by : (length input ≤ MOST_FILE_BYTES) ⊎ (MOST_FILE_BYTES < length input) → (e : End) × Generates seed count e
+      by (inl short) = let t = some_tree short in (t.0, G.Ran t.0 h t.1)
+      by (inr long) = (Err (F.BadInput MOST_FILE_BYTES), G.Ran _ h (G.LongInput long))

@@ -10,23 +10,23 @@ use Rattle.command_library.specs.fip_language.Table.{Table, HaveTypes}
 use Rattle.command_library.specs.fip_language.Values.{Values}
 use Rattle.command_library.specs.fip_base.declared.plain.Param.{Param}
 use Rattle.command_library.specs.fip_base.declared.plain.Stack.{Stack}
-use Rattle.command_tasks.specs.source_report.fip_trees.Tree.{Instance, Program}
-use Rattle.command_tasks.specs.source_report.tail_groups.Members.{AreMembers}
-use Rattle.command_tasks.specs.source_report.tail_groups.Registers as T'
-use Rattle.command_tasks.specs.source_report.instance_semantics.Meaning.{flat_meaning}
-use Rattle.command_tasks.specs.source_report.cell_lower.Limits.{registers}
-use Rattle.command_tasks.specs.source_report.cell_lower.Shape.{Header, header_of, headers}
-use Rattle.command_tasks.specs.code_file.Plain as F
-use Rattle.command_tasks.specs.code_file.declared.tags.Version.TheVariants.{Second}
-use Rattle.command_tasks.specs.source_report.lowering_relation.LoweredBodies.{function_of}
-use Rattle.command_tasks.specs.source_report.lowering_relation.LoweredFunctions.{AreLowered}
-use Rattle.command_tasks.specs.source_report.lowering_simulation.CellEnds.{EndsAs, IsFunctionOf}
-use Rattle.command_tasks.specs.source_report.lowering_simulation.Lowered as L
-use Rattle.command_tasks.specs.source_report.lowering_simulation.RunEnds.{RunsTo, height, highest, words_of_all}
-use Rattle.command_tasks.specs.source_report.lowering_simulation.Wide.{AreWide}
-use Rattle.command_tasks.specs.run_loading.tree_refinement.Runs.{BeginsWith}
-use Rattle.command_tasks.specs.run_loading.tree_refinement.tree_semantics.Runs as T
-use Rattle.command_tasks.specs.run_loading.tree_refinement.tree_semantics.States as U
+use Rattle.command_library.specs.command_tasks.source_report.fip_trees.Tree.{Instance, Program}
+use Rattle.command_library.specs.command_tasks.source_report.tail_groups.Members.{AreMembers}
+use Rattle.command_library.specs.command_tasks.source_report.tail_groups.Registers as T'
+use Rattle.command_library.specs.command_tasks.source_report.instance_semantics.Meaning.{flat_meaning}
+use Rattle.command_library.specs.command_tasks.source_report.cell_lower.Limits.{registers}
+use Rattle.command_library.specs.command_tasks.source_report.cell_lower.Shape.{Header, header_of, headers}
+use Rattle.command_library.specs.command_tasks.code_file.Plain as F
+use Rattle.command_library.specs.command_tasks.code_file.declared.tags.Version.TheVariants.{Second}
+use Rattle.command_library.specs.command_tasks.source_report.lowering_relation.LoweredBodies.{function_of}
+use Rattle.command_library.specs.command_tasks.source_report.lowering_relation.LoweredFunctions.{AreLowered}
+use Rattle.command_library.specs.command_tasks.source_report.lowering_simulation.CellEnds.{EndsAs, IsFunctionOf}
+use Rattle.command_library.specs.command_tasks.source_report.lowering_simulation.Lowered as L
+use Rattle.command_library.specs.command_tasks.source_report.lowering_simulation.RunEnds.{RunsTo, height, highest, words_of_all}
+use Rattle.command_library.specs.command_tasks.source_report.lowering_simulation.Wide.{AreWide}
+use Rattle.command_library.specs.command_tasks.run_loading.tree_refinement.Runs.{BeginsWith}
+use Rattle.command_library.specs.command_tasks.run_loading.tree_refinement.tree_semantics.Runs as T
+use Rattle.command_library.specs.command_tasks.run_loading.tree_refinement.tree_semantics.States as U
 use Rattle.command_library.specs.machine_semantics.Codes as R
 use Rattle.command_library.specs.machine_semantics.Gauges.{seen}
 use Rattle.command_library.specs.machine_semantics.Limits.{frame_words}

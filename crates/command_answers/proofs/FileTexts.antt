@@ -6,15 +6,15 @@ use Rattle.std.specs.Int.{w64}
 use Rattle.std.proofs.lemmas.Bool.{ltb-true}
 use Rattle.std.proofs.lemmas.List.{append-nil}
 use Rattle.std.proofs.lemmas.Option.{none-some, same_Some}
-use Rattle.command_tasks.specs.run_loading.cell_code.declared.code.Instr.{Instr}
-use Rattle.command_tasks.specs.run_loading.cell_code.declared.code.Instr.TheVariants as I
-use Rattle.command_tasks.specs.code_file.CodeText.{table_text, functions_text, function_text, instrs_text, instr_text, code_text, IsFileOf}
-use Rattle.command_tasks.specs.code_file.Plain.{PlainFunction, PlainCode}
-use Rattle.command_tasks.specs.code_file.Spelling.{◌+++◌, each, only, mark, two, eight}
-use Rattle.command_tasks.proofs.code_file.Readers.{Front}
-use Rattle.command_tasks.specs.code_file.declared.tags.Version.{Version}
-use Rattle.command_tasks.proofs.code_file.Fields.{front_only}
-use Rattle.command_tasks.proofs.code_file.InstrTexts.{const_is}
+use Rattle.command_library.specs.command_tasks.run_loading.cell_code.declared.code.Instr.{Instr}
+use Rattle.command_library.specs.command_tasks.run_loading.cell_code.declared.code.Instr.TheVariants as I
+use Rattle.command_library.specs.command_tasks.code_file.CodeText.{table_text, functions_text, function_text, instrs_text, instr_text, code_text, IsFileOf}
+use Rattle.command_library.specs.command_tasks.code_file.Plain.{PlainFunction, PlainCode}
+use Rattle.command_library.specs.command_tasks.code_file.Spelling.{◌+++◌, each, only, mark, two, eight}
+use Rattle.command_library.proofs.command_tasks.code_file.Readers.{Front}
+use Rattle.command_library.specs.command_tasks.code_file.declared.tags.Version.{Version}
+use Rattle.command_library.proofs.command_tasks.code_file.Fields.{front_only}
+use Rattle.command_library.proofs.command_tasks.code_file.InstrTexts.{const_is}
 use Rattle.command_library.specs.code_rules.Codes as S
 use Rattle.command_library.specs.separation.Rows.{FitsLiteral}
 use Rattle.command_library.specs.separation.Codes.{HasLiterals}

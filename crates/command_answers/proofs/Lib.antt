@@ -7,4 +7,5 @@ pub mod OneCode
 pub mod OneEnd
 pub mod OneCommand
 pub use Rattle.command_library.proofs as command_library
-pub use Rattle.command_tasks.proofs as command_tasks
+pub use Rattle.command_library.proofs.command_tasks as command_tasks
+pub use Rattle.command_library.proofs.command_tasks.command_session as command_session

@@ -6,9 +6,9 @@ use Rattle.std.proofs.lemmas.Option.{none-some, same_Some}
 use Rattle.std.proofs.lemmas.Slice.Eq.{bytes_eq-Decides}
 use Rattle.command_library.proofs.fip_language.OnePlace.{IsPlace-unique, IsPlace-not_spelt}
 use Rattle.command_library.specs.command_words.Words.{Room, Request, Command, Verify, Upgrade, Run}
-use Rattle.command_tasks.specs.code_file.CodeText.{IsFileOf}
-use Rattle.command_tasks.specs.code_file.Plain.{PlainCode}
-use Rattle.command_tasks.proofs.code_file.Whole.{one_code}
+use Rattle.command_library.specs.command_tasks.code_file.CodeText.{IsFileOf}
+use Rattle.command_library.specs.command_tasks.code_file.Plain.{PlainCode}
+use Rattle.command_library.proofs.command_tasks.code_file.Whole.{one_code}
 use Rattle.command_library.specs.code_rules.Breaks.{IsLeast}
 use Rattle.command_library.specs.code_rules.Codes as S
 use Rattle.command_library.proofs.code_rules.Numbers.{has_once}

@@ -9,11 +9,11 @@ use Rattle.command_library.specs.command_words.Words.{Tasks, Derive, Audit, Repl
 use Rattle.command_library.specs.command_outcome.declared.failure.Failure.TheVariants as F
 use Rattle.command_library.specs.command_run.fip_trees.Tree.{Program}
 use Rattle.command_library.proofs.command_eval.Once.{evaluated_once}
-use Rattle.command_tasks.specs.source_report.Report.{IsMatched}
-use Rattle.command_tasks.proofs.source_report.Once.{typed_once}
-use Rattle.command_tasks.proofs.run_loading.Either.{one_trace, not_both, one_place}
-use Rattle.command_tasks.specs.run_loading.Replaying.{replayed}
-use Rattle.command_tasks.proofs.Once.{turns_once}
+use Rattle.command_library.specs.command_tasks.source_report.Report.{IsMatched}
+use Rattle.command_library.proofs.command_tasks.source_report.Once.{typed_once}
+use Rattle.command_library.proofs.command_tasks.run_loading.Either.{one_trace, not_both, one_place}
+use Rattle.command_library.specs.command_tasks.run_loading.Replaying.{replayed}
+use Rattle.command_library.proofs.command_tasks.Once.{turns_once}
 use Rattle.command_library.specs.command_source.Wanted.{Wanted, IsReady}
 use Rattle.command_library.proofs.command_source.Deriving.{derived_or_underived}
 use Rattle.command_library.proofs.command_source.Judging.{rejected_once, accepted_not_rejected}

@@ -8,10 +8,10 @@ use Rattle.command_library.specs.command_source.Codes.{IsUnspelt}
 use Rattle.command_library.specs.command_source.Entries.{Chosen}
 use Rattle.command_library.specs.command_source.ProgramCode.{IsCodeOfSource, IsEntryOf, IsCompiledFile, IsUncompiled}
 use Rattle.command_library.specs.command_source.Wanted.{Lawful, IsReady}
-use Rattle.command_tasks.specs.code_file.CodeText.{CodeText}
-use Rattle.command_tasks.specs.code_file.Plain.{PlainCode, plain_code}
-use Rattle.command_tasks.specs.code_file.declared.tags.Version.TheVariants.{Second}
-use Rattle.command_tasks.specs.run_loading.TraceText.{Trace}
+use Rattle.command_library.specs.command_tasks.code_file.CodeText.{CodeText}
+use Rattle.command_library.specs.command_tasks.code_file.Plain.{PlainCode, plain_code}
+use Rattle.command_library.specs.command_tasks.code_file.declared.tags.Version.TheVariants.{Second}
+use Rattle.command_library.specs.command_tasks.run_loading.TraceText.{Trace}
 use Rattle.command_trace.specs.TraceAnswer.{IsTraceOf}
 use Rattle.command_answers.specs.CodeOf.{IsSourceCode, IsSourceEntry, IsSourceFile, HasLongCode, IsSourceTrace}
 use Rattle.command_answers.proofs.CodeOf.{code_of}

@@ -16,18 +16,18 @@ use Rattle.std.specs.Prelude.{◌≡◌, ◌<◌, ◌≤◌, ℕ, List, [], map,
 use Rattle.command_library.specs.fip_language.declared.limits.TheConstants.{MOST_FILE_BYTES}
 use Rattle.command_library.specs.fip_language.Table.{HaveTypes}
 use Rattle.command_library.specs.fip_language.Values.{Values}
-use Rattle.command_tasks.specs.source_report.fip_trees.declared.groups.Member.{Member}
-use Rattle.command_tasks.specs.source_report.fip_trees.Tree.{Instance, Program}
-use Rattle.command_tasks.specs.source_report.tail_groups.Members.{AreMembers}
-use Rattle.command_tasks.specs.source_report.instance_semantics.Meaning.{flat_meaning}
-use Rattle.command_tasks.specs.source_report.cell_lower.Shape.{headers}
-use Rattle.command_tasks.specs.source_report.type_safety.Soundness.{parameter_types}
-use Rattle.command_tasks.specs.source_report.lowering_relation.LoweredBodies.{function_of}
-use Rattle.command_tasks.specs.source_report.lowering_simulation.CellEnds.{EndsAs}
-use Rattle.command_tasks.specs.source_report.Report.{IsAccepted}
-use Rattle.command_tasks.specs.code_file.CodeText.{CodeText}
-use Rattle.command_tasks.specs.code_file.Plain.{PlainCode, plain_code}
-use Rattle.command_tasks.specs.code_file.declared.tags.Version.TheVariants.{Second}
+use Rattle.command_library.specs.command_tasks.source_report.fip_trees.declared.groups.Member.{Member}
+use Rattle.command_library.specs.command_tasks.source_report.fip_trees.Tree.{Instance, Program}
+use Rattle.command_library.specs.command_tasks.source_report.tail_groups.Members.{AreMembers}
+use Rattle.command_library.specs.command_tasks.source_report.instance_semantics.Meaning.{flat_meaning}
+use Rattle.command_library.specs.command_tasks.source_report.cell_lower.Shape.{headers}
+use Rattle.command_library.specs.command_tasks.source_report.type_safety.Soundness.{parameter_types}
+use Rattle.command_library.specs.command_tasks.source_report.lowering_relation.LoweredBodies.{function_of}
+use Rattle.command_library.specs.command_tasks.source_report.lowering_simulation.CellEnds.{EndsAs}
+use Rattle.command_library.specs.command_tasks.source_report.Report.{IsAccepted}
+use Rattle.command_library.specs.command_tasks.code_file.CodeText.{CodeText}
+use Rattle.command_library.specs.command_tasks.code_file.Plain.{PlainCode, plain_code}
+use Rattle.command_library.specs.command_tasks.code_file.declared.tags.Version.TheVariants.{Second}
 use Rattle.command_library.specs.command_words.Words.{Room}
 use Rattle.command_library.specs.machine_semantics.States.{State}
 use Rattle.command_library.specs.machine_semantics.Steps.{Kinds}
@@ -42,7 +42,7 @@ use Rattle.command_library.specs.command_source.Codes.{sound_view, IsUnspelt}
 use Rattle.command_library.specs.command_source.Entries.{Chosen, IsNamed}
 use Rattle.command_library.specs.command_source.ProgramCode.{plain_header, AreWithin, AreNarrow, HaveStacks, HasFile}
 use Rattle.command_library.specs.command_run.GaugeText.{highest_stack}
-use Rattle.command_tasks.specs.run_loading.TraceText.{Trace}
+use Rattle.command_library.specs.command_tasks.run_loading.TraceText.{Trace}
 use Rattle.command_trace.specs.TraceAnswer.{IsRunTrace}
 use Rattle.command_answers.specs.Exec.{stack_of_peak}
 

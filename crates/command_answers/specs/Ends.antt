@@ -15,10 +15,10 @@ use Rattle.command_library.specs.command_outcome.Successes.{derived_text}
 use Rattle.command_library.specs.command_outcome.declared.failure.Failure.{Failure}
 use Rattle.command_library.specs.command_outcome.declared.failure.Failure.TheVariants as F
 use Rattle.command_library.specs.command_outcome.declared.failure.Object.TheVariants as O
-use Rattle.command_tasks.specs.code_file.Plain.{PlainCode}
-use Rattle.command_tasks.specs.run_loading.TraceText as T
-use Rattle.command_tasks.specs.run_loading.TraceReading.{IsBadTrace}
-use Rattle.command_tasks.specs.source_report.Report.{bare, IsMatched}
+use Rattle.command_library.specs.command_tasks.code_file.Plain.{PlainCode}
+use Rattle.command_library.specs.command_tasks.run_loading.TraceText as T
+use Rattle.command_library.specs.command_tasks.run_loading.TraceReading.{IsBadTrace}
+use Rattle.command_library.specs.command_tasks.source_report.Report.{bare, IsMatched}
 use Rattle.command_library.specs.command_source.Codes.{sound_view, IsSoundFile, RefusesCode, IsCodeListing, IsUpgraded}
 use Rattle.command_library.specs.command_source.Codes.{IsUnspelt, names_one, HasFunction}
 use Rattle.command_library.specs.command_source.Derived.{IsDerivedFile, IsUnderived}
@@ -27,7 +27,7 @@ use Rattle.command_library.specs.command_source.Roots.{IsListing}
 use Rattle.command_library.specs.command_source.Wanted.{Wanted, Refuses, IsReady, of_entry}
 use Rattle.command_library.specs.command_eval.EvalAnswer.{Evaluates}
 use Rattle.command_library.specs.command_run.CodeRun.{RunsCode}
-use Rattle.command_tasks.specs.TasksAnswer.{TakesTurns}
+use Rattle.command_library.specs.command_tasks.TasksAnswer.{TakesTurns}
 use Rattle.command_trace.specs.Replayed.{IsReplayed}
 use Rattle.command_trace.specs.TraceAnswer.{IsLong}
 use Rattle.command_answers.specs.Asks.{ReadsInput}

@@ -10,6 +10,7 @@ pub mod Open
 pub use Rattle.command_library.specs as command_library
 pub use Rattle.command_library.specs.command_run as command_run
 pub use Rattle.command_library.specs.command_source as command_source
-pub use Rattle.command_tasks.specs as command_tasks
+pub use Rattle.command_library.specs.command_tasks as command_tasks
 pub use Rattle.command_trace.specs as command_trace
 pub use Rattle.fip_outside.specs as fip_outside
+pub use Rattle.command_library.specs.command_tasks.command_session as command_session

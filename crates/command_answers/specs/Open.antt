@@ -9,7 +9,7 @@ use Rattle.command_library.specs.fip_language.declared.rule.Rule.{Rule}
 use Rattle.command_library.specs.fip_language.declared.rule.Rule.TheVariants.{E61, E75}
 use Rattle.command_library.specs.command_words.Words.{Command, Compile, Trace, Session}
 use Rattle.command_library.specs.command_outcome.declared.failure.Failure.TheVariants as F
-use Rattle.command_tasks.specs.source_report.Report.{bare}
+use Rattle.command_library.specs.command_tasks.source_report.Report.{bare}
 use Rattle.command_answers.specs.Asks.{ComesToInput}
 use Rattle.command_answers.specs.Ends.{IsTaken}
 use Rattle.command_answers.specs.Exec.{End}

@@ -3,6 +3,5 @@
 
 pub mod theorems;
 
-pub use command_library::{evaluator, generate, library, runner, source};
-pub use command_tasks::tasks;
+pub use command_library::{evaluator, generate, library, runner, source, tasks};
 pub use command_trace::{replay, trace};

@@ -7,9 +7,9 @@ use Rattle.fip_language.specs.Store.{Cell, Placed, PlacedInt, Bare, At, Parts, N
 use Rattle.fip_language.specs.Table.{Shape, Table, shapes, constructors}
 use Rattle.fip_language.specs.Values.{Value, Node}
 use Rattle.cell_store.specs.Cells.{Cells, cell_at, size_of}
-use Rattle.command_run.proofs.separation.Reading.{int_is}
-use Rattle.command_run.proofs.value_text.Printing.{odd_cell}
-use Rattle.command_run.specs.value_text.Standing.{Stands, StandAll}
+use Rattle.command_tasks.proofs.command_run.separation.Reading.{int_is}
+use Rattle.command_tasks.proofs.command_run.value_text.Printing.{odd_cell}
+use Rattle.command_tasks.specs.command_run.value_text.Standing.{Stands, StandAll}
 use Rattle.command_library.specs.MadeTree.{keys_of}
 use Rattle.command_library.specs.Reading.{sides, IsAt, HasNode}
 use Rattle.command_library.specs.declared.keys.Node.{Node as Found}

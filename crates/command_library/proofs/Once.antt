@@ -6,12 +6,12 @@ use Rattle.fip_language.specs.Meaning.{Gives}
 use Rattle.fip_language.specs.Values.{Values}
 use Rattle.command_outcome.specs.declared.failure.Failure.{Failure}
 use Rattle.command_outcome.specs.declared.failure.Failure.TheVariants as F
-use Rattle.command_run.specs.command_source.Wanted.{Compiled, IsReady}
-use Rattle.command_run.proofs.command_source.Once.{refused_once, refused_not_ready}
-use Rattle.command_run.specs.command_eval.EvalAnswer.{Entry, Spells}
-use Rattle.command_run.proofs.command_eval.Once.{one_text}
-use Rattle.command_run.specs.ExecAnswer.{Execs, Ran, answer_of, frames_for}
-use Rattle.command_run.proofs.ExecOnce.{exec_once, same_answer, answers_alike}
+use Rattle.command_tasks.specs.command_run.command_source.Wanted.{Compiled, IsReady}
+use Rattle.command_tasks.proofs.command_run.command_source.Once.{refused_once, refused_not_ready}
+use Rattle.command_tasks.specs.command_run.command_eval.EvalAnswer.{Entry, Spells}
+use Rattle.command_tasks.proofs.command_run.command_eval.Once.{one_text}
+use Rattle.command_tasks.specs.command_run.ExecAnswer.{Execs, Ran, answer_of, frames_for}
+use Rattle.command_tasks.proofs.command_run.ExecOnce.{exec_once, same_answer, answers_alike}
 use Rattle.command_library.specs.GenAnswer.{tree_source, build, gen_room, Makes, LongInput, NoTree, Made, Generates, Refused, Ran as Done}
 use Rattle.command_library.specs.MadeTree.{gen_input, lines_of_results}
 use Rattle.command_library.proofs.Runs.{gives_not_deep, no_text}

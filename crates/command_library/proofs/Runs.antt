@@ -13,7 +13,7 @@ use Rattle.fip_language.specs.ValueText.{SpellsValues}
 use Rattle.fip_language.specs.declared.limits.TheConstants.{MOST_FILE_BYTES}
 use Rattle.task_semantics.specs.machine_semantics.Cells.{Store}
 use Rattle.task_semantics.specs.machine_semantics.States.{State}
-use Rattle.command_run.specs.separation.Codes.{HasLiterals}
+use Rattle.command_tasks.specs.command_run.separation.Codes.{HasLiterals}
 use Rattle.cell_store.specs.Made.{Stored}
 use Rattle.command_words.specs.Words.{Room}
 use Rattle.command_outcome.specs.declared.failure.Failure.{Failure}
@@ -23,30 +23,30 @@ use Rattle.fip_machine.specs.declared.machine.Ended.{Ended}
 use Rattle.fip_machine.specs.declared.machine.Ended.TheVariants as M
 use Rattle.fip_machine.specs.Machines.{Seen}
 use Rattle.fip_machine.specs.Tasks.{state_with}
-use Rattle.command_run.specs.code_rules.Codes.{PlainFunction, plain, plain_function, function_at}
-use Rattle.command_run.specs.session_semantics.Talk.{frames_of}
-use Rattle.command_run.specs.command_source.Entries.{Chosen}
-use Rattle.command_run.specs.command_source.ProgramCode.{IsEntryOf}
-use Rattle.command_run.specs.command_source.Wanted.{Compiled, Refuses, IsReady, KeepsFrom}
-use Rattle.command_run.specs.value_text.Loaded.{types_of}
-use Rattle.command_run.specs.command_eval.EvalAnswer.{Entry, Spells, OrNoMemory}
-use Rattle.command_run.proofs.command_eval.Once.{one_text}
-use Rattle.command_run.specs.machine_correctness.Meant.{IsMeant, ArePrintable}
-use Rattle.command_run.specs.machine_correctness.Starts.{Begins}
-use Rattle.command_run.proofs.machine_correctness.EvaluatedEnds.{answers_as_meant}
-use Rattle.command_run.proofs.machine_correctness.Texts.{printable}
-use Rattle.command_run.specs.CodeRun.{is_run_failure}
-use Rattle.command_run.specs.ExecAnswer.{Execs, Misspelt, Small, Ran, RunsOn, TellsRun, answer_of, frames_for, words_of}
-use Rattle.command_run.specs.GaugeText.{if_asked}
-use Rattle.command_run.specs.Leaving.{IsLastStore, LeavesOf}
-use Rattle.command_run.specs.declared.running.Left.{Left}
-use Rattle.command_run.specs.Starting.{IsStarted, TellsEnded, failure_for, gauge_lines}
-use Rattle.command_run.proofs.ExecOnce.{same_answer, answers_alike}
-use Rattle.command_run.proofs.Execs as X
-use Rattle.command_run.proofs.Entry as N
-use Rattle.command_run.proofs.Entry.{IsEntry}
-use Rattle.command_run.proofs.Leaving.{left_by}
-use Rattle.command_run.proofs.Ran as P
+use Rattle.command_tasks.specs.command_run.code_rules.Codes.{PlainFunction, plain, plain_function, function_at}
+use Rattle.command_tasks.specs.command_run.session_semantics.Talk.{frames_of}
+use Rattle.command_tasks.specs.command_run.command_source.Entries.{Chosen}
+use Rattle.command_tasks.specs.command_run.command_source.ProgramCode.{IsEntryOf}
+use Rattle.command_tasks.specs.command_run.command_source.Wanted.{Compiled, Refuses, IsReady, KeepsFrom}
+use Rattle.command_tasks.specs.command_run.value_text.Loaded.{types_of}
+use Rattle.command_tasks.specs.command_run.command_eval.EvalAnswer.{Entry, Spells, OrNoMemory}
+use Rattle.command_tasks.proofs.command_run.command_eval.Once.{one_text}
+use Rattle.command_tasks.specs.command_run.machine_correctness.Meant.{IsMeant, ArePrintable}
+use Rattle.command_tasks.specs.command_run.machine_correctness.Starts.{Begins}
+use Rattle.command_tasks.proofs.command_run.machine_correctness.EvaluatedEnds.{answers_as_meant}
+use Rattle.command_tasks.proofs.command_run.machine_correctness.Texts.{printable}
+use Rattle.command_tasks.specs.command_run.CodeRun.{is_run_failure}
+use Rattle.command_tasks.specs.command_run.ExecAnswer.{Execs, Misspelt, Small, Ran, RunsOn, TellsRun, answer_of, frames_for, words_of}
+use Rattle.command_tasks.specs.command_run.GaugeText.{if_asked}
+use Rattle.command_tasks.specs.command_run.Leaving.{IsLastStore, LeavesOf}
+use Rattle.command_tasks.specs.command_run.declared.running.Left.{Left}
+use Rattle.command_tasks.specs.command_run.Starting.{IsStarted, TellsEnded, failure_for, gauge_lines}
+use Rattle.command_tasks.proofs.command_run.ExecOnce.{same_answer, answers_alike}
+use Rattle.command_tasks.proofs.command_run.Execs as X
+use Rattle.command_tasks.proofs.command_run.Entry as N
+use Rattle.command_tasks.proofs.command_run.Entry.{IsEntry}
+use Rattle.command_tasks.proofs.command_run.Leaving.{left_by}
+use Rattle.command_tasks.proofs.command_run.Ran as P
 use Rattle.command_library.specs.GenAnswer.{tree_source, build, gen_room, Makes, LongInput, NoTree, Made, Refused, Ran as Done, Generates}
 use Rattle.command_library.specs.MadeTree.{gen_input, lines_of_results}
 use Rattle.command_library.proofs.Words.{printed_once}

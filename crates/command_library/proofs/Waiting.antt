@@ -8,7 +8,7 @@ use Rattle.fip_language.specs.Store.{Parts, NoParts, MoreParts, value_of, values
 use Rattle.fip_language.specs.Table.{Table}
 use Rattle.fip_language.specs.Values.{Value}
 use Rattle.cell_store.specs.Cells.{Cells}
-use Rattle.command_run.specs.value_text.Standing.{Stands, StandAll}
+use Rattle.command_tasks.specs.command_run.value_text.Standing.{Stands, StandAll}
 use Rattle.command_library.specs.MadeTree.{keys_of, keys_of_first, with_key, ends_of}
 use Rattle.command_library.specs.Reading.{ints, IsAt, HasNode, HaveKeys, AreKeys}
 use Rattle.command_library.specs.declared.keys.Node.{Node}

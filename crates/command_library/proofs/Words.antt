@@ -6,9 +6,9 @@ use Rattle.fip_language.specs.Store.{Cell, Placed, PlacedInt, Bare, At, Parts, N
 use Rattle.fip_language.specs.Table.{Shape, Table, shapes}
 use Rattle.fip_language.specs.Values.{Values}
 use Rattle.cell_store.specs.Cells.{Cells, cell_at}
-use Rattle.command_run.proofs.value_text.Printing.{bits_same}
-use Rattle.command_run.specs.value_text.Standing.{Stands, StandAll}
-use Rattle.command_run.specs.machine_correctness.Meant.{ArePrintable}
+use Rattle.command_tasks.proofs.command_run.value_text.Printing.{bits_same}
+use Rattle.command_tasks.specs.command_run.value_text.Standing.{Stands, StandAll}
+use Rattle.command_tasks.specs.command_run.machine_correctness.Meant.{ArePrintable}
 
 first_word : {x y : ℕ} {xs ys : List ℕ} → x ∷ xs ≡ y ∷ ys → x ≡ y
 first_word e = cc

@@ -17,9 +17,9 @@ use Rattle.fip_library.specs.declared.rbtree.TheConstants.{TEXT}
 use Rattle.command_words.specs.Words.{Room}
 use Rattle.command_outcome.specs.declared.failure.Failure.{Failure}
 use Rattle.command_outcome.specs.declared.failure.Failure.TheVariants as F
-use Rattle.command_run.specs.command_source.Wanted.{Compiled, Refuses, IsReady}
-use Rattle.command_run.specs.command_eval.EvalAnswer.{Entry, Spells}
-use Rattle.command_run.specs.ExecAnswer.{Execs, RunsOn, answer_of, frames_for, words_of}
+use Rattle.command_tasks.specs.command_run.command_source.Wanted.{Compiled, Refuses, IsReady}
+use Rattle.command_tasks.specs.command_run.command_eval.EvalAnswer.{Entry, Spells}
+use Rattle.command_tasks.specs.command_run.ExecAnswer.{Execs, RunsOn, answer_of, frames_for, words_of}
 use Rattle.command_library.specs.MadeTree.{gen_input, lines_of_results}
 
 -- ---- what runs

@@ -5,7 +5,7 @@ use Rattle.fip_language.specs.Store.{Placed, value_of, word_of}
 use Rattle.fip_language.specs.Table.{Table}
 use Rattle.fip_language.specs.Values.{Value}
 use Rattle.cell_store.specs.Cells.{Cells}
-use Rattle.command_run.specs.value_text.Standing.{Stands}
+use Rattle.command_tasks.specs.command_run.value_text.Standing.{Stands}
 use Rattle.command_library.specs.MadeTree.{keys_of}
 use Rattle.command_library.specs.declared.keys.Node.{Node}
 use Rattle.command_library.specs.declared.keys.Part.{Part}

@@ -6,8 +6,8 @@ ghost use Rattle.fip_language.specs.Table.{Shape, constructors};
 ghost use Rattle.fip_language.specs.Values.{Value, Values, Node as a_node};
 ghost use Rattle.cell_store.specs.Cells.{cell_at};
 ghost use Rattle.fip_machine.specs.machine_cells.Small.{IsSmall};
-ghost use Rattle.command_run.specs.machine_correctness.Meant.{ArePrintable};
-ghost use Rattle.command_run.specs.value_text.Standing.{Stands};
+ghost use Rattle.command_tasks.specs.command_run.machine_correctness.Meant.{ArePrintable};
+ghost use Rattle.command_tasks.specs.command_run.value_text.Standing.{Stands};
 ghost use Rattle.command_library.specs.MadeTree.{keys_of, keys_of_first, with_key, ends_of};
 ghost use Rattle.command_library.specs.Reading.{sides, ints, IsAt, HasNode, AreKeys};
 

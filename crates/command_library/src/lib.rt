@@ -7,7 +7,8 @@ mod keys;
 mod making;
 mod printing;
 
-pub use command_run as runner;
-pub use command_run::{evaluator, source};
+pub use command_tasks::runner;
+pub use command_tasks::runner::{evaluator, source};
+pub use command_tasks::tasks;
 pub use making::generate;
 pub use printing::library;

@@ -13,10 +13,10 @@ use Rattle.fip_machine.specs.declared.machine.Ended.{Ended}
 use Rattle.fip_machine.specs.declared.machine.Ended.TheVariants as M
 use Rattle.fip_tasks.specs.machine_semantics.States.{State}
 use Rattle.fip_tasks.specs.declared.task.Start.{Start}
-use Rattle.command_run.specs.machine_correctness.Meant.{IsMeant, ArePrintable}
-use Rattle.command_run.proofs.machine_correctness.Texts.{printable}
-use Rattle.command_run.specs.Starting.{failure_for}
-use Rattle.command_run.specs.session_semantics.Turns.{joined}
+use Rattle.command_session.specs.command_run.machine_correctness.Meant.{IsMeant, ArePrintable}
+use Rattle.command_session.proofs.command_run.machine_correctness.Texts.{printable}
+use Rattle.command_session.specs.command_run.Starting.{failure_for}
+use Rattle.command_session.specs.command_run.session_semantics.Turns.{joined}
 use Rattle.command_tasks.specs.Telling.{TellsAnswer, IsTaskLine, AreTaskLines}
 use Rattle.command_tasks.proofs.Joining.{joined_on}
 

@@ -2,21 +2,21 @@
 use Rattle.std.proofs.Common.{◌≡◌, ◌∙◌, ◌<◌, ◌≤◌, ℕ, List, length, sym, subst}
 use Rattle.std.specs.Prelude.{Result, Ok, Err}
 use Rattle.cell_code.specs.declared.code.Code.{Code}
-use Rattle.command_run.specs.code_file.Plain.{plain_code}
+use Rattle.command_session.specs.command_run.code_file.Plain.{plain_code}
 use Rattle.command_words.specs.Words.{Room}
 use Rattle.command_outcome.specs.declared.failure.Failure.{Failure}
 use Rattle.command_outcome.specs.declared.failure.Failure.TheVariants as F
-use Rattle.command_run.specs.command_eval.EvalAnswer.{OrNoMemory}
+use Rattle.command_session.specs.command_run.command_eval.EvalAnswer.{OrNoMemory}
 use Rattle.fip_language.specs.declared.limits.TheConstants.{MOST_FRAMES}
-use Rattle.command_run.specs.fip_trees.declared.groups.Member.{Member}
-use Rattle.command_run.specs.fip_trees.Tree.{Program}
-use Rattle.command_run.specs.session_semantics.Lines.{lines_of}
-use Rattle.command_run.specs.session_semantics.Turns.{Answered, Bad, Comes, Small, most_tasks, words_of_tasks}
-use Rattle.command_run.specs.code_rules.Breaks.{IsSound}
-use Rattle.command_run.specs.code_rules.Codes.{plain}
-use Rattle.command_run.specs.command_source.ProgramCode.{IsLoweredFrom}
-use Rattle.command_run.specs.source_report.Report.{IsAccepted}
-use Rattle.command_run.specs.tail_groups.Members.{AreMembers}
+use Rattle.command_session.specs.command_run.fip_trees.declared.groups.Member.{Member}
+use Rattle.command_session.specs.command_run.fip_trees.Tree.{Program}
+use Rattle.command_session.specs.command_run.session_semantics.Lines.{lines_of}
+use Rattle.command_session.specs.command_run.session_semantics.Turns.{Answered, Bad, Comes, Small, most_tasks, words_of_tasks}
+use Rattle.command_session.specs.command_run.code_rules.Breaks.{IsSound}
+use Rattle.command_session.specs.command_run.code_rules.Codes.{plain}
+use Rattle.command_session.specs.command_run.command_source.ProgramCode.{IsLoweredFrom}
+use Rattle.command_session.specs.command_run.source_report.Report.{IsAccepted}
+use Rattle.command_session.specs.command_run.tail_groups.Members.{AreMembers}
 use Rattle.task_lines.specs.Called.{AreCalls, Called}
 use Rattle.task_lines.specs.declared.list.RunLimits.{RunLimits}
 use Rattle.command_tasks.specs.Called.{AreCallLines, KeepsList}

@@ -6,15 +6,15 @@ use Rattle.std.specs.Prelude.{min}
 use Rattle.std.proofs.lemmas.Option.{none-some, same_Some, slice_get-map}
 use Rattle.cell_code.specs.declared.code.Code.{Code}
 use Rattle.cell_code.specs.declared.code.Function.{Function}
-use Rattle.command_run.specs.cell_lower.Limits.{is_ruled, registers}
-use Rattle.command_run.specs.cell_lower.Shape.{Header, header, header_of, and_if, headers_from, headers}
-use Rattle.command_run.specs.code_file.Plain.{plain_code}
-use Rattle.command_run.specs.separation.Codes.{HasLiterals}
-use Rattle.command_run.proofs.separation.Sound.{formed}
+use Rattle.command_session.specs.command_run.cell_lower.Limits.{is_ruled, registers}
+use Rattle.command_session.specs.command_run.cell_lower.Shape.{Header, header, header_of, and_if, headers_from, headers}
+use Rattle.command_session.specs.command_run.code_file.Plain.{plain_code}
+use Rattle.command_session.specs.command_run.separation.Codes.{HasLiterals}
+use Rattle.command_session.proofs.command_run.separation.Sound.{formed}
 use Rattle.command_words.specs.Words.{Room}
 use Rattle.command_outcome.specs.Texts.{line_end, out_of_calls_text, out_of_frames_text}
-use Rattle.command_run.proofs.command_eval.Meant.{typed_of}
-use Rattle.command_run.proofs.command_eval.SoundTypes.{typed_sound}
+use Rattle.command_session.proofs.command_run.command_eval.Meant.{typed_of}
+use Rattle.command_session.proofs.command_run.command_eval.SoundTypes.{typed_sound}
 use Rattle.fip_base.specs.declared.plain.Stack.{Stack}
 use Rattle.fip_language.specs.Core.{Core}
 use Rattle.fip_language.specs.Meaning.{Answer, Gives, Trap, Out, Deep, Stuck, meaning}
@@ -25,28 +25,28 @@ use Rattle.fip_language.specs.Values.{words_needed_by_all}
 use Rattle.fip_language.specs.declared.FunKind.{FunKind}
 use Rattle.fip_language.specs.declared.FunKind.TheVariants.{Fip, Fbip, Fun}
 use Rattle.fip_language.specs.declared.limits.TheConstants.{MOST_FRAMES}
-use Rattle.command_run.specs.fip_trees.declared.groups.Member.{Member}
-use Rattle.command_run.specs.fip_trees.Tree.{Instance, Program}
+use Rattle.command_session.specs.command_run.fip_trees.declared.groups.Member.{Member}
+use Rattle.command_session.specs.command_run.fip_trees.Tree.{Instance, Program}
 use Rattle.task_lines.specs.instance_semantics.Meaning.{flat_meaning}
 use Rattle.task_lines.proofs.instance_semantics.Frames.{more_frames}
 use Rattle.task_correctness.specs.run_loading.Loading.{words_of_credits}
-use Rattle.command_run.specs.lowering_relation.LoweredFunctions.{AreLowered}
-use Rattle.command_run.specs.machine_correctness.Starts.{IsCodeOf}
-use Rattle.command_run.proofs.Bounded.{one_of_name}
-use Rattle.command_run.proofs.Loaded.{IsLoadable, loadable}
-use Rattle.command_run.specs.session_semantics.Lines.{Symbol, Blank, Open, Close, Comma, Equals, Question, Minus, Underscore, Digit, Small, Capital, Other, BeginsSmall, skip, symbols, word}
-use Rattle.command_run.specs.session_semantics.Talk.{Setting, frames_of, free_frames}
-use Rattle.command_run.specs.session_semantics.Talk.{answer_of as flat_answer}
-use Rattle.command_run.specs.session_semantics.Turns.{AreTasks, IsBadFrom, IsTask, Task, TaskLines, TaskText, credit_words, type_of, joined, words_of_tasks}
-use Rattle.command_run.specs.session_semantics.Typed.{AreValues}
-use Rattle.command_run.specs.code_rules.Breaks.{IsSound}
-use Rattle.command_run.specs.code_rules.Codes.{PlainFunction, plain, plain_function, function_at, is_fip}
-use Rattle.command_run.specs.code_rules.StackNumbers.{HasStack}
-use Rattle.command_run.specs.command_source.ProgramCode.{IsLoweredFrom}
-use Rattle.command_run.proofs.command_source.Compiling.{headers_same, instrs_same}
+use Rattle.command_session.specs.command_run.lowering_relation.LoweredFunctions.{AreLowered}
+use Rattle.command_session.specs.command_run.machine_correctness.Starts.{IsCodeOf}
+use Rattle.command_session.proofs.command_run.Bounded.{one_of_name}
+use Rattle.command_session.proofs.command_run.Loaded.{IsLoadable, loadable}
+use Rattle.command_session.specs.command_run.session_semantics.Lines.{Symbol, Blank, Open, Close, Comma, Equals, Question, Minus, Underscore, Digit, Small, Capital, Other, BeginsSmall, skip, symbols, word}
+use Rattle.command_session.specs.command_run.session_semantics.Talk.{Setting, frames_of, free_frames}
+use Rattle.command_session.specs.command_run.session_semantics.Talk.{answer_of as flat_answer}
+use Rattle.command_session.specs.command_run.session_semantics.Turns.{AreTasks, IsBadFrom, IsTask, Task, TaskLines, TaskText, credit_words, type_of, joined, words_of_tasks}
+use Rattle.command_session.specs.command_run.session_semantics.Typed.{AreValues}
+use Rattle.command_session.specs.command_run.code_rules.Breaks.{IsSound}
+use Rattle.command_session.specs.command_run.code_rules.Codes.{PlainFunction, plain, plain_function, function_at, is_fip}
+use Rattle.command_session.specs.command_run.code_rules.StackNumbers.{HasStack}
+use Rattle.command_session.specs.command_run.command_source.ProgramCode.{IsLoweredFrom}
+use Rattle.command_session.proofs.command_run.command_source.Compiling.{headers_same, instrs_same}
 use Rattle.task_correctness.proofs.specialisation_correctness.Meant.{root_meant}
-use Rattle.command_run.specs.source_report.Report.{IsAccepted, IsTyped}
-use Rattle.command_run.specs.tail_groups.Members.{AreMembers}
+use Rattle.command_session.specs.command_run.source_report.Report.{IsAccepted, IsTyped}
+use Rattle.command_session.specs.command_run.tail_groups.Members.{AreMembers}
 use Rattle.task_lines.specs.Called.{AreCalls, Called, IsCall, IsFirstBad}
 use Rattle.task_lines.specs.session_values.Readable.{IsReadable}
 use Rattle.task_lines.specs.declared.list.RunLimits.{RunLimits}

@@ -9,17 +9,17 @@ use Rattle.fip_language.specs.Table.{HaveTypes}
 use Rattle.fip_language.specs.Values.{Values}
 use Rattle.fip_language.specs.declared.FunKind.TheVariants.{Fip, Fbip}
 use Rattle.fip_language.specs.declared.limits.TheConstants.{FRAME_WORDS}
-use Rattle.command_run.specs.fip_trees.declared.groups.Member.{Member}
-use Rattle.command_run.specs.fip_trees.Tree.{Instance}
+use Rattle.command_session.specs.command_run.fip_trees.declared.groups.Member.{Member}
+use Rattle.command_session.specs.command_run.fip_trees.Tree.{Instance}
 use Rattle.task_lines.specs.instance_semantics.Meaning.{flat_meaning}
 use Rattle.task_correctness.specs.in_place_safety.InPlace.{EndsInPlace}
-use Rattle.command_run.specs.session_semantics.Talk.{Setting, answer_of, frames_by, frames_of, free_frames}
-use Rattle.command_run.specs.session_semantics.Turns.{type_of}
-use Rattle.command_run.specs.source_report.Report.{IsAccepted}
-use Rattle.command_run.proofs.source_report.FipCalls.{fip_calls}
-use Rattle.command_run.specs.tail_groups.Members.{AreMembers, frame, stack}
-use Rattle.command_run.specs.tail_groups.Registers as T
-use Rattle.command_run.specs.tail_groups.Rules as U
+use Rattle.command_session.specs.command_run.session_semantics.Talk.{Setting, answer_of, frames_by, frames_of, free_frames}
+use Rattle.command_session.specs.command_run.session_semantics.Turns.{type_of}
+use Rattle.command_session.specs.command_run.source_report.Report.{IsAccepted}
+use Rattle.command_session.proofs.command_run.source_report.FipCalls.{fip_calls}
+use Rattle.command_session.specs.command_run.tail_groups.Members.{AreMembers, frame, stack}
+use Rattle.command_session.specs.command_run.tail_groups.Registers as T
+use Rattle.command_session.specs.command_run.tail_groups.Rules as U
 
 not_deep : (o : Setting) (f : Instance) (vs : Values) (a : Answer) → EndsInPlace o.program.types f vs a → a ≢ Deep
 not_deep o f vs a h e = subst (EndsInPlace o.program.types f vs) e h

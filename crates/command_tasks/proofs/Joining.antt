@@ -8,8 +8,8 @@ use Rattle.fip_language.specs.Table.{Table, shapes}
 use Rattle.fip_language.specs.Values.{Value, Int, Node, Values, End, More, count_of}
 use Rattle.cell_store.specs.Cells.{Cells}
 use Rattle.value_text.specs.Standing.{Stands, StandAll}
-use Rattle.command_run.specs.machine_correctness.Meant.{ArePrintable}
-use Rattle.command_run.specs.session_semantics.Turns.{joined}
+use Rattle.command_session.specs.command_run.machine_correctness.Meant.{ArePrintable}
+use Rattle.command_session.specs.command_run.session_semantics.Turns.{joined}
 
 -- the text goes on behind a value
 mutual

@@ -5,31 +5,31 @@ use Rattle.std.proofs.Common.{◌≡◌, ◌≢◌, ◌∙◌, inl, inr, ◌<◌
 use Rattle.std.specs.Prelude.{Result, Ok, Err, codes}
 use Rattle.std.specs.Fmt.{decimal}
 use Rattle.std.proofs.lemmas.Option.{same_Some}
-use Rattle.command_run.proofs.compiler_correctness.SoundTypes.{typed_sound}
+use Rattle.command_session.proofs.command_run.compiler_correctness.SoundTypes.{typed_sound}
 use Rattle.command_words.specs.Words.{Room}
 use Rattle.command_outcome.specs.Texts.{line_end, out_of_calls_text, out_of_frames_text}
 use Rattle.command_outcome.specs.declared.failure.Failure.{Failure}
 use Rattle.command_outcome.specs.declared.failure.Failure.TheVariants as F
-use Rattle.command_run.proofs.command_eval.Meant.{typed_of}
+use Rattle.command_session.proofs.command_run.command_eval.Meant.{typed_of}
 use Rattle.fip_language.specs.Meaning.{Answer, Gives, Trap, Out, Deep, Stuck}
 use Rattle.fip_language.specs.Table.{Shape, Table, shapes}
 use Rattle.fip_language.specs.Values.{Value, Int, Node, Values, End, More}
 use Rattle.fip_language.specs.declared.FunKind.{FunKind}
 use Rattle.fip_language.specs.declared.FunKind.TheVariants.{Fip, Fbip, Fun}
-use Rattle.command_run.specs.fip_trees.SoundProgram.{IsSoundProgram}
-use Rattle.command_run.specs.fip_trees.declared.groups.Member.{Member}
-use Rattle.command_run.specs.fip_trees.Tree.{Instance, Program}
+use Rattle.command_session.specs.command_run.fip_trees.SoundProgram.{IsSoundProgram}
+use Rattle.command_session.specs.command_run.fip_trees.declared.groups.Member.{Member}
+use Rattle.command_session.specs.command_run.fip_trees.Tree.{Instance, Program}
 use Rattle.task_lines.specs.instance_semantics.Meaning.{flat_meaning}
 use Rattle.task_lines.proofs.instance_semantics.Frames.{more_frames}
-use Rattle.command_run.specs.session_semantics.Lines.{Written, Number, Named, Parts, NoParts, MoreParts, lines_of}
-use Rattle.command_run.specs.session_semantics.Talk.{Setting, answer_of, free_frames}
-use Rattle.command_run.specs.session_semantics.Turns.{Answered, AreTasks, Bad, Comes, IsBadFrom, IsTask, Small, Task, TaskLines, TaskText, joined, most_tasks, type_of, words_of_tasks}
-use Rattle.command_run.specs.session_semantics.Typed.{AreValues, IsValue}
-use Rattle.command_run.proofs.session_semantics.OneForm.{task_entry_once, task_values_once}
-use Rattle.command_run.specs.command_source.Wanted.{Lawful, IsReady}
-use Rattle.command_run.specs.source_report.Report.{IsAccepted}
-use Rattle.command_run.proofs.source_report.Once.{accepted_once}
-use Rattle.command_run.specs.tail_groups.Members.{AreMembers}
+use Rattle.command_session.specs.command_run.session_semantics.Lines.{Written, Number, Named, Parts, NoParts, MoreParts, lines_of}
+use Rattle.command_session.specs.command_run.session_semantics.Talk.{Setting, answer_of, free_frames}
+use Rattle.command_session.specs.command_run.session_semantics.Turns.{Answered, AreTasks, Bad, Comes, IsBadFrom, IsTask, Small, Task, TaskLines, TaskText, joined, most_tasks, type_of, words_of_tasks}
+use Rattle.command_session.specs.command_run.session_semantics.Typed.{AreValues, IsValue}
+use Rattle.command_session.proofs.command_run.session_semantics.OneForm.{task_entry_once, task_values_once}
+use Rattle.command_session.specs.command_run.command_source.Wanted.{Lawful, IsReady}
+use Rattle.command_session.specs.command_run.source_report.Report.{IsAccepted}
+use Rattle.command_session.proofs.command_run.source_report.Once.{accepted_once}
+use Rattle.command_session.specs.command_run.tail_groups.Members.{AreMembers}
 use Rattle.command_tasks.specs.TasksAnswer.{IsSetting, TakesTurns}
 use Rattle.command_tasks.proofs.Frames.{free_given, never_deep}
 use Rattle.command_tasks.proofs.Weighing.{all_typed}

@@ -11,9 +11,9 @@ use Rattle.fip_tasks.specs.machine_semantics.Cells.{Store}
 use Rattle.fip_tasks.specs.machine_semantics.Codes as R
 use Rattle.fip_tasks.specs.machine_semantics.Runs.{loaded}
 use Rattle.fip_tasks.specs.machine_semantics.Steps.{Kinds}
-use Rattle.command_run.specs.separation.Codes.{AreKinds}
-use Rattle.command_run.proofs.separation.CodesRun.{code_runs}
-use Rattle.command_run.proofs.separation.KindsFound.{kinds_found}
+use Rattle.command_session.specs.command_run.separation.Codes.{AreKinds}
+use Rattle.command_session.proofs.command_run.separation.CodesRun.{code_runs}
+use Rattle.command_session.proofs.command_run.separation.KindsFound.{kinds_found}
 use Rattle.code_verify.specs.Checked.{Checked}
 use Rattle.fip_base.specs.declared.plain.Stack.{Stack}
 use Rattle.fip_language.specs.Core.{Core}
@@ -23,14 +23,14 @@ use Rattle.fip_language.specs.declared.limits.TheConstants.{MOST_FRAMES}
 use Rattle.fip_machine.specs.Tasks.{state_with}
 use Rattle.fip_tasks.specs.Shown.{AreStarted}
 use Rattle.fip_tasks.specs.declared.task.Start.{Start}
-use Rattle.command_run.specs.machine_correctness.Meant.{IsMeant}
-use Rattle.command_run.specs.machine_correctness.Starts.{Begins, IsCodeOf}
-use Rattle.command_run.proofs.machine_correctness.EvaluatedEnds.{not_deep}
+use Rattle.command_session.specs.command_run.machine_correctness.Meant.{IsMeant}
+use Rattle.command_session.specs.command_run.machine_correctness.Starts.{Begins, IsCodeOf}
+use Rattle.command_session.proofs.command_run.machine_correctness.EvaluatedEnds.{not_deep}
 use Rattle.task_correctness.proofs.EvaluatedAnywhere.{apart_answers_meant}
-use Rattle.command_run.proofs.Bounded.{few_frames}
-use Rattle.command_run.specs.session_semantics.Talk.{frames_of}
-use Rattle.command_run.specs.code_rules.Codes.{PlainFunction, plain, plain_function, function_at, is_fip}
-use Rattle.command_run.specs.code_rules.StackNumbers.{HasStack, IsStack}
+use Rattle.command_session.proofs.command_run.Bounded.{few_frames}
+use Rattle.command_session.specs.command_run.session_semantics.Talk.{frames_of}
+use Rattle.command_session.specs.command_run.code_rules.Codes.{PlainFunction, plain, plain_function, function_at, is_fip}
+use Rattle.command_session.specs.command_run.code_rules.StackNumbers.{HasStack, IsStack}
 use Rattle.task_lines.specs.Called.{Called}
 use Rattle.task_lines.specs.Started.{AreStarted as AreStartedSo, IsStarted}
 use Rattle.task_lines.specs.declared.list.RunLimits.{RunLimits}

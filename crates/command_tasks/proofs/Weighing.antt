@@ -14,8 +14,8 @@ use Rattle.fip_language.specs.Table.{Table, HasType, HaveTypes}
 use Rattle.fip_language.specs.declared.limits.TheConstants.{MOST_FIELDS, MOST_FILE_BYTES}
 use Rattle.fip_language.specs.Values.{Value, Int, Node, Values, End, More, count_of, words_needed, words_needed_by_all, words_of_node}
 use Rattle.task_correctness.specs.run_loading.Loading.{words_of_credits}
-use Rattle.command_run.specs.session_semantics.Lines.{Symbol, Blank, Open, Close, Comma, Equals, Question, Minus, Underscore, Digit, Small, Capital, Other, Written, Number, Named, Parts, NoParts, MoreParts, WrittenText, PartsText, FurtherText, NumberText, DigitsText, MoreGivenText, AllGivenText, BeginsCapital, SignText, after_number, behind, fresh_of, lines_of, put_before, skip, symbol, symbols}
-use Rattle.command_run.specs.session_semantics.Typed.{IsValue, AreValues}
+use Rattle.command_session.specs.command_run.session_semantics.Lines.{Symbol, Blank, Open, Close, Comma, Equals, Question, Minus, Underscore, Digit, Small, Capital, Other, Written, Number, Named, Parts, NoParts, MoreParts, WrittenText, PartsText, FurtherText, NumberText, DigitsText, MoreGivenText, AllGivenText, BeginsCapital, SignText, after_number, behind, fresh_of, lines_of, put_before, skip, symbol, symbols}
+use Rattle.command_session.specs.command_run.session_semantics.Typed.{IsValue, AreValues}
 use Rattle.task_lines.specs.Called.{AreCalls, Called, IsCall, needed_by_all}
 use Rattle.task_lines.specs.Listed.{IsListOf}
 use Rattle.task_lines.specs.declared.list.TaskList.{TaskList}
@@ -24,7 +24,7 @@ use Rattle.value_text.specs.Loaded.{AreCredits, AreSizes, free_in, types_of, wan
 use Rattle.value_text.proofs.Counted.{cells_le_all}
 use Rattle.value_text.proofs.Credits.{sum_join}
 use Rattle.value_text.proofs.Taken.{words_same, words_suc, words_zero}
-use Rattle.command_run.proofs.Words.{needed_words}
+use Rattle.command_session.proofs.command_run.Words.{needed_words}
 
 -- ---- what is read of a line is no longer than it
 

@@ -9,8 +9,8 @@ use Rattle.fip_language.specs.Every.{Every}
 use Rattle.fip_language.specs.Meaning.{Answer, Deep, meaning}
 use Rattle.fip_language.specs.Statics.{NoClosed}
 use Rattle.task_lines.specs.session_lines.Named.{HasFrames}
-use Rattle.command_run.specs.session_semantics.Lines.{lines_of}
-use Rattle.command_run.specs.code_rules.Codes.{plain, is_fip}
+use Rattle.command_session.specs.command_run.session_semantics.Lines.{lines_of}
+use Rattle.command_session.specs.command_run.code_rules.Codes.{plain, is_fip}
 use Rattle.task_lines.specs.Called.{Called, IsFirstBad}
 use Rattle.task_lines.specs.declared.list.RunLimits.{RunLimits}
 use Rattle.command_tasks.specs.Telling.{TellsAnswer}

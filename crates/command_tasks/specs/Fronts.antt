@@ -1,13 +1,13 @@
 -- What is asked of a front before its tasks are run: that it is that of a source.
 use Rattle.std.specs.Prelude.{ℕ, List}
-use Rattle.command_run.specs.code_file.Plain.{plain_code}
-use Rattle.command_run.specs.fip_trees.TreeView as V
-use Rattle.command_run.specs.code_rules.Breaks.{IsSound}
-use Rattle.command_run.specs.code_rules.Codes.{plain}
-use Rattle.command_run.specs.command_source.ProgramCode.{IsLoweredFrom}
-use Rattle.command_run.specs.command_source.declared.known.Front.{Front}
-use Rattle.command_run.specs.source_report.Report.{IsAccepted}
-use Rattle.command_run.specs.tail_groups.Members.{AreMembers}
+use Rattle.command_session.specs.command_run.code_file.Plain.{plain_code}
+use Rattle.command_session.specs.command_run.fip_trees.TreeView as V
+use Rattle.command_session.specs.command_run.code_rules.Breaks.{IsSound}
+use Rattle.command_session.specs.command_run.code_rules.Codes.{plain}
+use Rattle.command_session.specs.command_run.command_source.ProgramCode.{IsLoweredFrom}
+use Rattle.command_session.specs.command_run.command_source.declared.known.Front.{Front}
+use Rattle.command_session.specs.command_run.source_report.Report.{IsAccepted}
+use Rattle.command_session.specs.command_run.tail_groups.Members.{AreMembers}
 
 -- The source breaks no rule; the front has its program, its groups, and its code, which is sound.
 pub record IsFrontOf (source : List ℕ) (f : Front) : Type 0 where

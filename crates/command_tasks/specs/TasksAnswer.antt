@@ -11,11 +11,11 @@
 use Rattle.std.specs.Prelude.{◌≡◌, ℕ, List, Result}
 use Rattle.command_words.specs.Words.{Room}
 use Rattle.command_outcome.specs.declared.failure.Failure.{Failure}
-use Rattle.command_run.specs.source_report.Report.{IsAccepted}
-use Rattle.command_run.specs.tail_groups.Members.{AreMembers}
-use Rattle.command_run.specs.session_semantics.Lines.{lines_of}
-use Rattle.command_run.specs.session_semantics.Talk.{Setting}
-use Rattle.command_run.specs.session_semantics.Turns.{Comes}
+use Rattle.command_session.specs.command_run.source_report.Report.{IsAccepted}
+use Rattle.command_session.specs.command_run.tail_groups.Members.{AreMembers}
+use Rattle.command_session.specs.command_run.session_semantics.Lines.{lines_of}
+use Rattle.command_session.specs.command_run.session_semantics.Talk.{Setting}
+use Rattle.command_session.specs.command_run.session_semantics.Turns.{Comes}
 
 -- the program of a source that breaks no rule, with what is found of its instances, in this room
 pub record IsSetting (source : List ℕ) (room : Room) (o : Setting) : Type 0 where

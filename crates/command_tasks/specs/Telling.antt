@@ -14,8 +14,8 @@ use Rattle.fip_machine.specs.Tasks.{state_with}
 use Rattle.fip_tasks.specs.Shown.{Shows, CanTurn, CanFinish}
 use Rattle.fip_tasks.specs.Turns.{Standing, Turns}
 use Rattle.fip_tasks.specs.declared.task.Start.{Start}
-use Rattle.command_run.specs.machine_correctness.Meant.{IsMeant}
-use Rattle.command_run.specs.session_semantics.Turns.{joined}
+use Rattle.command_session.specs.command_run.machine_correctness.Meant.{IsMeant}
+use Rattle.command_session.specs.command_run.session_semantics.Turns.{joined}
 use Rattle.fip_tasks.specs.task_semantics.Schedules.{Shared, scheduled}
 
 -- the schedule's tasks can each have a turn whenever it is, and be run to their ends

@@ -9,3 +9,4 @@ pub mod theorems;
 mod turns;
 
 pub use command::tasks;
+pub use command_session::runner;

@@ -6,13 +6,13 @@ ghost use Rattle.fip_language.specs.Meaning.{Answer};
 ghost use Rattle.fip_language.specs.Values.{Values};
 ghost use Rattle.fip_tasks.specs.Turns.{Standing};
 ghost use Rattle.fip_tasks.specs.machine_cells.Small.{IsSmall};
-ghost use Rattle.command_run.specs.machine_correctness.Meant.{ArePrintable};
-ghost use Rattle.command_run.specs.session_semantics.Turns.{joined};
+ghost use Rattle.command_session.specs.command_run.machine_correctness.Meant.{ArePrintable};
+ghost use Rattle.command_session.specs.command_run.session_semantics.Turns.{joined};
 ghost use Rattle.command_tasks.specs.Telling.{Answers, IsTaskLine, TellsAnswer, result_types};
 
 use cell_code::Code;
 use cell_store::Sealed;
-use command_run::failure_of;
+use command_session::runner::failure_of;
 use fip_base::plain::NoMemory;
 use fip_base::table::TypeTable;
 use fip_machine::Ended;

@@ -2,7 +2,7 @@
 ghost use Rattle.std.specs.Prelude.{◌≡◌, ℕ, List, Result};
 ghost use Rattle.command_words.specs.Words.{Room};
 ghost use Rattle.command_outcome.specs.declared.failure.Failure.{Failure};
-ghost use Rattle.command_run.specs.command_source.Wanted.{Lawful, IsReady};
+ghost use Rattle.command_session.specs.command_run.command_source.Wanted.{Lawful, IsReady};
 ghost use Rattle.command_tasks.specs.TasksAnswer.{TakesTurns};
 
 /// A list of tasks of a source comes to one thing at most: to one text, or to one bad line, or to two numbers that tell

@@ -11,3 +11,4 @@ pub mod Beginning
 pub mod Few
 pub mod Opening
 pub mod Laws
+pub use Rattle.tree_refinement.proofs as tree_refinement

@@ -11,9 +11,9 @@ use Rattle.tree_refinement.specs.machine_semantics.Cells.{Store}
 use Rattle.tree_refinement.specs.machine_semantics.Trees.{Stands, StandAll}
 use Rattle.session_semantics.specs.Talk.{Holding, held_as, without_all, hold_all, IsFree, AreFree}
 use Rattle.session_correctness.specs.Called.{AllStand, IsHeld, IsHeldWith}
-use Rattle.session_correctness.specs.Lodging.{Lodged, holding_of, lodged_as, but, but_all, AreDistinct, lodged_uses}
+use Rattle.session_correctness.specs.Lodging.{Lodged, holding_of, lodged_as, but, but_all, AreDistinct, lodged_uses, lodge_all}
 use Rattle.session_correctness.proofs.Sharing.{bool_or, name_same, name_itself, if_true, if_false, none_but, distinct_but_all}
-use Rattle.session_correctness.proofs.Speaking.{held_lodged, without_lodged, lodge_all}
+use Rattle.session_correctness.proofs.Speaking.{held_lodged, without_lodged}
 
 -- ---- cells
 

@@ -48,8 +48,3 @@ taken tb ls before (p ∷ ps) (Fresh w ∷ gs) (MoreParts x xs) h = (h.0, taken 
 taken tb ls before (p ∷ ps) (Held name ∷ gs) (MoreParts x xs) h =
     let t = h.0 in
     ((holding_of t.0, held_is name t.0 ls t.1, t.2, ap value_of t.3, t.4), taken tb ls (before ++ named_by tb p (Held name)) ps gs xs h.1)
-
--- results under new names
-abbrev pub lodge_all : List Name → List ℕ → Parts → List Lodged
-lodge_all (n ∷ ns) (t ∷ ts) (MoreParts x xs) = record { name = n; type = t; tree = x } ∷ lodge_all ns ts xs
-lodge_all ns ts xs = []

@@ -48,6 +48,11 @@ abbrev pub lodged_places : List Lodged → List ℕ
 lodged_places [] = []
 lodged_places (l ∷ ls) = places l.tree ++ lodged_places ls
 
+-- results under new names
+abbrev pub lodge_all : List Name → List ℕ → Parts → List Lodged
+lodge_all (n ∷ ns) (t ∷ ts) (MoreParts x xs) = record { name = n; type = t; tree = x } ∷ lodge_all ns ts xs
+lodge_all ns ts xs = []
+
 -- ---- what a call is given
 
 -- The tree is that of a written value, or the one that a name holds, which wasn't given before where its type isn't

@@ -2,7 +2,7 @@ use Rattle.std.proofs.Common.{◌∙◌, sym, ap, arith}
 use Rattle.std.specs.Prelude.{slice_get}
 use Rattle.std.proofs.lemmas.Option.{none-some, same_Some}
 use Rattle.fip_language.specs.Table.{Shape}
-use Rattle.command_run.proofs.value_text.Printing.{index_is, past_is, past_types}
+use Rattle.command_tasks.proofs.command_run.value_text.Printing.{index_is, past_is, past_types}
 use Rattle.command_library.proofs.keys.fields_of.Goals as goal
 
 pub returns-then-ty-len : goal.returns-then-ty-len

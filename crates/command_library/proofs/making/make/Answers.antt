@@ -2,17 +2,17 @@ use Rattle.std.proofs.Common.{◌≤◌, ◌∙◌, false, length, Err, ap, sym,
 use Rattle.fip_language.specs.declared.limits.TheConstants.{MOST_FILE_BYTES}
 use Rattle.fip_machine.specs.code_verify.Checked.{Checked, HasMachineInts}
 use Rattle.fip_machine.specs.GaugeView.{IsUnseen}
-use Rattle.command_run.specs.machine_correctness.Starts.{IsSoundCode}
-use Rattle.command_run.specs.Rooms.{IsAllowed}
-use Rattle.command_run.specs.Starting.{TellsEnded}
-use Rattle.command_run.specs.code_rules.Breaks.{IsSound}
-use Rattle.command_run.specs.code_rules.Codes.{plain}
-use Rattle.command_run.proofs.machine_correctness.Literals.{has_literals}
-use Rattle.command_run.proofs.Entry as N
-use Rattle.command_run.proofs.Execs as X
-use Rattle.command_run.proofs.Leaving.{last_store}
-use Rattle.command_run.specs.Leaving.{IsLastStore}
-use Rattle.command_run.proofs.Ran.{ran}
+use Rattle.command_tasks.specs.command_run.machine_correctness.Starts.{IsSoundCode}
+use Rattle.command_tasks.specs.command_run.Rooms.{IsAllowed}
+use Rattle.command_tasks.specs.command_run.Starting.{TellsEnded}
+use Rattle.command_tasks.specs.command_run.code_rules.Breaks.{IsSound}
+use Rattle.command_tasks.specs.command_run.code_rules.Codes.{plain}
+use Rattle.command_tasks.proofs.command_run.machine_correctness.Literals.{has_literals}
+use Rattle.command_tasks.proofs.command_run.Entry as N
+use Rattle.command_tasks.proofs.command_run.Execs as X
+use Rattle.command_tasks.proofs.command_run.Leaving.{last_store}
+use Rattle.command_tasks.specs.command_run.Leaving.{IsLastStore}
+use Rattle.command_tasks.proofs.command_run.Ran.{ran}
 use Rattle.command_library.specs.GenAnswer.{build, gen_room}
 use Rattle.command_library.proofs.Runs.{is_value, run_failed, failed_told, or_memory, too_long, no_tree, tree}
 use Rattle.command_library.proofs.making.make.Goals as goal

@@ -5,8 +5,8 @@ use Rattle.fip_tasks.specs.machine_semantics.Cells.{Store}
 use Rattle.fip_tasks.specs.Shown.{AreStarted, Shows}
 use Rattle.fip_tasks.specs.declared.task.Start.{Start}
 use Rattle.fip_tasks.specs.machine_cells.Small.{store_of}
-use Rattle.command_run.specs.code_rules.Codes.{plain}
-use Rattle.command_run.proofs.machine_correctness.Literals.{has_literals}
+use Rattle.command_session.specs.command_run.code_rules.Codes.{plain}
+use Rattle.command_session.proofs.command_run.machine_correctness.Literals.{has_literals}
 use Rattle.command_tasks.specs.Called.{AreCallLines}
 use Rattle.command_tasks.specs.Telling.{AreTaskLines, EndAs, ShowsSome}
 use Rattle.command_tasks.proofs.Answering.{of_ok}

@@ -1,7 +1,7 @@
 use Rattle.std.proofs.Common.{◌≡◌, ◌∙◌, refl, arith}
-use Rattle.command_run.specs.fip_trees.TreeView as V
+use Rattle.command_session.specs.command_run.fip_trees.TreeView as V
 use Rattle.command_words.specs.View.{room_of}
-use Rattle.command_run.specs.session_semantics.Lines.{lines_of}
+use Rattle.command_session.specs.command_run.session_semantics.Lines.{lines_of}
 use Rattle.task_lines.specs.declared.list.RunLimits.{RunLimits}
 use Rattle.command_tasks.proofs.Ending.{answered, kept, small}
 use Rattle.command_tasks.proofs.Entering.{code_of, core, have_credits, readable, table_sound, tasks_of, twins_named}

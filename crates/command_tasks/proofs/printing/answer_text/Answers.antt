@@ -1,8 +1,8 @@
 use Rattle.std.proofs.Common.{◌≡◌, ◌∙◌, ◌++◌, [], Vec, Global, ℕ, sym}
 use Rattle.std.specs.Prelude.{codes}
 use Rattle.fip_machine.specs.Tasks.{state_with}
-use Rattle.command_run.specs.machine_correctness.Meant.{ArePrintable}
-use Rattle.command_run.specs.session_semantics.Turns.{joined}
+use Rattle.command_session.specs.command_run.machine_correctness.Meant.{ArePrintable}
+use Rattle.command_session.specs.command_run.session_semantics.Turns.{joined}
 use Rattle.command_tasks.specs.Telling.{TellsAnswer, result_types}
 use Rattle.command_tasks.proofs.Answering.{all_of_ok, joined_line, value_told}
 use Rattle.command_tasks.proofs.printing.answer_text.Goals as goal

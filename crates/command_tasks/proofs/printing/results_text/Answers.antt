@@ -1,8 +1,8 @@
 use Rattle.std.proofs.Common.{◌∙◌, ◌++◌, ◌∷◌, [], List, ℕ, ap, subst, sym}
 use Rattle.fip_tasks.specs.machine_semantics.Cells.{Store}
 use Rattle.fip_tasks.specs.machine_cells.Small.{IsSmall}
-use Rattle.command_run.specs.machine_correctness.Meant.{ArePrintable}
-use Rattle.command_run.specs.session_semantics.Turns.{joined}
+use Rattle.command_session.specs.command_run.machine_correctness.Meant.{ArePrintable}
+use Rattle.command_session.specs.command_run.session_semantics.Turns.{joined}
 use Rattle.command_tasks.specs.Telling.{result_types}
 use Rattle.command_tasks.proofs.printing.results_text.Goals as goal
 

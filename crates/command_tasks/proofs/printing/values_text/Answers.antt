@@ -1,5 +1,5 @@
 use Rattle.std.proofs.Common.{◌∷◌, [], subst}
-use Rattle.command_run.specs.session_semantics.Turns.{joined}
+use Rattle.command_session.specs.command_run.session_semantics.Turns.{joined}
 use Rattle.command_tasks.proofs.Joining.{IsJoining, sides, value_joined, all_joined}
 use Rattle.command_tasks.proofs.printing.values_text.Goals as goal
 

@@ -1,8 +1,8 @@
 use Rattle.fip_language.specs.Values.{Values}
 use Rattle.std.proofs.Common.{[]}
 use Rattle.fip_tasks.specs.machine_cells.Small.{IsSmall}
-use Rattle.command_run.specs.machine_correctness.Meant.{ArePrintable}
-use Rattle.command_run.specs.session_semantics.Turns.{joined}
+use Rattle.command_session.specs.command_run.machine_correctness.Meant.{ArePrintable}
+use Rattle.command_session.specs.command_run.session_semantics.Turns.{joined}
 use Rattle.command_tasks.proofs.Joining.{IsJoining}
 use Rattle.command_tasks.proofs.printing.values_text.Given as goal
 

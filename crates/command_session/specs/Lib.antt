@@ -1,0 +1,1 @@
+pub use Rattle.command_run.specs as command_run

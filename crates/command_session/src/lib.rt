@@ -1,0 +1,6 @@
+// The sessions of a source.
+#![tactic(auto)]
+
+pub mod theorems;
+
+pub use command_run as runner;

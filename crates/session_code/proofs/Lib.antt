@@ -1,0 +1,1 @@
+pub use Rattle.session_correctness.proofs as session_correctness

@@ -519,6 +519,7 @@ task_same v b ws us c beside room more keeps =
       waiting = (same i).waiting;
       free = b.frames - c.frames;
       given = take beside.given beside.results;
+      freed = beside.freed;
       ended = None;
       frames = c.frames;
       words = c.base + c.registers + 2;

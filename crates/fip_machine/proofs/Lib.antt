@@ -7,3 +7,4 @@ pub mod Tapings
 pub mod Wholes
 pub mod Resuming
 pub use Rattle.fip_language.proofs as fip_language
+pub use Rattle.machine_cells.proofs as machine_cells

@@ -161,6 +161,7 @@ task_of v b ws c beside = record {
   waiting = waiting_in v.code.functions.items c.frames (take c.base ws);
   free = b.frames - c.frames;
   given = take beside.given beside.results;
+  freed = beside.freed;
   ended = None;
   frames = c.frames;
   words = c.base + c.registers + 2;

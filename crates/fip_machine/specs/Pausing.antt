@@ -45,6 +45,7 @@ stand_of v p = record {
   waiting = waiting_in v.code.functions.items p.place.frames (take p.place.base p.words.items);
   free = p.bounds.frames - p.place.frames;
   given = take p.beside.given p.beside.results;
+  freed = p.beside.freed;
   ended = p.ended;
   frames = p.place.frames;
   words = p.place.base + p.place.registers + 2;

@@ -25,14 +25,15 @@ pub record IsTask (v : Checked) (b : Bounds) (words : List ℕ) (capacity spare 
   pub over : ended ≢ Some Went
 
 -- The code, the frame that runs and those that wait, how many frames are free, the words of the results that were
--- given, and how the run ended; the frames that wait below the running one and the words of all frames, now and the
--- most since the start; and what can still be done without a call.
+-- given, how many cells of each size from 1 were released, and how the run ended; the frames that wait below the
+-- running one and the words of all frames, now and the most since the start; and what can still be done without a call.
 pub record Stand : Type 0 where
   pub code : Checked
   pub running : Frame
   pub waiting : List Frame
   pub free : ℕ
   pub given : List ℕ
+  pub freed : List ℕ
   pub ended : Option Stepped
   pub frames : ℕ
   pub words : ℕ

@@ -9,5 +9,5 @@ mod traced;
 
 pub use gauge::Gauge;
 pub use machine::{Ended, Machine};
-pub use machine_step::Stepped;
+pub use machine_step::{Highest, Stepped};
 pub use stack::{Paused, TaskStack};

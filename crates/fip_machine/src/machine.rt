@@ -125,6 +125,7 @@ impl<'a> Machine<'a> {
     /// has seen no state; it sees each state of the run. Cells are only released in a run, so the first state has the
     /// highest numbers of them and the last one the lowest.
     pub fn run(&mut self, calls: u64, gauge: &mut Gauge) -> Ended
+        ensures code { self.new.stack.code ≡ self.old.stack.code }
         ensures run { (kinds : Kinds) (lent : List Typed) → KnowsRun self.old.stack.code kinds
             (state_with self.old.stack lent self.old.store) calls → self.old.stack.ended ≡ None →
             IsSmall self.old.store.cells → self.old.pushed ≡ [] → RunsTo kinds (plain self.old.stack.code.code)

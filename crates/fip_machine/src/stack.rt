@@ -8,6 +8,7 @@ ghost use Rattle.machine_cells.specs.machine_semantics.Steps.{Kinds, first_words
 ghost use Rattle.machine_cells.specs.machine_semantics.Runs.{loaded};
 ghost use Rattle.machine_step.specs.machine_frames.View.{frame_at};
 ghost use Rattle.machine_cells.specs.Small.{IsSmall, store_of};
+ghost use Rattle.machine_cells.specs.Counting.{CountsReleased, freed_of};
 ghost use Rattle.cell_store.specs.Told.{Told};
 ghost use Rattle.machine_step.specs.Coming.{Comes, KnowsAt};
 ghost use Rattle.machine_step.specs.Telling.{IsKnown, next_tells};
@@ -61,6 +62,7 @@ impl<'a> Model for TaskStack<'a> {
       waiting = waiting_in t.verified.now.code.functions.items t.cursor.frames (take t.cursor.base t.words.items);
       free = t.bounds.frames - t.cursor.frames;
       given = take t.beside.given t.beside.results;
+      freed = t.beside.freed;
       ended = t.ended;
       frames = t.cursor.frames;
       words = t.cursor.base + t.cursor.registers + 2;
@@ -248,6 +250,7 @@ impl<'a> TaskStack<'a> {
         ensures code { IfOk result (λ t. t.code ≡ verified.now) }
         ensures going { IfOk result (λ t. t.ended ≡ None) }
         ensures fresh { IfOk result IsFresh }
+        ensures freed { IfOk result (λ t. (k : ℕ) → freed_of t.freed k ≡ 0) }
         ensures loaded { IfOk result (λ t. (g : _) → slice_get verified.now.code.functions.items entry ≡ Some g →
             length words.items ≤ g.registers → (store : Store) (s : State) → loaded (plain verified.now.code) entry
             store words.items frames ≡ Some s → state_with t s.lent store ≡ s) }
@@ -271,6 +274,7 @@ impl<'a> TaskStack<'a> {
         ensures code { IfOk result (λ t. t.code ≡ verified.now) }
         ensures going { IfOk result (λ t. t.ended ≡ None) }
         ensures fresh { IfOk result IsFresh }
+        ensures freed { IfOk result (λ t. (k : ℕ) → freed_of t.freed k ≡ 0) }
         ensures loaded { IfOk result (λ t. (g : _) → slice_get verified.now.code.functions.items entry ≡ Some g →
             length words.items ≤ g.registers → (store : Store) (s : State) → loaded (plain verified.now.code) entry
             store words.items frames ≡ Some s → state_with t s.lent store ≡ s) }
@@ -327,6 +331,8 @@ impl<'a> TaskStack<'a> {
         ensures ended { (e : _) → self.old.ended ≡ Some e → (result ≡ e) × (self.new ≡ self.old)
             × (store_of (C.cells cells.new) (C.released cells.new)
             ≡ store_of (C.cells cells.old) (C.released cells.old)) }
+        ensures counted { CountsReleased (C.cells cells.old) (C.released cells.old) self.old.freed (C.cells cells.new)
+            (C.released cells.new) self.new.freed }
         ensures told { (kinds : Kinds) (lent : List Typed) → KnowsAt self.old.code kinds self.old.running.function
             self.old.running.at → self.old.ended ≡ None → IsSmall (C.cells cells.old) → C.pushed cells.old ≡ [] →
             IsKnown (next kinds (plain self.old.code.code) (state_with self.old lent (store_of (C.cells cells.old)
@@ -352,6 +358,7 @@ impl<'a> TaskStack<'a> {
 
     // Runs to the end, or until a call would come and none of so many is left.
     pub(crate) fn run<C: Cells>(&mut self, cells: &mut C, calls: u64) -> Option<Stepped>
+        ensures code { self.new.code ≡ self.old.code }
         ensures run { (o : Origin) → IsAlong o self.old (stored (C.cells cells.old) (C.released cells.old)
             (C.pushed cells.old)) calls → HasRun o (end_after result) self.new (stored (C.cells cells.new)
             (C.released cells.new) (C.pushed cells.new)) }
@@ -381,6 +388,7 @@ impl<'a> TaskStack<'a> {
 
     // Runs to the end, or to where a call would come.
     fn run_to_call<C: Cells>(&mut self, cells: &mut C) -> Option<Stepped>
+        ensures code { self.new.code ≡ self.old.code }
         ensures run { (o : Origin) → IsAlong o self.old (stored (C.cells cells.old) (C.released cells.old)
             (C.pushed cells.old)) 0 → HasRun o (end_after result) self.new (stored (C.cells cells.new)
             (C.released cells.new) (C.pushed cells.new)) }
@@ -414,10 +422,12 @@ impl<'a> TaskStack<'a> {
         &self.beside.results[..self.beside.given]
     }
 
-    /// How many cells of size `k`, from 1 to 16, the steps released.
+    /// How many cells of size `k`, from 1 to 16, the steps released: each step that releases cells adds as many of each
+    /// size as are held no more (`step`'s clause `counted`).
     pub fn freed(&self, k: usize) -> usize
         requires some { 1 ≤ k }
         requires few { k ≤ MOST_FIELDS }
+        ensures counted { result ≡ freed_of self.now.freed k }
     {
         self.beside.freed[k - 1]
     }
@@ -430,8 +440,8 @@ impl<'a> TaskStack<'a> {
         self.cursor.frames
     }
 
-    // The most frames beside the running one, and the most words of all frames, since the start.
-    pub(crate) fn highest(&self) -> Highest
+    /// The most frames beside the running one, and the most words of all frames, since the start.
+    pub fn highest(&self) -> Highest
         ensures frames { result.frames ≡ self.now.most_frames }
         ensures words { result.words ≡ self.now.most_words }
     {

@@ -44,6 +44,7 @@ loop-left-preserved g c =
         over = inv.task.over;
       };
       going = inv.going;
+      code = inv.code;
       along = λ o a.
           let before : IsAlong o (task_of v b c.as_mut_slice.result.now i.cursor i.beside) s c.loop-left.left = subst (λ (t : Stand). IsAlong o t s c.loop-left.left) (sym (task_same v b i.words.items c.make_room.new.words.items i.cursor i.beside inv.task.placed.room c.make_room.ensures.more c.make_room.ensures.keeps) ∙ sym (λ j. task_of v b (c.as_mut_slice.ensures.value j) i.cursor i.beside)) (inv.along o a) in
           subst (λ (xs : List ℕ). IsAlong o (task_of v b xs after beside) w c.burst-pause.new.left) (sym items) (paused_along o c.burst-pause.result (task_of v b us after beside) w c.burst-pause.new.left c.in_default.not-Over (told.along o before));
@@ -63,6 +64,7 @@ returns-in-Over g c =
     let s = stored (g.C.Cells.cells c.loop-left.cells) (g.C.Cells.released c.loop-left.cells) (g.C.Cells.pushed c.loop-left.cells) in
     let w = stored (g.C.Cells.cells c.burst-pause.new.cells) (g.C.Cells.released c.burst-pause.new.cells) (g.C.Cells.pushed c.burst-pause.new.cells) in
     record {
+      code = inv.code;
       run = λ o a.
           let before : IsAlong o (task_of v b c.as_mut_slice.result.now i.cursor i.beside) s c.loop-left.left = subst (λ (t : Stand). IsAlong o t s c.loop-left.left) (sym (task_same v b i.words.items c.make_room.new.words.items i.cursor i.beside inv.task.placed.room c.make_room.ensures.more c.make_room.ensures.keeps) ∙ sym (λ j. task_of v b (c.as_mut_slice.ensures.value j) i.cursor i.beside)) (inv.along o a) in
           let e = end_after (Some c.in-Over.stepped) in
@@ -78,5 +80,6 @@ returns g c =
     let over = c.loop-left-test.false in
     let none : c.loop-left.left ≡ 0 = omega (arith, over) in
     record {
+      code = c.run_to_call.ensures.code ∙ inv.code;
       run = λ o a. c.run_to_call.ensures.run o (along_ended o task i.ended s 0 inv.going refl (subst (λ (n : ℕ). IsAlong o task s n) none (inv.along o a)));
     }

@@ -14,6 +14,7 @@ invariant-loop-left g l =
     record {
       task : IsTask i.verified.now i.bounds i.words.items (vec_capacity i.words) (vec_len i.beside.spare) i.cursor i.ended;
       going : i.ended ≡ None;
+      code : i.verified.now ≡ l.fn.self.code;
       along : (o : Origin) → IsAlong o l.fn.self (stored (cells l.fn.cells) (released l.fn.cells) (pushed l.fn.cells)) l.calls → IsAlong o (task_of i.verified.now i.bounds i.words.items i.cursor i.beside) (stored (cells l.cells) (released l.cells) (pushed l.cells)) l.left;
     }
 

@@ -7,6 +7,7 @@ use Rattle.fip_machine.proofs.stack.TaskStack.run_to_call.Goals as goal
 
 pub loop-self-preserved : goal.loop-self-preserved
 loop-self-preserved g c = record {
+  code = c.step.ensures.code ∙ c.loop-self.invariant.code;
   along = λ o a.
       let t = c.loop-self.self in
       let s = stored (g.C.Cells.cells c.loop-self.cells) (g.C.Cells.released c.loop-self.cells) (g.C.Cells.pushed c.loop-self.cells) in
@@ -17,6 +18,7 @@ loop-self-preserved g c = record {
 
 pub returns-in-Entered : goal.returns-in-Entered
 returns-in-Entered g c = record {
+  code = c.step.ensures.code ∙ c.loop-self.invariant.code;
   run = λ o a.
       let t = c.loop-self.self in
       let s = stored (g.C.Cells.cells c.loop-self.cells) (g.C.Cells.released c.loop-self.cells) (g.C.Cells.pushed c.loop-self.cells) in
@@ -30,6 +32,7 @@ returns-in-Entered g c = record {
 
 pub returns-in_default : goal.returns-in_default
 returns-in_default g c = record {
+  code = c.step.ensures.code ∙ c.loop-self.invariant.code;
   run = λ o a.
       let t = c.loop-self.self in
       let s = stored (g.C.Cells.cells c.loop-self.cells) (g.C.Cells.released c.loop-self.cells) (g.C.Cells.pushed c.loop-self.cells) in
@@ -43,6 +46,7 @@ returns-in_default g c = record {
 
 pub returns : goal.returns
 returns g c = record {
+  code = c.loop-self.invariant.code;
   run = λ o a.
       let t = c.loop-self.self in
       let s = stored (g.C.Cells.cells c.loop-self.cells) (g.C.Cells.released c.loop-self.cells) (g.C.Cells.pushed c.loop-self.cells) in

@@ -1,4 +1,5 @@
 -- The task stays along the run, and no call is left.
+use Rattle.std.proofs.Common.{◌≡◌}
 use Rattle.fip_machine.specs.Along.{Origin, IsAlong, stored}
 use Rattle.fip_machine.proofs.stack.TaskStack.run_to_call.Given as goal
 
@@ -8,6 +9,7 @@ invariant-loop-self g l =
     let released = g.C.Cells.released in
     let pushed = g.C.Cells.pushed in
     record {
+      code : l.self.code ≡ l.initial.self.code;
       along : (o : Origin) → IsAlong o l.initial.self (stored (cells l.initial.cells) (released l.initial.cells) (pushed l.initial.cells)) 0 → IsAlong o l.self (stored (cells l.cells) (released l.cells) (pushed l.cells)) 0;
     }
 

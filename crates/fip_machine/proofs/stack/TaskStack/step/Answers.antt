@@ -5,6 +5,7 @@ use Rattle.machine_cells.specs.machine_semantics.Codes.{plain}
 use Rattle.machine_cells.specs.machine_semantics.States.{State}
 use Rattle.machine_cells.specs.machine_semantics.Steps.{next}
 use Rattle.machine_cells.specs.Small.{store_of}
+use Rattle.machine_cells.specs.Counting.{CountsReleased, held_or_freed}
 use Rattle.machine_step.specs.View.{state_of}
 use Rattle.machine_step.specs.Coming.{Comes, KnowsAt}
 use Rattle.machine_step.specs.Telling.{IsKnown, next_tells}
@@ -82,3 +83,11 @@ returns-clause-told g c kinds lent known going small empty goes first ts told =
     let done = c.advance-stepped.ensures.told kinds lent knows refl small empty (subst (λ (st : State). IsKnown (next kinds (plain v.code) st)) (sym same) next_is) first ts told in
     let here = subst (λ (st : State). g.C.Cells.was_told first (ts ++ next_tells kinds (plain v.code) st) c.advance-stepped.new.cells) same done in
     subst (λ (w : Stand). g.C.Cells.was_told first (ts ++ next_tells kinds (plain w.code.code) (state_with w lent s)) c.advance-stepped.new.cells) c.self.view_is here
+
+pub returns-in-Some-clause-counted : goal.returns-in-Some-clause-counted
+returns-in-Some-clause-counted g c k low high few = ap (λ (t : Stand). held_or_freed k (g.C.Cells.cells c.args.cells.now) (g.C.Cells.released c.args.cells.now) t.freed) c.self.view_is
+
+pub returns-clause-counted : goal.returns-clause-counted
+returns-clause-counted g c =
+    let m = c.advance-stepped.new.cells in
+    subst (λ (t : Stand). CountsReleased (g.C.Cells.cells c.args.cells.now) (g.C.Cells.released c.args.cells.now) t.freed (g.C.Cells.cells m) (g.C.Cells.released m) c.advance-stepped.new.beside.freed) c.self.view_is (c.advance-stepped.ensures.counted refl)

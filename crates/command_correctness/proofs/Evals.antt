@@ -5,10 +5,10 @@ use Rattle.fip_language.specs.declared.TrapKind.{TrapKind}
 use Rattle.fip_language.specs.Meaning.{Answer, Gives, Trap}
 use Rattle.fip_language.specs.PrintedText.{printed_lines}
 use Rattle.fip_language.specs.Values.{Values}
-use Rattle.command_outcome.specs.declared.failure.Failure.{Failure}
-use Rattle.command_outcome.specs.declared.failure.Failure.TheVariants as F
-use Rattle.command_run.specs.command_eval.EvalAnswer.{Evaluates, Answered, Tells}
-use Rattle.command_run.proofs.command_eval.Once.{evaluated_once}
+use Rattle.command_library.specs.command_outcome.declared.failure.Failure.{Failure}
+use Rattle.command_library.specs.command_outcome.declared.failure.Failure.TheVariants as F
+use Rattle.command_library.specs.command_run.command_eval.EvalAnswer.{Evaluates, Answered, Tells}
+use Rattle.command_library.proofs.command_run.command_eval.Once.{evaluated_once}
 use Rattle.evaluation_steps.specs.Gives.{GivesLeaving}
 use Rattle.command_correctness.specs.Asked.{Asked, answer_of, GivesWith, TrapsWith, Prints, TellsTrap}
 use Rattle.command_correctness.proofs.Sources.{entry, means}

@@ -15,23 +15,23 @@ use Rattle.fip_language.proofs.OnePlace.{IsPlace-not_spelt}
 use Rattle.fip_language.proofs.Words.{slice_get-map}
 use Rattle.fip_base.specs.declared.plain.Stack.{Stack}
 use Rattle.fip_trees.specs.Tree.{Instance, Program}
-use Rattle.command_run.specs.fip_trees.declared.groups.Member.{Member}
-use Rattle.command_run.specs.tail_groups.Members.{AreMembers, FipCallsFip, frame, stack}
-use Rattle.command_run.specs.tail_groups.Registers.{registers}
-use Rattle.command_run.specs.tail_groups.Rules.{is_fip}
-use Rattle.command_words.specs.Words.{Room}
-use Rattle.command_outcome.specs.declared.failure.Failure.{Failure}
-use Rattle.command_outcome.specs.declared.failure.Failure.TheVariants as F
-use Rattle.command_run.proofs.source_report.FipCalls.{fip_calls}
-use Rattle.command_run.proofs.source_report.Once.{accepted_once}
-use Rattle.command_run.specs.session_semantics.Talk.{frames_of}
-use Rattle.command_run.specs.command_eval.EvalAnswer.{Entry, Spells}
-use Rattle.command_run.proofs.command_eval.Once.{one_program, one_root, typed_alike, one_text}
-use Rattle.command_run.specs.CodeRun.{words_for}
-use Rattle.command_run.specs.ExecAnswer.{Execs, Misspelt, Small, Ran, RunsOn, TellsRun, frames_for, words_of}
-use Rattle.command_run.specs.ExecAnswer as X
-use Rattle.command_run.proofs.Entry.{root_at}
-use Rattle.command_run.proofs.ExecOnce.{answers_alike, member_at, same_answer}
+use Rattle.command_library.specs.command_run.fip_trees.declared.groups.Member.{Member}
+use Rattle.command_library.specs.command_run.tail_groups.Members.{AreMembers, FipCallsFip, frame, stack}
+use Rattle.command_library.specs.command_run.tail_groups.Registers.{registers}
+use Rattle.command_library.specs.command_run.tail_groups.Rules.{is_fip}
+use Rattle.command_library.specs.command_words.Words.{Room}
+use Rattle.command_library.specs.command_outcome.declared.failure.Failure.{Failure}
+use Rattle.command_library.specs.command_outcome.declared.failure.Failure.TheVariants as F
+use Rattle.command_library.proofs.command_run.source_report.FipCalls.{fip_calls}
+use Rattle.command_library.proofs.command_run.source_report.Once.{accepted_once}
+use Rattle.command_library.specs.command_run.session_semantics.Talk.{frames_of}
+use Rattle.command_library.specs.command_run.command_eval.EvalAnswer.{Entry, Spells}
+use Rattle.command_library.proofs.command_run.command_eval.Once.{one_program, one_root, typed_alike, one_text}
+use Rattle.command_library.specs.command_run.CodeRun.{words_for}
+use Rattle.command_library.specs.command_run.ExecAnswer.{Execs, Misspelt, Small, Ran, RunsOn, TellsRun, frames_for, words_of}
+use Rattle.command_library.specs.command_run.ExecAnswer as X
+use Rattle.command_library.proofs.command_run.Entry.{root_at}
+use Rattle.command_library.proofs.command_run.ExecOnce.{answers_alike, member_at, same_answer}
 use Rattle.command_correctness.specs.Asked.{Asked, answer_of, GivesWith, TrapsWith, Prints, TellsTrap, Suffices}
 use Rattle.command_correctness.proofs.Sources.{entry, means}
 

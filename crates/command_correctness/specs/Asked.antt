@@ -10,12 +10,12 @@ use Rattle.fip_language.specs.ValueText.{SpellsValues}
 use Rattle.fip_trees.specs.Tree.{Program}
 use Rattle.instance_semantics.specs.Meaning.{flat_meaning}
 use Rattle.evaluation_steps.specs.Gives.{GivesLeaving}
-use Rattle.command_outcome.specs.declared.failure.Failure.{Failure}
-use Rattle.command_outcome.specs.declared.failure.Failure.TheVariants as F
-use Rattle.command_words.specs.Words.{Room}
-use Rattle.command_run.specs.command_eval.type_safety.Soundness.{parameter_types}
-use Rattle.command_run.specs.command_source.Entries.{IsRootedIn}
-use Rattle.command_run.specs.CodeRun.{words_for}
+use Rattle.command_library.specs.command_outcome.declared.failure.Failure.{Failure}
+use Rattle.command_library.specs.command_outcome.declared.failure.Failure.TheVariants as F
+use Rattle.command_library.specs.command_words.Words.{Room}
+use Rattle.command_library.specs.command_run.command_eval.type_safety.Soundness.{parameter_types}
+use Rattle.command_library.specs.command_run.command_source.Entries.{IsRootedIn}
+use Rattle.command_library.specs.command_run.CodeRun.{words_for}
 
 -- The source breaks no rule, the program is its typed program, the instance is its root of this name, and the input is
 -- the text of the arguments.

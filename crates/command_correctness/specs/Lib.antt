@@ -1,2 +1,3 @@
 pub mod Asked
-pub use Rattle.command_run.specs.command_source as command_source
+pub mod Drawn
+pub use Rattle.command_library.specs.command_run.command_source as command_source

@@ -1,14 +1,17 @@
 // What `eval` and `exec` print of a function is what the evaluation of its instance gives. So what is proved of the
-// evaluation holds of both commands. Each theorem is the contract of a function that does nothing.
+// evaluation holds of both commands; and of `gen`, which runs a function of the library, whose text comes to the program
+// that is written out. Each theorem is the contract of a function that does nothing.
 #![tactic(auto)]
 
-ghost use Rattle.std.specs.Prelude.{ℕ, ◌≤◌, List, false, Result};
+ghost use Rattle.std.specs.Prelude.{◌≡◌, ℕ, ◌≤◌, List, false, Result, Ok};
 ghost use Rattle.fip_language.specs.declared.TrapKind.{TrapKind as a_trap};
 ghost use Rattle.fip_language.specs.Values.{Values};
-ghost use Rattle.command_outcome.specs.declared.failure.Failure.{Failure as a_failure};
-ghost use Rattle.command_words.specs.Words.{Room as a_room};
-ghost use Rattle.command_run.specs.command_eval.EvalAnswer.{Evaluates};
-ghost use Rattle.command_run.specs.ExecAnswer.{Execs};
+ghost use Rattle.command_library.specs.command_outcome.declared.failure.Failure.{Failure as a_failure};
+ghost use Rattle.command_library.specs.command_words.Words.{Room as a_room, most_count};
+ghost use Rattle.command_library.specs.command_run.command_eval.EvalAnswer.{Evaluates};
+ghost use Rattle.command_library.specs.command_run.ExecAnswer.{Execs};
+ghost use Rattle.command_library.specs.GenAnswer.{Generates};
+ghost use Rattle.command_correctness.specs.Drawn.{drawn_text};
 ghost use Rattle.command_correctness.specs.Asked.{Asked, GivesWith, TrapsWith, Prints, TellsTrap, Suffices};
 
 /// `eval` prints the values that the evaluation gives with its calls and frames, and tells the trap where it is one.
@@ -29,4 +32,12 @@ pub fn exec_tells_what_the_evaluation_gives()
     ensures trap { (a : Asked) (room : a_room) (least : ℕ) (kind : a_trap) (line col : ℕ)
         (e : Result (List ℕ) a_failure) → TrapsWith a room.calls least kind line col → Suffices a least room →
         Execs a.source a.name a.input room false e → TellsTrap kind line col e }
+{}
+
+/// What `gen` prints tells how many keys its seed draws, how many different ones these are, and the least and the
+/// greatest of them. No more than 100,000 are asked for.
+#[tactic(auto, using(crate::proofs::Drawn::gen_tells))]
+pub fn gen_tells_of_the_drawn_keys()
+    ensures text { (seed count : ℕ) (text : List ℕ) → count ≤ most_count → Generates seed count (Ok text) →
+        text ≡ drawn_text seed count }
 {}

@@ -1,0 +1,11 @@
+mod Cutting
+mod CoreParts
+mod ListCore
+mod TreeCore
+mod RedBlackCore
+mod FingerCore
+mod Deriving
+pub mod ListText
+pub mod TreeText
+pub mod RedBlackText
+pub mod FingerText

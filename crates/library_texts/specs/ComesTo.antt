@@ -1,0 +1,10 @@
+-- What a text comes to, if anything: no other program is its typed program.
+--
+-- Whether it is accepted at all is another question, which a run of the front end answers. Of the empty text's program
+-- it is said too; and a text that breaks a rule comes to any program.
+use Rattle.std.specs.Prelude.{◌≡◌, ℕ, List}
+use Rattle.source_report.specs.fip_trees.Tree.{Program}
+use Rattle.source_report.specs.Report.{IsAccepted}
+
+abbrev pub ComesTo : List ℕ → Program → Type 0
+ComesTo text p = (q : Program) → IsAccepted text q → q ≡ p

@@ -1,0 +1,23 @@
+// What the texts of the library come to: each to the program that is written out. The theorem is the contract of a
+// function that does nothing.
+#![tactic(auto)]
+
+ghost use Rattle.fip_library.specs.declared.list.TheConstants as list_text;
+ghost use Rattle.fip_library.specs.declared.tree.TheConstants as tree_text;
+ghost use Rattle.fip_library.specs.declared.rbtree.TheConstants as rbtree_text;
+ghost use Rattle.fip_library.specs.declared.finger.TheConstants as finger_text;
+ghost use Rattle.library_programs.specs.ListProgram.{list_program};
+ghost use Rattle.library_programs.specs.TreeProgram.{tree_program};
+ghost use Rattle.library_programs.specs.RedBlackProgram.{rbtree_program};
+ghost use Rattle.library_programs.specs.FingerProgram.{finger_program};
+ghost use Rattle.library_texts.specs.ComesTo.{ComesTo};
+
+/// Each text of the library has just the typed program that is written out, places included, where it breaks no rule.
+/// For who reads the theorems on these programs and runs the texts.
+#[tactic(auto, using(crate::proofs::ListText::list_comes, crate::proofs::TreeText::tree_comes, crate::proofs::RedBlackText::rbtree_comes, crate::proofs::FingerText::finger_comes))]
+pub fn the_texts_come_to_the_programs()
+    ensures list { ComesTo list_text.TEXT.now list_program }
+    ensures tree { ComesTo tree_text.TEXT.now tree_program }
+    ensures rbtree { ComesTo rbtree_text.TEXT.now rbtree_program }
+    ensures finger { ComesTo finger_text.TEXT.now finger_program }
+{}

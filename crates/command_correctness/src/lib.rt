@@ -36,7 +36,6 @@ pub fn exec_tells_what_the_evaluation_gives()
 
 /// What `gen` prints tells how many keys its seed draws, how many different ones these are, and the least and the
 /// greatest of them. No more than 100,000 are asked for.
-#[tactic(auto, using(crate::proofs::Drawn::gen_tells))]
 pub fn gen_tells_of_the_drawn_keys()
     ensures text { (seed count : ℕ) (text : List ℕ) → count ≤ most_count → Generates seed count (Ok text) →
         text ≡ drawn_text seed count }

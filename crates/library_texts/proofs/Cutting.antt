@@ -1,5 +1,5 @@
 -- How a text is cut, by computation: the first piece of a text with the proof that it is one, and so the whole.
-use Rattle.std.proofs.Common.{◌≡◌, ℕ, zero, suc, ◌+◌, Bool, true, false, ◌==◌, List, [], ◌∷◌, ◌++◌, length, take, drop, Option, Some, None, arith, refl, sym, ap, ap₂, subst, ◌∙◌}
+use Rattle.std.proofs.Common.{◌≡◌, ℕ, zero, suc, ◌+◌, Bool, true, false, ◌==◌, List, [], ◌∷◌, length, take, drop, Option, Some, None, arith, refl, sym, ap, ap₂, subst, ◌∙◌}
 use Rattle.std.specs.Prelude.{is_some, codes}
 use Rattle.std.specs.List.{prefix_len}
 use Rattle.std.specs.Str.{bytes_eq}
@@ -9,7 +9,7 @@ use Rattle.std.proofs.Math.Seq.{drop-append_seam}
 use Rattle.source_report.specs.fip_language.declared.Place.{Place}
 use Rattle.source_report.specs.fip_grammar.Token.{Word, Upper, Number, Mark, Token}
 use Rattle.source_report.specs.fip_grammar.declared.Sign.TheVariants as S
-use Rattle.source_report.specs.fip_grammar.Cut.{is_lower, is_upper, is_digit, is_name, keyword_or_name, single_sign, IsFirst, is_blank, is_comment, is_gap, is_no_lf, Piece, Blank, Comment, Cut, piece_text, BeginsWith, along, next_line, first_place, Pieces, tokens_of, behind_all, IsCut}
+use Rattle.source_report.specs.fip_grammar.Cut.{is_lower, is_upper, is_digit, is_name, keyword_or_name, single_sign, IsFirst, is_blank, is_comment, is_gap, is_no_lf, Piece, Blank, Comment, Cut, piece_text, along, next_line, first_place, Pieces, tokens_of, behind_all, IsCut}
 use Rattle.source_report.specs.fip_grammar.Claims.{double_start, IsFront}
 use Rattle.source_report.proofs.fip_grammar.Fronts.{first_bang, first_lower, first_upper, first_digit, first_double, first_single, gap_lf, gap_blank, gap_comment, gap_none, cut_first}
 

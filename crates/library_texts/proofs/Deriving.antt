@@ -13,7 +13,6 @@ use Rattle.source_report.specs.fip_language.Every.{Among}
 use Rattle.source_report.specs.fip_language.Mentions.{all_of}
 use Rattle.source_report.specs.fip_language.Prefix.{Outcome, Accepted, Stopped, run}
 use Rattle.source_report.specs.fip_language.Surface as Surface
-use Rattle.source_report.specs.fip_grammar.Token.{Token}
 use Rattle.source_report.specs.fip_grammar.Machine.{machine_step, machine_end, start}
 use Rattle.source_report.specs.fip_grammar.Grammar.{Spells}
 use Rattle.source_report.specs.fip_grammar.Limits.{IsSpelt}
@@ -32,7 +31,7 @@ use Rattle.source_report.specs.static_params.FlatSource.{flat_source}
 use Rattle.source_report.proofs.static_params.GoodTypes.{firsts_among}
 use Rattle.source_report.proofs.static_params.TypeRows.{closed_same}
 use Rattle.source_report.specs.type_check.Faults.{filled}
-use Rattle.source_report.specs.Report.{IsParsed, IsTyped, IsAccepted}
+use Rattle.source_report.specs.Report.{IsParsed, IsTyped}
 use Rattle.source_report.proofs.Once.{numbers_once}
 use Rattle.library_texts.specs.ComesTo.{ComesTo}
 use Rattle.library_texts.proofs.Cutting.{all_pieces, tokens_in, is_cut}

@@ -14,7 +14,6 @@ ghost use Rattle.library_texts.specs.ComesTo.{ComesTo};
 
 /// Each text of the library has just the typed program that is written out, places included, where it breaks no rule.
 /// For who reads the theorems on these programs and runs the texts.
-#[tactic(auto, using(crate::proofs::ListText::list_comes, crate::proofs::TreeText::tree_comes, crate::proofs::RedBlackText::rbtree_comes, crate::proofs::FingerText::finger_comes))]
 pub fn the_texts_come_to_the_programs()
     ensures list { ComesTo list_text.TEXT.now list_program }
     ensures tree { ComesTo tree_text.TEXT.now tree_program }

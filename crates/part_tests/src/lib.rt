@@ -1,5 +1,5 @@
-// Tests at run time of parts of the program by their public calls: what no clause says, or examples from outside of what
-// one says. Those of the whole program are in `program_tests`.
+// Tests at run time of parts of the program by their public calls: what no clause says, or examples from outside of
+// what one says. Those of sessions and tasks are in `session_tests`, those of the whole program in `program_tests`.
 #![tactic(auto)]
 
 #[cfg(test)]
@@ -8,5 +8,3 @@ mod core_forms;
 mod core_text;
 #[cfg(test)]
 mod parts;
-#[cfg(test)]
-mod sessions;

@@ -2,4 +2,3 @@
 
 mod real_files;
 mod streams;
-mod turns;

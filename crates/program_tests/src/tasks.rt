@@ -1,9 +1,10 @@
 // What sessions, tasks, derivations and traces answer, each command with every status that it can end with.
 
-use crate::host::programs::{LISTS, NOT_UNDERSTOOD};
-use crate::host::{Host, Row, first_wrong_run, host_of, run};
+use crate::program::Fp2;
 use std::alloc::{AllocError, Global};
 use std::test::Fail;
+use test_host::programs::{LISTS, NOT_UNDERSTOOD};
+use test_host::{Host, Row, first_wrong_run, host_of, run};
 
 // Over `LISTS`.
 const SESSIONS: &[Row<'static>] = &[
@@ -149,7 +150,7 @@ fn ends(
     status: u8,
     text: &str,
 ) -> Result<bool, AllocError> {
-    let seen = run(alloc, words, host)?;
+    let seen = run::<Fp2>(alloc, words, host)?;
     let is_printed = if status == 0 {
         seen.out.as_slice() == text.as_bytes()
     } else {
@@ -161,7 +162,7 @@ fn ends(
 // The file that a command stores over `LISTS`; no bytes where it stores none.
 fn stored(alloc: Global, words: &str, input: &str) -> Result<Vec<u8>, AllocError> {
     let host = host_of(LISTS.as_bytes(), input.as_bytes());
-    match &run(alloc, words, host)?.stored {
+    match &run::<Fp2>(alloc, words, host)?.stored {
         Some(bytes) => Vec::from_slice(alloc, bytes.as_slice()),
         None => Ok(Vec::new(alloc)),
     }
@@ -188,7 +189,10 @@ fn is_replayed(alloc: Global, trace: &[u8], first: &str, last: &str) -> Result<b
 #[test]
 fn sessions_answer_each_line(rt: HostRuntime) -> Result<(), Fail> {
     let lists = LISTS.as_bytes();
-    assert_eq!(rt; first_wrong_run(rt.alloc(), "", lists, SESSIONS)?, None);
+    assert_eq!(rt;
+        first_wrong_run::<Fp2>(rt.alloc(), "", lists, SESSIONS)?,
+        None
+    );
     let wrong = b"fip fun f(x: int): int { y }\n";
     let host = host_of(wrong, b"? a\n");
     assert!(rt; ends(rt.alloc(), "session a.fp", host, 1, "E31 at 1:26: y\n")?);
@@ -198,14 +202,17 @@ fn sessions_answer_each_line(rt: HostRuntime) -> Result<(), Fail> {
 #[test]
 fn tasks_answer_each_call(rt: HostRuntime) -> Result<(), Fail> {
     let lists = LISTS.as_bytes();
-    assert_eq!(rt; first_wrong_run(rt.alloc(), "", lists, TASKS)?, None);
+    assert_eq!(rt; first_wrong_run::<Fp2>(rt.alloc(), "", lists, TASKS)?, None);
     Ok(())
 }
 
 #[test]
 fn derivations_and_traces_are_stored(rt: HostRuntime) -> Result<(), Fail> {
     let lists = LISTS.as_bytes();
-    assert_eq!(rt; first_wrong_run(rt.alloc(), "", lists, STORED)?, None);
+    assert_eq!(rt;
+        first_wrong_run::<Fp2>(rt.alloc(), "", lists, STORED)?,
+        None
+    );
     Ok(())
 }
 

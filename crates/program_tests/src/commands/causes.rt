@@ -1,9 +1,10 @@
 // Which cause is named where several stand together, and what isn't read or stored then.
 
-use crate::host::programs::{LISTS, NEW_REVERSE};
-use crate::host::{Host, Seen, bytes_of, host_of, repeated, run};
+use crate::program::Fp2;
 use std::alloc::{AllocError, Global};
 use std::test::Fail;
+use test_host::programs::{LISTS, NEW_REVERSE};
+use test_host::{Host, Seen, bytes_of, host_of, repeated, run};
 
 // The first command line that, over a host, doesn't end with this status and this text on err, without having read a
 // byte of the input or changed a file.
@@ -15,7 +16,7 @@ fn first_other(
     text: &str,
 ) -> Result<Option<&'static str>, AllocError> {
     for words in lines {
-        let seen = run(alloc, words, host)?;
+        let seen = run::<Fp2>(alloc, words, host)?;
         if !is_refused(&seen, host, status, text) {
             return Ok(Some(*words));
         }
@@ -148,7 +149,7 @@ fn is_padded(
     texts: (&str, &str),
 ) -> Result<bool, AllocError> {
     let input = repeated(alloc, &[("Nil\n", 2), ("\n", feeds)])?;
-    let seen = run(alloc, words, host_of(LISTS.as_bytes(), input.as_bytes()))?;
+    let seen = run::<Fp2>(alloc, words, host_of(LISTS.as_bytes(), input.as_bytes()))?;
     Ok(
         seen.status == status
             && seen.out.as_slice() == texts.0.as_bytes()

@@ -1,9 +1,10 @@
 // The texts of `library`: each is a right program, whose functions give what they should.
 
-use crate::host::programs::{LIST, REVERSED};
-use crate::host::{Host, Row, first_wrong_run, host_of, run};
+use crate::program::Fp2;
 use std::alloc::{AllocError, Global};
 use std::test::Fail;
+use test_host::programs::{LIST, REVERSED};
+use test_host::{Host, Row, first_wrong_run, host_of, run};
 
 // Over the text of `library list`.
 const ON_LIST: &[Row<'static>] = &[
@@ -173,7 +174,7 @@ close fip stack 0 frames 10 words
 // What a command without a file prints; no bytes where it doesn't end with status 0, or reads the input or changes a
 // file.
 fn printed(alloc: Global, words: &str) -> Result<Vec<u8>, AllocError> {
-    let seen = run(alloc, words, host_of(b"", b"Nil\n"))?;
+    let seen = run::<Fp2>(alloc, words, host_of(b"", b"Nil\n"))?;
     if seen.status == 0 && seen.err.is_empty() && seen.left == 4 && seen.same_files {
         Ok(seen.out)
     } else {
@@ -185,9 +186,15 @@ fn printed(alloc: Global, words: &str) -> Result<Vec<u8>, AllocError> {
 fn the_texts_of_lists_and_trees_are_right(rt: HostRuntime) -> Result<(), Fail> {
     let alloc = rt.alloc();
     let list = printed(alloc, "library list")?;
-    assert_eq!(rt; first_wrong_run(alloc, "", list.as_slice(), ON_LIST)?, None);
+    assert_eq!(rt;
+        first_wrong_run::<Fp2>(alloc, "", list.as_slice(), ON_LIST)?,
+        None
+    );
     let tree = printed(alloc, "library tree")?;
-    assert_eq!(rt; first_wrong_run(alloc, "", tree.as_slice(), ON_TREE)?, None);
+    assert_eq!(rt;
+        first_wrong_run::<Fp2>(alloc, "", tree.as_slice(), ON_TREE)?,
+        None
+    );
     Ok(())
 }
 
@@ -196,12 +203,12 @@ fn the_texts_of_search_trees_and_finger_trees_are_right(rt: HostRuntime) -> Resu
     let alloc = rt.alloc();
     let rbtree = printed(alloc, "library rbtree")?;
     assert_eq!(rt;
-        first_wrong_run(alloc, "", rbtree.as_slice(), ON_RBTREE)?,
+        first_wrong_run::<Fp2>(alloc, "", rbtree.as_slice(), ON_RBTREE)?,
         None
     );
     let finger = printed(alloc, "library finger")?;
     assert_eq!(rt;
-        first_wrong_run(alloc, "", finger.as_slice(), ON_FINGER)?,
+        first_wrong_run::<Fp2>(alloc, "", finger.as_slice(), ON_FINGER)?,
         None
     );
     Ok(())
@@ -216,7 +223,7 @@ fn a_text_calls_no_folder_and_may_fill_out(rt: HostRuntime) -> Result<(), Fail> 
         room: 100,
         ..host_of(b"", b"Nil\n")
     };
-    let seen = run(alloc, "library tree", host)?;
+    let seen = run::<Fp2>(alloc, "library tree", host)?;
     assert_eq!(rt; seen.status, 9);
     assert_eq!(rt; seen.out.len(), 100);
     assert!(rt; text.starts_with(seen.out.as_slice()));

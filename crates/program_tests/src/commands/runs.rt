@@ -1,9 +1,10 @@
 // What `exec`, `run` and `eval` end with, one table for all where they end alike.
 
-use crate::host::programs::{ARGUMENTS, LIST, LISTS, MAPS, NOT_UNDERSTOOD, REVERSED};
-use crate::host::{Row, first_wrong_run, host_of, run};
+use crate::program::Fp2;
 use std::alloc::{AllocError, Global};
 use std::test::Fail;
+use test_host::programs::{ARGUMENTS, LIST, LISTS, MAPS, NOT_UNDERSTOOD, REVERSED};
+use test_host::{Row, first_wrong_run, host_of, run};
 
 // Behind the command and its file, over `LISTS`: what `exec`, `run` and `eval` end with.
 const EVERYWHERE: &[Row<'static>] = &[
@@ -248,7 +249,7 @@ const OPERATED: &[Row<'static>] = &[
 
 // The code file that `compile` stores for a source; no bytes where it stores none.
 fn compiled(alloc: Global, source: &str) -> Result<Vec<u8>, AllocError> {
-    let seen = run(alloc, "compile a.fp b.fpc", host_of(source.as_bytes(), b""))?;
+    let seen = run::<Fp2>(alloc, "compile a.fp b.fpc", host_of(source.as_bytes(), b""))?;
     match &seen.stored {
         Some(bytes) => Vec::from_slice(alloc, bytes.as_slice()),
         None => Ok(Vec::new(alloc)),
@@ -263,17 +264,20 @@ fn exec_runs_a_source(rt: HostRuntime) -> Result<(), Fail> {
     let alloc = rt.alloc();
     let lists = LISTS.as_bytes();
     assert_eq!(rt;
-        first_wrong_run(alloc, "exec a.fp ", lists, EVERYWHERE)?,
+        first_wrong_run::<Fp2>(alloc, "exec a.fp ", lists, EVERYWHERE)?,
         None
     );
     assert_eq!(rt;
-        first_wrong_run(alloc, "exec a.fp ", lists, ON_THE_MACHINE)?,
+        first_wrong_run::<Fp2>(alloc, "exec a.fp ", lists, ON_THE_MACHINE)?,
         None
     );
     let maps = MAPS.as_bytes();
-    assert_eq!(rt; first_wrong_run(alloc, "exec a.fp ", maps, MAPPED)?, None);
     assert_eq!(rt;
-        first_wrong_run(alloc, "exec a.fp ", maps, MAPPED_ON_THE_MACHINE)?,
+        first_wrong_run::<Fp2>(alloc, "exec a.fp ", maps, MAPPED)?,
+        None
+    );
+    assert_eq!(rt;
+        first_wrong_run::<Fp2>(alloc, "exec a.fp ", maps, MAPPED_ON_THE_MACHINE)?,
         None
     );
     Ok(())
@@ -284,24 +288,24 @@ fn run_runs_a_stored_code_as_exec_its_source(rt: HostRuntime) -> Result<(), Fail
     let alloc = rt.alloc();
     let lists = compiled(alloc, LISTS)?;
     assert_eq!(rt;
-        first_wrong_run(alloc, "run a.fp ", lists.as_slice(), EVERYWHERE)?,
+        first_wrong_run::<Fp2>(alloc, "run a.fp ", lists.as_slice(), EVERYWHERE)?,
         None
     );
     assert_eq!(rt;
-        first_wrong_run(alloc, "run a.fp ", lists.as_slice(), ON_THE_MACHINE)?,
+        first_wrong_run::<Fp2>(alloc, "run a.fp ", lists.as_slice(), ON_THE_MACHINE)?,
         None
     );
     assert_eq!(rt;
-        first_wrong_run(alloc, "run a.fp ", lists.as_slice(), PLAIN)?,
+        first_wrong_run::<Fp2>(alloc, "run a.fp ", lists.as_slice(), PLAIN)?,
         None
     );
     let maps = compiled(alloc, MAPS)?;
     assert_eq!(rt;
-        first_wrong_run(alloc, "run a.fp ", maps.as_slice(), MAPPED)?,
+        first_wrong_run::<Fp2>(alloc, "run a.fp ", maps.as_slice(), MAPPED)?,
         None
     );
     assert_eq!(rt;
-        first_wrong_run(alloc, "run a.fp ", maps.as_slice(), MAPPED_ON_THE_MACHINE)?,
+        first_wrong_run::<Fp2>(alloc, "run a.fp ", maps.as_slice(), MAPPED_ON_THE_MACHINE)?,
         None
     );
     Ok(())
@@ -311,11 +315,11 @@ fn run_runs_a_stored_code_as_exec_its_source(rt: HostRuntime) -> Result<(), Fail
 fn eval_evaluates_a_source(rt: HostRuntime) -> Result<(), Fail> {
     let alloc = rt.alloc();
     assert_eq!(rt;
-        first_wrong_run(alloc, "eval a.fp ", LISTS.as_bytes(), EVERYWHERE)?,
+        first_wrong_run::<Fp2>(alloc, "eval a.fp ", LISTS.as_bytes(), EVERYWHERE)?,
         None
     );
     assert_eq!(rt;
-        first_wrong_run(alloc, "eval a.fp ", MAPS.as_bytes(), MAPPED)?,
+        first_wrong_run::<Fp2>(alloc, "eval a.fp ", MAPS.as_bytes(), MAPPED)?,
         None
     );
     Ok(())
@@ -326,16 +330,16 @@ fn operators_trap_where_the_exact_result_is_outside(rt: HostRuntime) -> Result<(
     let alloc = rt.alloc();
     let source = OPERATORS.as_bytes();
     assert_eq!(rt;
-        first_wrong_run(alloc, "exec a.fp ", source, OPERATED)?,
+        first_wrong_run::<Fp2>(alloc, "exec a.fp ", source, OPERATED)?,
         None
     );
     assert_eq!(rt;
-        first_wrong_run(alloc, "eval a.fp ", source, OPERATED)?,
+        first_wrong_run::<Fp2>(alloc, "eval a.fp ", source, OPERATED)?,
         None
     );
     let code = compiled(alloc, OPERATORS)?;
     assert_eq!(rt;
-        first_wrong_run(alloc, "run a.fp ", code.as_slice(), OPERATED)?,
+        first_wrong_run::<Fp2>(alloc, "run a.fp ", code.as_slice(), OPERATED)?,
         None
     );
     Ok(())
@@ -360,7 +364,7 @@ const LEFT: &[(&str, &str, Option<usize>)] = &[
 fn a_run_that_ended_leaves_its_cells(rt: HostRuntime) -> Result<(), Fail> {
     for (words, input, cells) in LEFT {
         let host = host_of(LISTS.as_bytes(), input.as_bytes());
-        assert_eq!(rt; run(rt.alloc(), words, host)?.cells, *cells);
+        assert_eq!(rt; run::<Fp2>(rt.alloc(), words, host)?.cells, *cells);
     }
     Ok(())
 }

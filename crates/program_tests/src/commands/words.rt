@@ -1,8 +1,9 @@
 // Command lines: what is one, and what each command does with the words of its own.
 
-use crate::host::programs::{ARGUMENTS, FUNCTIONS, LISTS, MISSING};
-use crate::host::{Row, first_understood, first_wrong_run};
+use crate::program::Fp2;
 use std::test::Fail;
+use test_host::programs::{ARGUMENTS, FUNCTIONS, LISTS, MISSING};
+use test_host::{Row, first_understood, first_wrong_run};
 
 // Over `LISTS`.
 const LINES: &[Row<'static>] = &[
@@ -111,7 +112,7 @@ const NO_COMMANDS: &[&str] = &[
 #[test]
 fn each_command_line_ends_with_its_status_and_text(rt: HostRuntime) -> Result<(), Fail> {
     assert_eq!(rt;
-        first_wrong_run(rt.alloc(), "", LISTS.as_bytes(), LINES)?,
+        first_wrong_run::<Fp2>(rt.alloc(), "", LISTS.as_bytes(), LINES)?,
         None
     );
     Ok(())
@@ -120,7 +121,7 @@ fn each_command_line_ends_with_its_status_and_text(rt: HostRuntime) -> Result<()
 #[test]
 fn other_words_are_not_understood(rt: HostRuntime) -> Result<(), Fail> {
     assert_eq!(rt;
-        first_understood(rt.alloc(), LISTS.as_bytes(), NO_COMMANDS)?,
+        first_understood::<Fp2>(rt.alloc(), LISTS.as_bytes(), NO_COMMANDS)?,
         None
     );
     Ok(())

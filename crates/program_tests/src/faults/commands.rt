@@ -1,10 +1,10 @@
 // Each call of each object of a host fails in turn, the streams moving one byte a call, until a run ends without a
 // fault.
 
-use crate::host::programs::{ARGUMENTS, FUNCTIONS, LIST, LISTS, NEW_REVERSE, NOT_UNDERSTOOD};
-use crate::host::{FaultRow, bytes_of, first_wrong_faults, host_of, untold_runs};
-use command_outcome::Object;
+use crate::program::Fp2;
 use std::test::Fail;
+use test_host::programs::{ARGUMENTS, FUNCTIONS, LIST, LISTS, NEW_REVERSE, NOT_UNDERSTOOD};
+use test_host::{FaultRow, Object, bytes_of, first_wrong_faults, host_of, untold_runs};
 
 // Over `LISTS`. The counts are those of the folder, the input, out and err.
 const ON_SOURCES: &[FaultRow<'static>] = &[
@@ -117,7 +117,7 @@ bound: 0 frames, 9 words
 #[test]
 fn each_fault_of_a_command_over_a_source_is_told(rt: HostRuntime) -> Result<(), Fail> {
     assert_eq!(rt;
-        first_wrong_faults(rt.alloc(), host_of(LISTS.as_bytes(), b""), ON_SOURCES)?,
+        first_wrong_faults::<Fp2>(rt.alloc(), host_of(LISTS.as_bytes(), b""), ON_SOURCES)?,
         None
     );
     Ok(())
@@ -126,7 +126,7 @@ fn each_fault_of_a_command_over_a_source_is_told(rt: HostRuntime) -> Result<(), 
 #[test]
 fn each_fault_of_a_command_without_a_file_is_told(rt: HostRuntime) -> Result<(), Fail> {
     assert_eq!(rt;
-        first_wrong_faults(rt.alloc(), host_of(b"", b""), ON_NO_FILE)?,
+        first_wrong_faults::<Fp2>(rt.alloc(), host_of(b"", b""), ON_NO_FILE)?,
         None
     );
     Ok(())
@@ -137,7 +137,7 @@ fn each_fault_of_a_command_over_a_code_is_told(rt: HostRuntime) -> Result<(), Fa
     let alloc = rt.alloc();
     let code = bytes_of(alloc, NEW_REVERSE)?;
     assert_eq!(rt;
-        first_wrong_faults(alloc, host_of(code.as_slice(), b""), ON_CODES)?,
+        first_wrong_faults::<Fp2>(alloc, host_of(code.as_slice(), b""), ON_CODES)?,
         None
     );
     Ok(())
@@ -148,11 +148,26 @@ fn a_fault_that_cannot_be_told_stays_status_9(rt: HostRuntime) -> Result<(), Fai
     let alloc = rt.alloc();
     let lists = LISTS.as_bytes();
     let row = ("exec a.fp inc", LIST, 0, "Cons(2, Cons(3, Cons(4, Nil)))\n");
-    assert_eq!(rt; untold_runs(alloc, lists, row, Object::Folder)?, Some(14));
-    assert_eq!(rt; untold_runs(alloc, lists, row, Object::Input)?, Some(13));
-    assert_eq!(rt; untold_runs(alloc, lists, row, Object::Out)?, Some(11));
+    assert_eq!(rt;
+        untold_runs::<Fp2>(alloc, lists, row, Object::Folder)?,
+        Some(14)
+    );
+    assert_eq!(rt;
+        untold_runs::<Fp2>(alloc, lists, row, Object::Input)?,
+        Some(13)
+    );
+    assert_eq!(rt;
+        untold_runs::<Fp2>(alloc, lists, row, Object::Out)?,
+        Some(11)
+    );
     let row = ("compile a.fp b.fpc", "", 0, FUNCTIONS);
-    assert_eq!(rt; untold_runs(alloc, lists, row, Object::Folder)?, Some(14));
-    assert_eq!(rt; untold_runs(alloc, lists, row, Object::Out)?, Some(11));
+    assert_eq!(rt;
+        untold_runs::<Fp2>(alloc, lists, row, Object::Folder)?,
+        Some(14)
+    );
+    assert_eq!(rt;
+        untold_runs::<Fp2>(alloc, lists, row, Object::Out)?,
+        Some(11)
+    );
     Ok(())
 }

@@ -1,11 +1,11 @@
 // `exec` of a source that breaks no rule, and of some that do.
 
-use crate::host::programs::{ARGUMENTS, NOT_UNDERSTOOD, REVERSED};
-use crate::host::{
-    FaultRow, Host, Row, first_wrong_faults, first_wrong_run, host_of, run, untold_runs,
-};
-use command_outcome::Object;
+use crate::program::Fp2;
 use std::test::Fail;
+use test_host::programs::{ARGUMENTS, NOT_UNDERSTOOD, REVERSED};
+use test_host::{
+    FaultRow, Host, Object, Row, first_wrong_faults, first_wrong_run, host_of, run, untold_runs,
+};
 
 // The program that reverses a list in its own cells.
 const REVERSE: &str = "data ints { Nil; Cons(int, ints) }
@@ -63,7 +63,7 @@ const ROWS: &[Row<'static>] = &[
 #[test]
 fn a_source_runs(rt: HostRuntime) -> Result<(), Fail> {
     assert_eq!(rt;
-        first_wrong_run(rt.alloc(), "exec a.fp ", REVERSE.as_bytes(), ROWS)?,
+        first_wrong_run::<Fp2>(rt.alloc(), "exec a.fp ", REVERSE.as_bytes(), ROWS)?,
         None
     );
     Ok(())
@@ -88,7 +88,7 @@ fn the_entry_is_looked_up_behind_all_rules(rt: HostRuntime) -> Result<(), Fail> 
     for (source, text) in REFUSED {
         let rows: [Row<'_>; 1] = [("exec a.fp rev", ARGUMENTS, 1, *text)];
         assert_eq!(rt;
-            first_wrong_run(rt.alloc(), "", source.as_bytes(), &rows)?,
+            first_wrong_run::<Fp2>(rt.alloc(), "", source.as_bytes(), &rows)?,
             None
         );
     }
@@ -113,13 +113,22 @@ fn each_fault_is_told(rt: HostRuntime) -> Result<(), Fail> {
     let alloc = rt.alloc();
     let source = REVERSE.as_bytes();
     assert_eq!(rt;
-        first_wrong_faults(alloc, host_of(source, b""), FAULTS)?,
+        first_wrong_faults::<Fp2>(alloc, host_of(source, b""), FAULTS)?,
         None
     );
     let row = ("exec a.fp rev", ARGUMENTS, 0, REVERSED);
-    assert_eq!(rt; untold_runs(alloc, source, row, Object::Folder)?, Some(14));
-    assert_eq!(rt; untold_runs(alloc, source, row, Object::Input)?, Some(13));
-    assert_eq!(rt; untold_runs(alloc, source, row, Object::Out)?, Some(11));
+    assert_eq!(rt;
+        untold_runs::<Fp2>(alloc, source, row, Object::Folder)?,
+        Some(14)
+    );
+    assert_eq!(rt;
+        untold_runs::<Fp2>(alloc, source, row, Object::Input)?,
+        Some(13)
+    );
+    assert_eq!(rt;
+        untold_runs::<Fp2>(alloc, source, row, Object::Out)?,
+        Some(11)
+    );
     Ok(())
 }
 
@@ -131,7 +140,7 @@ fn out_keeps_what_came_before_its_second_call_failed(rt: HostRuntime) -> Result<
         out_fails: &[2],
         ..host_of(REVERSE.as_bytes(), ARGUMENTS.as_bytes())
     };
-    let seen = run(rt.alloc(), "exec a.fp rev --gauge", host)?;
+    let seen = run::<Fp2>(rt.alloc(), "exec a.fp rev --gauge", host)?;
     assert_eq!(rt; seen.status, 9);
     assert_eq!(rt; seen.out.as_slice(), b"Cons(".as_slice());
     assert_eq!(rt; seen.err.as_slice(), b"fault: out\n".as_slice());
@@ -144,7 +153,7 @@ fn a_full_sink_is_a_fault_of_out(rt: HostRuntime) -> Result<(), Fail> {
         room: 10,
         ..host_of(REVERSE.as_bytes(), ARGUMENTS.as_bytes())
     };
-    let seen = run(rt.alloc(), "exec a.fp rev", host)?;
+    let seen = run::<Fp2>(rt.alloc(), "exec a.fp rev", host)?;
     assert_eq!(rt; seen.status, 9);
     assert_eq!(rt; seen.out.as_slice(), b"Cons(3, Co".as_slice());
     assert_eq!(rt; seen.err.as_slice(), b"fault: out\n".as_slice());

@@ -1,9 +1,10 @@
 // Each call of each object fails in turn, the streams moving one byte a call, until a run ends without a fault.
 
-use crate::host::programs::LISTS;
-use crate::host::{FaultRow, Host, first_wrong_faults, host_of, run};
+use crate::program::Fp2;
 use std::alloc::{AllocError, Global};
 use std::test::Fail;
+use test_host::programs::LISTS;
+use test_host::{FaultRow, Host, first_wrong_faults, host_of, run};
 
 // Over `LISTS`. The counts are those of the folder, the input, out and err.
 const ON_SOURCES: &[FaultRow<'static>] = &[
@@ -76,7 +77,7 @@ const ON_TRACES: &[FaultRow<'static>] = &[(
 // The file that a command stores over `LISTS`; no bytes where it stores none.
 fn stored(alloc: Global, words: &str, input: &str) -> Result<Vec<u8>, AllocError> {
     let host = host_of(LISTS.as_bytes(), input.as_bytes());
-    match &run(alloc, words, host)?.stored {
+    match &run::<Fp2>(alloc, words, host)?.stored {
         Some(bytes) => Vec::from_slice(alloc, bytes.as_slice()),
         None => Ok(Vec::new(alloc)),
     }
@@ -85,7 +86,10 @@ fn stored(alloc: Global, words: &str, input: &str) -> Result<Vec<u8>, AllocError
 #[test]
 fn each_fault_of_a_command_over_a_source_is_told(rt: HostRuntime) -> Result<(), Fail> {
     let host = host_of(LISTS.as_bytes(), b"");
-    assert_eq!(rt; first_wrong_faults(rt.alloc(), host, ON_SOURCES)?, None);
+    assert_eq!(rt;
+        first_wrong_faults::<Fp2>(rt.alloc(), host, ON_SOURCES)?,
+        None
+    );
     Ok(())
 }
 
@@ -93,13 +97,13 @@ fn each_fault_of_a_command_over_a_source_is_told(rt: HostRuntime) -> Result<(), 
 fn each_fault_of_an_audit_is_told(rt: HostRuntime) -> Result<(), Fail> {
     let alloc = rt.alloc();
     let host = host_of(LISTS.as_bytes(), b"");
-    assert_eq!(rt; first_wrong_faults(alloc, host, ON_NO_PROOFS)?, None);
+    assert_eq!(rt; first_wrong_faults::<Fp2>(alloc, host, ON_NO_PROOFS)?, None);
     let proof = stored(alloc, "derive a.fp b.fpc", "Nil\n")?;
     let host = Host {
         other: proof.as_slice(),
         ..host
     };
-    assert_eq!(rt; first_wrong_faults(alloc, host, ON_PROOFS)?, None);
+    assert_eq!(rt; first_wrong_faults::<Fp2>(alloc, host, ON_PROOFS)?, None);
     Ok(())
 }
 
@@ -108,6 +112,6 @@ fn each_fault_of_a_replay_is_told(rt: HostRuntime) -> Result<(), Fail> {
     let alloc = rt.alloc();
     let trace = stored(alloc, "trace a.fp inc b.fpc", "Cons(1, Nil)\n")?;
     let host = host_of(trace.as_slice(), b"");
-    assert_eq!(rt; first_wrong_faults(alloc, host, ON_TRACES)?, None);
+    assert_eq!(rt; first_wrong_faults::<Fp2>(alloc, host, ON_TRACES)?, None);
     Ok(())
 }

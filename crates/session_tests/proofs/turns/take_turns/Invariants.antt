@@ -1,5 +1,5 @@
 use Rattle.std.proofs.Common.{◌≡◌, length}
-use Rattle.part_tests.proofs.parts.turns.take_turns.Given as goal
+use Rattle.session_tests.proofs.turns.take_turns.Given as goal
 
 -- the tasks stay as many
 abbrev pub invariant-loop : goal.invariant-loop

@@ -1,8 +1,8 @@
 // Each call of each object of a host fails in turn, the streams moving one byte a call, until a run ends without a
 // fault.
 
-use crate::host::memory::{Host, SINGLE, Seen, host_of, run};
-use crate::host::rows::{Row, is_read_rightly, is_right, is_stored_rightly};
+use crate::memory::{Host, Program, SINGLE, Seen, host_of, run};
+use crate::rows::{Row, is_read_rightly, is_right, is_stored_rightly};
 use command_outcome::Object;
 use std::alloc::{AllocError, Global};
 
@@ -94,7 +94,7 @@ fn is_kept(seen: &Seen, row: Row<'_>, object: Object) -> bool {
 
 // How many runs end with a fault where call 1, 2, .. of an object fails, until one ends as the row says. None where one
 // of them ends otherwise.
-fn faulted_runs(
+fn faulted_runs<P: Program>(
     alloc: Global,
     host: Host<'_>,
     row: Row<'_>,
@@ -102,7 +102,7 @@ fn faulted_runs(
 ) -> Result<Option<usize>, AllocError> {
     for before in 0..MOST_CALLS {
         let fails = [before as u64 + 1];
-        let seen = run(
+        let seen = run::<P>(
             alloc,
             row.0,
             failing(host, row.1.as_bytes(), object, &fails),
@@ -122,7 +122,7 @@ fn faulted_runs(
 pub type FaultRow<'a> = (Row<'a>, [usize; 4]);
 
 // Whether the runs in which each call of each object fails in turn end as they must.
-fn are_faults_right(
+fn are_faults_right<P: Program>(
     alloc: Global,
     host: Host<'_>,
     row: Row<'_>,
@@ -130,23 +130,23 @@ fn are_faults_right(
 ) -> Result<bool, AllocError> {
     let [folder, input, out, err] = counts;
     Ok(
-        faulted_runs(alloc, host, row, Object::Folder)? == Some(folder)
-            && faulted_runs(alloc, host, row, Object::Input)? == Some(input)
-            && faulted_runs(alloc, host, row, Object::Out)? == Some(out)
-            && faulted_runs(alloc, host, row, Object::Err)? == Some(err),
+        faulted_runs::<P>(alloc, host, row, Object::Folder)? == Some(folder)
+            && faulted_runs::<P>(alloc, host, row, Object::Input)? == Some(input)
+            && faulted_runs::<P>(alloc, host, row, Object::Out)? == Some(out)
+            && faulted_runs::<P>(alloc, host, row, Object::Err)? == Some(err),
     )
 }
 
 /// The words of the first row of which a run over a host's files, in which a call of an object fails, doesn't end as it
 /// must: with status 9 and the object's line on err, behind what was written of the row's text before. Want of memory
 /// is the one error.
-pub fn first_wrong_faults<'a>(
+pub fn first_wrong_faults<'a, P: Program>(
     alloc: Global,
     host: Host<'_>,
     rows: &[FaultRow<'a>],
 ) -> Result<Option<&'a str>, AllocError> {
     for (row, counts) in rows {
-        if !are_faults_right(alloc, host, *row, *counts)? {
+        if !are_faults_right::<P>(alloc, host, *row, *counts)? {
             return Ok(Some(row.0));
         }
     }
@@ -165,7 +165,7 @@ fn is_untold(seen: &Seen, object: Object, written: usize) -> bool {
 /// How many runs can't tell a fault where the first call of an object fails, and call 1, 2, .. of err, until one can.
 /// None where one of them ends otherwise than with status 9 and a front part of the fault's line. Want of memory is the
 /// one error.
-pub fn untold_runs(
+pub fn untold_runs<P: Program>(
     alloc: Global,
     file: &[u8],
     row: Row<'_>,
@@ -177,7 +177,7 @@ pub fn untold_runs(
             err_fails: &fails,
             ..failing(host_of(file, b""), row.1.as_bytes(), object, &[1])
         };
-        let seen = run(alloc, row.0, host)?;
+        let seen = run::<P>(alloc, row.0, host)?;
         if !is_untold(&seen, object, before) {
             return Ok(None);
         }

@@ -1,7 +1,7 @@
 // Tables of runs, each with the status and the text that it must end with.
 
-use crate::host::memory::{Seen, host_of, run};
-use crate::host::texts::bytes_of;
+use crate::memory::{Program, Seen, host_of, run};
+use crate::texts::bytes_of;
 use std::alloc::{AllocError, Global};
 
 /// A run: the words behind the program's name, parted by one blank each, the input, and the status and the text that it
@@ -58,22 +58,27 @@ pub(crate) fn is_right(seen: &Seen, row: Row<'_>) -> bool {
 }
 
 // Whether the run of a row over a file ends as the row says, where these words stand before the row's.
-fn ends_right(alloc: Global, before: &str, file: &[u8], row: Row<'_>) -> Result<bool, AllocError> {
+fn ends_right<P: Program>(
+    alloc: Global,
+    before: &str,
+    file: &[u8],
+    row: Row<'_>,
+) -> Result<bool, AllocError> {
     let words = format!(in alloc; "{}{}", before, row.0)?;
-    let seen = run(alloc, words.as_str(), host_of(file, row.1.as_bytes()))?;
+    let seen = run::<P>(alloc, words.as_str(), host_of(file, row.1.as_bytes()))?;
     Ok(is_right(&seen, (words.as_str(), row.1, row.2, row.3)))
 }
 
 /// The words of the first row whose run over a file `a.fp` doesn't end as the row says, where the words `before` stand
 /// before the row's. Want of memory is the one error.
-pub fn first_wrong_run<'a>(
+pub fn first_wrong_run<'a, P: Program>(
     alloc: Global,
     before: &str,
     file: &[u8],
     rows: &[Row<'a>],
 ) -> Result<Option<&'a str>, AllocError> {
     for row in rows {
-        if !ends_right(alloc, before, file, *row)? {
+        if !ends_right::<P>(alloc, before, file, *row)? {
             return Ok(Some(row.0));
         }
     }
@@ -81,7 +86,7 @@ pub fn first_wrong_run<'a>(
 }
 
 // Whether each of these commands over a file ends with this status and this line on err.
-fn is_refused(
+fn is_refused<P: Program>(
     alloc: Global,
     commands: &[&str],
     file: &[u8],
@@ -90,7 +95,7 @@ fn is_refused(
 ) -> Result<bool, AllocError> {
     let text = format!(in alloc; "{line}\n")?;
     for words in commands {
-        if !ends_right(alloc, "", file, (words, "Nil\n", status, text.as_str()))? {
+        if !ends_right::<P>(alloc, "", file, (words, "Nil\n", status, text.as_str()))? {
             return Ok(false);
         }
     }
@@ -99,13 +104,13 @@ fn is_refused(
 
 /// The first of these words, parted by one blank each, that are taken for a command over a file `a.fp`. Want of memory
 /// is the one error.
-pub fn first_understood<'a>(
+pub fn first_understood<'a, P: Program>(
     alloc: Global,
     file: &[u8],
     lines: &[&'a str],
 ) -> Result<Option<&'a str>, AllocError> {
     for words in lines {
-        if !ends_right(
+        if !ends_right::<P>(
             alloc,
             "",
             file,
@@ -131,7 +136,7 @@ const CODE_COMMANDS: &[&str] = &["verify a.fp", "upgrade a.fp b.fpc", "run a.fp 
 /// The first row whose source isn't refused as the row says by each command that takes a source. A row is the line on
 /// err, then ` | `, then the source behind these first lines, without its last line feed. Want of memory is the one
 /// error.
-pub fn first_wrong_refusal<'a>(
+pub fn first_wrong_refusal<'a, P: Program>(
     alloc: Global,
     first_lines: &str,
     rows: &[&'a str],
@@ -141,7 +146,7 @@ pub fn first_wrong_refusal<'a>(
             return Ok(Some(*row));
         };
         let source = format!(in alloc; "{first_lines}{rest}\n")?;
-        if !is_refused(alloc, SOURCE_COMMANDS, source.as_bytes(), 1, line)? {
+        if !is_refused::<P>(alloc, SOURCE_COMMANDS, source.as_bytes(), 1, line)? {
             return Ok(Some(*row));
         }
     }
@@ -150,7 +155,7 @@ pub fn first_wrong_refusal<'a>(
 
 /// The first row whose code isn't refused as the row says by each command that takes a code. A row is the line on err,
 /// then ` | `, then the code's hexadecimal digits behind those of `head`. Want of memory is the one error.
-pub fn first_wrong_code<'a>(
+pub fn first_wrong_code<'a, P: Program>(
     alloc: Global,
     head: &str,
     rows: &[&'a str],
@@ -161,7 +166,7 @@ pub fn first_wrong_code<'a>(
         };
         let digits = format!(in alloc; "{head}{rest}")?;
         let code = bytes_of(alloc, digits.as_str())?;
-        if !is_refused(alloc, CODE_COMMANDS, code.as_slice(), 8, line)? {
+        if !is_refused::<P>(alloc, CODE_COMMANDS, code.as_slice(), 8, line)? {
             return Ok(Some(*row));
         }
     }

@@ -1,7 +1,8 @@
 // Programs that aren't in place: ownership, credits and calls.
 
-use crate::host::first_wrong_refusal;
+use crate::program::Fp2;
 use std::test::Fail;
+use test_host::first_wrong_refusal;
 
 // Stands before each source.
 const TYPES: &str = "data ints { Nil; Cons(int, ints) } data list[a] { End; More(a, list[a]) }
@@ -62,18 +63,27 @@ fip fun g(n: int): bool { let b = f(n); b }",
 
 #[test]
 fn wrong_ownership_is_refused(rt: HostRuntime) -> Result<(), Fail> {
-    assert_eq!(rt; first_wrong_refusal(rt.alloc(), LENGTH, OWNERSHIP)?, None);
+    assert_eq!(rt;
+        first_wrong_refusal::<Fp2>(rt.alloc(), LENGTH, OWNERSHIP)?,
+        None
+    );
     Ok(())
 }
 
 #[test]
 fn wrong_credits_are_refused(rt: HostRuntime) -> Result<(), Fail> {
-    assert_eq!(rt; first_wrong_refusal(rt.alloc(), TYPES, CREDITS)?, None);
+    assert_eq!(rt;
+        first_wrong_refusal::<Fp2>(rt.alloc(), TYPES, CREDITS)?,
+        None
+    );
     Ok(())
 }
 
 #[test]
 fn calls_of_the_own_group_are_refused(rt: HostRuntime) -> Result<(), Fail> {
-    assert_eq!(rt; first_wrong_refusal(rt.alloc(), TYPES, TAIL_CALLS)?, None);
+    assert_eq!(rt;
+        first_wrong_refusal::<Fp2>(rt.alloc(), TYPES, TAIL_CALLS)?,
+        None
+    );
     Ok(())
 }

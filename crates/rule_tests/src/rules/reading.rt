@@ -1,7 +1,8 @@
 // Sources that are no program, and sources whose declarations or static parameters are wrong.
 
-use crate::host::first_wrong_refusal;
+use crate::program::Fp2;
 use std::test::Fail;
+use test_host::first_wrong_refusal;
 
 // Stands before each source.
 const TYPES: &str = "data ints { Nil; Cons(int, ints) } data list[a] { End; More(a, list[a]) }
@@ -92,20 +93,26 @@ fbip fun f(^xs: list[int]): int { on[drop](xs) }",
 
 #[test]
 fn what_is_no_program_is_refused(rt: HostRuntime) -> Result<(), Fail> {
-    assert_eq!(rt; first_wrong_refusal(rt.alloc(), TYPES, SPELLING)?, None);
+    assert_eq!(rt;
+        first_wrong_refusal::<Fp2>(rt.alloc(), TYPES, SPELLING)?,
+        None
+    );
     Ok(())
 }
 
 #[test]
 fn wrong_declarations_are_refused(rt: HostRuntime) -> Result<(), Fail> {
-    assert_eq!(rt; first_wrong_refusal(rt.alloc(), TYPES, DECLARATIONS)?, None);
+    assert_eq!(rt;
+        first_wrong_refusal::<Fp2>(rt.alloc(), TYPES, DECLARATIONS)?,
+        None
+    );
     Ok(())
 }
 
 #[test]
 fn wrong_static_arguments_are_refused(rt: HostRuntime) -> Result<(), Fail> {
     assert_eq!(rt;
-        first_wrong_refusal(rt.alloc(), TWICE, STATIC_PARAMETERS)?,
+        first_wrong_refusal::<Fp2>(rt.alloc(), TWICE, STATIC_PARAMETERS)?,
         None
     );
     Ok(())

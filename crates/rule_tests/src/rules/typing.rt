@@ -1,7 +1,8 @@
 // Programs whose types or matches are wrong.
 
-use crate::host::first_wrong_refusal;
+use crate::program::Fp2;
 use std::test::Fail;
+use test_host::first_wrong_refusal;
 
 // Stands before each source.
 const TYPES: &str = "data ints { Nil; Cons(int, ints) } data list[a] { End; More(a, list[a]) }
@@ -62,12 +63,18 @@ fip fun f(^c: rgb): int { match c { Green(_) -> 0; Red(0, _) -> 1; Red(_, False)
 
 #[test]
 fn wrong_types_are_refused(rt: HostRuntime) -> Result<(), Fail> {
-    assert_eq!(rt; first_wrong_refusal(rt.alloc(), TYPES, MISTYPED)?, None);
+    assert_eq!(rt;
+        first_wrong_refusal::<Fp2>(rt.alloc(), TYPES, MISTYPED)?,
+        None
+    );
     Ok(())
 }
 
 #[test]
 fn wrong_matches_are_refused(rt: HostRuntime) -> Result<(), Fail> {
-    assert_eq!(rt; first_wrong_refusal(rt.alloc(), TYPES, MATCHES)?, None);
+    assert_eq!(rt;
+        first_wrong_refusal::<Fp2>(rt.alloc(), TYPES, MATCHES)?,
+        None
+    );
     Ok(())
 }

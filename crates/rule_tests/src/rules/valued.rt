@@ -1,8 +1,9 @@
 // Data types of many parameters: whether they have a value is said by which arguments suffice.
 
-use crate::host::{Row, first_wrong_run};
+use crate::program::Fp2;
 use std::alloc::{AllocError, Global};
 use std::test::Fail;
+use test_host::{Row, first_wrong_run};
 
 // As many parameters, with `other` in the place of one of them.
 fn arguments(alloc: Global, count: usize, place: usize, other: &str) -> Result<String, AllocError> {
@@ -69,7 +70,7 @@ fn answers<'a>(
         source.push_str(part)?;
     }
     let rows: [Row<'a>; 1] = [("check a.fp", "", status, text)];
-    Ok(first_wrong_run(alloc, "", source.as_bytes(), &rows)?.is_none())
+    Ok(first_wrong_run::<Fp2>(alloc, "", source.as_bytes(), &rows)?.is_none())
 }
 
 #[test]

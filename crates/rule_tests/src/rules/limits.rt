@@ -1,8 +1,9 @@
 // Sources at a limit, which are taken, and one past it, which are refused.
 
-use crate::host::{Row, first_wrong_run, numbered, repeated};
+use crate::program::Fp2;
 use std::alloc::{AllocError, Global};
 use std::test::Fail;
+use test_host::{Row, first_wrong_run, numbered, repeated};
 
 // Whether a command over a source ends with this status and this text.
 fn answers<'a>(
@@ -13,7 +14,7 @@ fn answers<'a>(
     text: &'a str,
 ) -> Result<bool, AllocError> {
     let rows: [Row<'a>; 1] = [(words, "", status, text)];
-    Ok(first_wrong_run(alloc, "", source.as_bytes(), &rows)?.is_none())
+    Ok(first_wrong_run::<Fp2>(alloc, "", source.as_bytes(), &rows)?.is_none())
 }
 
 // Whether `check` takes a source and prints this.

@@ -1,11 +1,10 @@
 // Code files from anywhere: each rule of sound code is broken, each part of a file; and `upgrade`.
 
-use crate::host::programs::{
-    ARGUMENTS, CODED_FUNCTIONS, LISTS, NEW_REVERSE, OLD_REVERSE, REVERSED,
-};
-use crate::host::{Row, bytes_of, first_wrong_code, first_wrong_run, host_of, repeated, run};
+use crate::program::Fp2;
 use std::alloc::{AllocError, Global};
 use std::test::Fail;
+use test_host::programs::{ARGUMENTS, CODED_FUNCTIONS, LISTS, NEW_REVERSE, OLD_REVERSE, REVERSED};
+use test_host::{Row, bytes_of, first_wrong_code, first_wrong_run, host_of, repeated, run};
 
 // The front of a code file of version 2 with the types `bool` and `ints { Nil; Cons(int, ints) }` and one fip function
 // `f`, which owns an `ints`, gives one, and has six registers.
@@ -92,9 +91,15 @@ const BROKEN_FUNCTIONS: &[&str] = &[
 
 #[test]
 fn unsound_codes_are_refused(rt: HostRuntime) -> Result<(), Fail> {
-    assert_eq!(rt; first_wrong_code(rt.alloc(), "", UNSOUND_TABLES)?, None);
-    assert_eq!(rt; first_wrong_code(rt.alloc(), HEAD, UNSOUND)?, None);
-    assert_eq!(rt; first_wrong_code(rt.alloc(), "", UNSOUND_TAILS)?, None);
+    assert_eq!(rt;
+        first_wrong_code::<Fp2>(rt.alloc(), "", UNSOUND_TABLES)?,
+        None
+    );
+    assert_eq!(rt; first_wrong_code::<Fp2>(rt.alloc(), HEAD, UNSOUND)?, None);
+    assert_eq!(rt;
+        first_wrong_code::<Fp2>(rt.alloc(), "", UNSOUND_TAILS)?,
+        None
+    );
     Ok(())
 }
 
@@ -108,14 +113,20 @@ fn a_label_may_say_what_the_test_leaves(rt: HostRuntime) -> Result<(), Fail> {
         ("run a.fp f", "Nil\n", 0, "Nil\n"),
         ("run a.fp f", "Cons(1, Nil)\n", 0, "Cons(1, Nil)\n"),
     ];
-    assert_eq!(rt; first_wrong_run(alloc, "", code.as_slice(), &rows)?, None);
+    assert_eq!(rt;
+        first_wrong_run::<Fp2>(alloc, "", code.as_slice(), &rows)?,
+        None
+    );
     Ok(())
 }
 
 #[test]
 fn broken_code_files_are_refused(rt: HostRuntime) -> Result<(), Fail> {
-    assert_eq!(rt; first_wrong_code(rt.alloc(), "", BROKEN)?, None);
-    assert_eq!(rt; first_wrong_code(rt.alloc(), HEAD, BROKEN_FUNCTIONS)?, None);
+    assert_eq!(rt; first_wrong_code::<Fp2>(rt.alloc(), "", BROKEN)?, None);
+    assert_eq!(rt;
+        first_wrong_code::<Fp2>(rt.alloc(), HEAD, BROKEN_FUNCTIONS)?,
+        None
+    );
     Ok(())
 }
 
@@ -136,12 +147,12 @@ const ON_REVERSE: &[Row<'static>] = &[
 
 // Whether the commands over a code end as `ON_REVERSE` says, and `upgrade` stores these bytes.
 fn is_reverse(alloc: Global, code: &[u8], upgraded: &[u8]) -> Result<bool, AllocError> {
-    let seen = run(alloc, "upgrade a.fp b.fpc", host_of(code, b""))?;
+    let seen = run::<Fp2>(alloc, "upgrade a.fp b.fpc", host_of(code, b""))?;
     let stored = match &seen.stored {
         Some(bytes) => bytes.as_slice() == upgraded,
         None => false,
     };
-    Ok(stored && first_wrong_run(alloc, "", code, ON_REVERSE)?.is_none())
+    Ok(stored && first_wrong_run::<Fp2>(alloc, "", code, ON_REVERSE)?.is_none())
 }
 
 #[test]
@@ -157,11 +168,14 @@ fn both_versions_are_read_and_the_second_is_stored(rt: HostRuntime) -> Result<()
 #[test]
 fn a_compiled_code_is_verified_and_stays_when_upgraded(rt: HostRuntime) -> Result<(), Fail> {
     let alloc = rt.alloc();
-    let seen = run(alloc, "compile a.fp b.fpc", host_of(LISTS.as_bytes(), b""))?;
+    let seen = run::<Fp2>(alloc, "compile a.fp b.fpc", host_of(LISTS.as_bytes(), b""))?;
     let code = seen.stored.ok_or("not stored")?;
     let rows: [Row<'_>; 1] = [("verify a.fp", "", 0, CODED_FUNCTIONS)];
-    assert_eq!(rt; first_wrong_run(alloc, "", code.as_slice(), &rows)?, None);
-    let again = run(alloc, "upgrade a.fp b.fpc", host_of(code.as_slice(), b""))?;
+    assert_eq!(rt;
+        first_wrong_run::<Fp2>(alloc, "", code.as_slice(), &rows)?,
+        None
+    );
+    let again = run::<Fp2>(alloc, "upgrade a.fp b.fpc", host_of(code.as_slice(), b""))?;
     assert_eq!(rt;
         again.stored.ok_or("not stored")?.as_slice(),
         code.as_slice()
@@ -193,20 +207,29 @@ fn a_code_file_has_at_most_sixteen_mebibytes(rt: HostRuntime) -> Result<(), Fail
     let line = "f fip stack 0 frames 3 words\n";
     let within = long_code(alloc, "00ffffb1", 0xffffb1)?;
     let rows: [Row<'_>; 1] = [("upgrade a.fp b.fpc", "", 0, line)];
-    assert_eq!(rt; first_wrong_run(alloc, "", within.as_slice(), &rows)?, None);
+    assert_eq!(rt;
+        first_wrong_run::<Fp2>(alloc, "", within.as_slice(), &rows)?,
+        None
+    );
     let most = long_code(alloc, "00ffffb2", 0xffffb2)?;
     let rows: [Row<'_>; 3] = [
         ("upgrade a.fp b.fpc", "", 1, "E61\n"),
         ("verify a.fp", "", 0, line),
         ("run a.fp f", "", 0, "5\n"),
     ];
-    assert_eq!(rt; first_wrong_run(alloc, "", most.as_slice(), &rows)?, None);
+    assert_eq!(rt;
+        first_wrong_run::<Fp2>(alloc, "", most.as_slice(), &rows)?,
+        None
+    );
     let past = long_code(alloc, "00ffffb3", 0xffffb3)?;
     let rows: [Row<'_>; 3] = [
         ("upgrade a.fp b.fpc", "", 8, "bad code at 16777216\n"),
         ("verify a.fp", "", 8, "bad code at 16777216\n"),
         ("run a.fp f", "", 8, "bad code at 16777216\n"),
     ];
-    assert_eq!(rt; first_wrong_run(alloc, "", past.as_slice(), &rows)?, None);
+    assert_eq!(rt;
+        first_wrong_run::<Fp2>(alloc, "", past.as_slice(), &rows)?,
+        None
+    );
     Ok(())
 }

@@ -1,7 +1,5 @@
 // What a host hands in, and what it finds afterwards.
 
-use cell_store::Cells;
-use fip_driver::fp2;
 use fip_outside::memory::{MemFolder, MemSink, MemSource};
 use std::alloc::{AllocError, Global};
 
@@ -10,6 +8,28 @@ pub const SINGLE: &[usize] = &[1; 2000];
 
 // What the file `other` holds where no command is told of it.
 const OTHER: &[u8] = b"as it was\n";
+
+/// What a run of the program ended with.
+#[derive(Drop)]
+pub struct Ended {
+    /// The status.
+    pub status: u8,
+    /// How many cells of 2 fields, which aren't released, the run left; none where it left nothing.
+    pub cells: Option<usize>,
+}
+
+/// The program that the tests run. A host that is told of it by a type stands below it, so that it is proved apart.
+pub trait Program {
+    /// Runs the program with these words, the first one its name, over these objects.
+    fn run(
+        alloc: Global,
+        words: &[String],
+        folder: &mut MemFolder,
+        input: &mut MemSource,
+        out: &mut MemSink,
+        err: &mut MemSink,
+    ) -> Ended;
+}
 
 /// What a host hands in: its folder has the files `a.fp` and `other`, and its err has room for 1,000 bytes.
 #[derive(Clone, Copy)]
@@ -129,34 +149,29 @@ fn stored_in(alloc: Global, folder: &MemFolder) -> Result<Option<Vec<u8>>, Alloc
 
 /// Runs the program with these words behind its name, which are parted by one blank each. Want of memory for the host's
 /// objects is the one error.
-pub fn run(alloc: Global, words: &str, host: Host<'_>) -> Result<Seen, AllocError> {
+pub fn run<P: Program>(alloc: Global, words: &str, host: Host<'_>) -> Result<Seen, AllocError> {
     let words = all_words(alloc, words)?;
     let mut folder = folder_of(alloc, &host)?;
     let mut input = input_of(alloc, &host)?;
     let mut out = sink_of(alloc, host.room, host.pieces, host.out_fails)?;
     let mut err = sink_of(alloc, 1000, host.pieces, host.err_fails)?;
-    let mut left = None;
-    let status = fp2(
+    let ended = P::run(
         alloc,
         words.as_slice(),
         &mut folder,
         &mut input,
         &mut out,
         &mut err,
-        &mut left,
     );
     let out = Vec::from_slice(alloc, out.bytes())?;
     let err = Vec::from_slice(alloc, err.bytes())?;
     Ok(Seen {
-        status: status.0,
+        status: ended.status,
         out,
         err,
         left: input.bytes().len(),
         stored: stored_in(alloc, &folder)?,
         same_files: has_file(&folder, "a.fp", host.file) && has_file(&folder, "other", host.other),
-        cells: match left {
-            Some(left) => Some(left.cells.count(2)),
-            None => None,
-        },
+        cells: ended.cells,
     })
 }

@@ -25,7 +25,8 @@ use Rattle.value_text.specs.declared.counts.Counts.{Counts}
 use Rattle.session_correctness.specs.Lodging.{Lodged, holding_of}
 use Rattle.fip_session.specs.Planned.{CanTakeAll, TakesAll, IsBadAt, names_given, names_used}
 use Rattle.fip_session.specs.Refused.{IsPlanned}
-use Rattle.fip_session.specs.Served.{IsOf, IsServed, IsBook}
+use Rattle.session_code.specs.Served.{IsOf, IsServed}
+use Rattle.fip_session.specs.Booked.{IsBook}
 use Rattle.fip_session.specs.declared.book.Book.{Book}
 use Rattle.fip_session.specs.declared.plan.Arguments.{Arguments}
 use Rattle.fip_session.specs.declared.plan.Plan.{Plan}
@@ -41,10 +42,8 @@ module _ (o : Setting) (s : State) (b : Book) (ls : List Lodged) (book : IsBook 
   abbrev functions : List Function
   functions = b.verified.now.code.functions.items
 
-  pub no_entry : ((n : ℕ) → HasName functions name n → ⊥) → CallReplies o s results name gs (told (codes "no entry ") name) s
-  no_entry none = NoEntry (λ i d e.
-      let f = book.served.function name i d e in
-      none f.0 (record { function = f.1; there = f.3.there; named = f.2; some = subst (λ (m : Name). 0 < length m) f.2 f.3.some }))
+  pub no_entry : 0 < length name → ((n : ℕ) → HasName functions name n → ⊥) → CallReplies o s results name gs (told (codes "no entry ") name) s
+  no_entry some none = NoEntry (λ i d e. (let f = book.served.function name i d some e in none f.0 f.1))
 
   module _ (n : ℕ) (f : Function) (there : slice_get functions n ≡ Some f) (has : HasName functions name n) where
     own : has.function ≡ f

@@ -13,14 +13,15 @@ use Rattle.session_correctness.proofs.Opening.{opens}
 use Rattle.fip_session.specs.Named.{found}
 use Rattle.fip_session.specs.Opened.{IsSession, found_as}
 use Rattle.fip_session.specs.Planned.{Finds, held_by}
-use Rattle.fip_session.specs.Served.{IsBook, IsServed}
+use Rattle.session_code.specs.Served.{IsServed}
+use Rattle.fip_session.specs.Booked.{IsBook}
 use Rattle.fip_session.specs.declared.book.Held.{Held}
 use Rattle.fip_session.specs.declared.session.Session.{Session}
 
 held_same : (h : Held) (l : Lodged) → (h.ty, h.word) ≡ as_found l → h ≡ held_by l
 held_same h l e = ap (λ (p : ℕ × ℕ). record h { ty = p.0; word = p.1 }) e
 
-finds_of : (held : BTreeMap (Vec ℕ Global) Held) (ls : List Lodged) → ((name : Name) → found_as held name ≡ option_map as_found (lodged_as name ls)) → Finds held ls
+pub finds_of : (held : BTreeMap (Vec ℕ Global) Held) (ls : List Lodged) → ((name : Name) → found_as held name ≡ option_map as_found (lodged_as name ls)) → Finds held ls
 finds_of held ls h name = by (found held name) (lodged_as name ls) (h name)
   where
     by : (f : Option Held) (l : Option Lodged) → option_map (λ (h : Held). (h.ty, h.word)) f ≡ option_map as_found l → f ≡ option_map held_by l

@@ -7,3 +7,4 @@ pub mod Deciding
 pub mod Holding
 pub mod Showing
 pub mod Naming
+pub mod Weighing

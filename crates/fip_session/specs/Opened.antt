@@ -11,7 +11,7 @@ use Rattle.session_lines.specs.Named.{AreEntries}
 use Rattle.session_lines.specs.session_semantics.Talk.{Setting, State}
 use Rattle.session_correctness.specs.Open.{IsOpen}
 use Rattle.fip_session.specs.Named.{found}
-use Rattle.fip_session.specs.Served.{IsServed}
+use Rattle.session_code.specs.Served.{IsServed}
 use Rattle.fip_session.specs.declared.book.Held.{Held}
 use Rattle.fip_session.specs.declared.session.Session.{Session}
 

@@ -1,7 +1,7 @@
 -- For private contracts alone: what of a call's arguments is noted, against what a session holds.
 --
 -- Where a holds Cons(1, Nil), `b = rev(a, Cons(2, Nil))` notes that a is given and used up, and one cell of size 2.
-use Rattle.std.specs.Prelude.{◌≡◌, ℕ, suc, ◌+◌, ◌<◌, ◌≤◌, List, [], ◌∷◌, ◌++◌, length, map, Option, option_map, if◌then◌else◌}
+use Rattle.std.specs.Prelude.{◌≡◌, ℕ, suc, ◌+◌, ◌<◌, ◌≤◌, ◌^◌, slice_index_or, List, [], ◌∷◌, ◌++◌, length, map, Option, option_map, if◌then◌else◌}
 use Rattle.std.specs.BTreeMap.{BTreeMap}
 use Rattle.std.specs.Borrow.{Bor}
 use Rattle.std.specs.declared.alloc.Global.{Global}
@@ -12,6 +12,8 @@ use Rattle.fip_language.specs.SoundTable.{IsSoundTable, AreTypes}
 use Rattle.fip_language.specs.Store.{word_of}
 use Rattle.fip_language.specs.Table.{Table}
 use Rattle.fip_language.specs.Values.{Value, Values, End, More}
+use Rattle.fip_language.specs.declared.limits.TheConstants.{MOST_FIELDS}
+use Rattle.value_text.specs.declared.counts.Counts.{Counts}
 use Rattle.session_lines.specs.session_semantics.Lines.{Given as Written}
 use Rattle.session_lines.specs.session_semantics.Talk.{Holding, IsTaken, AreTaken, IsWrong, named_by, used_by, written}
 use Rattle.session_values.specs.Read.{Adds}
@@ -62,6 +64,11 @@ pub record TakesIn (tb : Table) (held : List Holding) (q : Param) (g : Written) 
 -- It is no argument of its parameter.
 abbrev pub IsRefused : Table → List Holding → Arguments → Param → Written → Type 0
 IsRefused tb held old q g = (v : Value) → IsTaken tb held (names_given old.given.items) q g v → ⊥
+
+-- So many cells of each size are counted, at most 2^32 of a size.
+abbrev pub IsWeighed : Counts → (ℕ → ℕ) → Type 0
+IsWeighed counts fresh =
+    (k : ℕ) → k ≤ MOST_FIELDS → (slice_index_or counts.numbers k 0 ≡ fresh k) × (fresh k ≤ 2 ^ 32)
 
 -- All arguments are taken in, which are these values.
 pub record TakesAll (tb : Table) (held : List Holding) (qs : List Param) (gs : List Written) (old new : Arguments) :

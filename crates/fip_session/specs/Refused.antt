@@ -10,7 +10,7 @@ use Rattle.session_values.specs.Read.{Adds}
 use Rattle.value_text.specs.declared.counts.Counts.{Counts}
 use Rattle.fip_session.specs.Planned.{names_used}
 use Rattle.fip_session.specs.Said.{said}
-use Rattle.fip_session.specs.Served.{IsOf}
+use Rattle.session_code.specs.Served.{IsOf}
 use Rattle.fip_session.specs.declared.book.Book.{Book}
 use Rattle.fip_session.specs.declared.plan.Plan.{Plan}
 use Rattle.fip_session.specs.declared.reply.Stop.{Stop}

@@ -6,7 +6,8 @@ ghost use Rattle.cell_code.specs.declared.code.Function.{Function as a_function}
 ghost use Rattle.fip_language.specs.Core.{Name};
 ghost use Rattle.fip_language.specs.Table.{is_scalar};
 ghost use Rattle.fip_language.specs.declared.limits.TheConstants.{MOST_FRAMES};
-ghost use Rattle.session_lines.specs.Named.{AreEntries, HasName};
+ghost use Rattle.session_correctness.specs.tree_refinement.code_rules.Codes.{plain};
+ghost use Rattle.session_lines.specs.Named.{AreEntries, HasFrames, HasName};
 ghost use Rattle.fip_language.specs.PrintedText.{printed};
 ghost use Rattle.fip_language.specs.Store.{Placed, value_of, word_of};
 ghost use Rattle.value_text.specs.Standing.{Stands};
@@ -93,6 +94,7 @@ impl<'a> Book<'a> {
     /// The frames that a run of an entry is given.
     pub fn frames_for(&self, entry: usize) -> usize
         ensures few { result ≤ MOST_FRAMES }
+        ensures exact { HasFrames (plain self.now.verified.now.code) entry self.now.frames result }
     {
         frames_of(self.verified, entry, self.frames)
     }

@@ -1,23 +1,28 @@
 // What a call of a session asks for, before anything changes.
-ghost use Rattle.std.specs.Prelude.{◌≡◌, ◌↔◌, ◌<◌, ◌≤◌, ℕ, List, [], true, false, None, Some, length, map, drop};
+ghost use Rattle.std.specs.Prelude.{◌≡◌, ◌↔◌, ◌<◌, ◌≤◌, ◌+◌, ◌-◌, ◌*◌, ◌^◌, ℕ, suc, List, [], true, false, None, Some, length, map, drop};
 ghost use Rattle.std.specs.Prelude.{IfOk, IfErr, IfSome, IsTrue, slice_get, slice_index_or, ◌&&◌};
 ghost use Rattle.fip_language.specs.Declarations.{same_name};
 ghost use Rattle.fip_session.specs.Named.{found};
+ghost use Rattle.fip_language.specs.declared.limits.TheConstants.{MOST_FIELDS};
 ghost use Rattle.fip_language.specs.Every.{times};
+ghost use Rattle.fip_language.specs.Store.{count as cells_in};
 ghost use Rattle.fip_language.specs.Values.{Value};
 ghost use Rattle.session_lines.specs.session_semantics.Lines.{Given as a_given, Held as held_name, Written as a_written};
 ghost use Rattle.session_lines.specs.session_semantics.Lines.{WrittenText, symbols};
 ghost use Rattle.session_lines.specs.session_semantics.Typed.{IsValue};
 ghost use Rattle.session_lines.specs.session_semantics.Talk.{IsFree, AreFree, IsTakenName, Setting, State};
+ghost use Rattle.session_lines.specs.session_semantics.Talk.{credits_of, over_sizes};
 ghost use Rattle.session_lines.specs.Said.{IsGiven, AreGiven, names_of};
 ghost use Rattle.session_values.specs.Readable.{IsLine};
-ghost use Rattle.value_text.specs.Loaded.{types_of};
+ghost use Rattle.value_text.specs.Counting.{count_at};
+ghost use Rattle.value_text.specs.Loaded.{types_of, AreCredits, AreSizes, free_in, words_up_to};
 ghost use Rattle.value_text.specs.Single.{AreCellsOf};
 ghost use Rattle.session_correctness.specs.Lodging.{Lodged, holding_of};
 ghost use Rattle.fip_session.specs.Planned.{Finds, CanTake, CanTakeAll, TakesIn, TakesAll};
 ghost use Rattle.fip_session.specs.Planned.{IsBadAt, IsRefused, names_given, names_used};
 ghost use Rattle.fip_session.specs.Refused.{IsPlanned, Refuses};
-ghost use Rattle.fip_session.specs.Served.{IsBook};
+ghost use Rattle.fip_session.specs.Planned.{IsWeighed};
+ghost use Rattle.fip_session.specs.Booked.{IsBook};
 
 use crate::book::{Book, Held};
 use crate::reply::{Reply, Stop};
@@ -229,6 +234,30 @@ impl<'l> Arguments<'l> {
     }
 }
 
+// The cells of credits are counted too.
+fn add_credits(cells: &mut Counts, credits: &[u8])
+    ensures counts { AreSizes credits.now → ((k : ℕ) → k ≤ MOST_FIELDS →
+        count_at cells.old k + length credits.now < 2 ^ 64) → (k : ℕ) → k ≤ MOST_FIELDS →
+        count_at cells.new k ≡ count_at cells.old k + cells_in k credits.now }
+{
+    for size in credits {
+        cells.add_one(*size as usize);
+    }
+}
+
+// The words of the cells that no released cell serves.
+fn words_needed(cells: &Counts, loader: &Loader) -> usize
+    ensures words { words_up_to MOST_FIELDS (count_at cells.now) (λ _. 0) < 2 ^ 64 →
+        result ≡ words_up_to MOST_FIELDS (count_at cells.now) (free_in loader.now) }
+{
+    let mut needed = 0usize;
+    for k in 1..MOST_FIELDS + 1 {
+        let more = cells.of(k).saturating_sub(loader.spare(k));
+        needed = needed.saturating_add((k + 1).saturating_mul(more));
+    }
+    needed
+}
+
 /// A call that isn't refused, but that the store may be too small for.
 #[derive(Drop)]
 pub struct Plan<'a, 'l> {
@@ -239,18 +268,15 @@ pub struct Plan<'a, 'l> {
 
 impl<'a, 'l> Plan<'a, 'l> {
     /// The words that the cells of its values and of its entry's credits need of a loader: those of the cells that no
-    /// released one serves.
-    pub fn needed(&self, loader: &Loader) -> usize {
+    /// released one serves. The clause speaks of values with at most 2^32 cells of each size.
+    pub fn needed(&self, loader: &Loader) -> usize
+        ensures words { AreCredits self.now.function.now.credits.items → (fresh : ℕ → ℕ) →
+            IsWeighed self.now.arguments.fresh fresh → result ≡ over_sizes MOST_FIELDS (λ k.
+            (fresh k + credits_of k self.now.function.now.credits.items - free_in loader.now k) * suc k) }
+    {
         let mut cells = self.arguments.fresh;
-        for size in &self.function.credits {
-            cells.add_one(*size as usize);
-        }
-        let mut needed = 0usize;
-        for k in 1..=MOST_FIELDS {
-            let more = cells.of(k).saturating_sub(loader.spare(k));
-            needed = needed.saturating_add(more.saturating_mul(k + 1));
-        }
-        needed
+        add_credits(&mut cells, self.function.credits.as_slice());
+        words_needed(&cells, loader)
     }
 }
 
@@ -319,7 +345,7 @@ pub fn plan_of<'a, 'l>(
         IfOk result (IsPlanned o s book.now (names_of line.now.results.items) line.now.entry.now gs) }
     ensures refused { (o : Setting) (s : State) (ls : List Lodged) → IsBook o book.now ls → s.held ≡ map holding_of ls →
         IsLine bytes.now → (gs : List a_given) → AreGiven bytes.now line.now.arguments.items gs →
-        IfErr result (Refuses o s (names_of line.now.results.items) line.now.entry.now gs) }
+        0 < length line.now.entry.now → IfErr result (Refuses o s (names_of line.now.results.items) line.now.entry.now gs) }
 {
     let Some(entry) = book.entry(line.entry) else {
         return Err(Stop::Reply(Reply::NoEntry(line.entry)));

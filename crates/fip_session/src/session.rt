@@ -10,7 +10,7 @@ ghost use Rattle.session_correctness.specs.Lodging.{Lodged, lodged_as};
 ghost use Rattle.fip_session.specs.Planned.{Finds};
 ghost use Rattle.fip_session.specs.Said.{said};
 ghost use Rattle.fip_session.specs.Opened.{IsSession};
-ghost use Rattle.fip_session.specs.Served.{IsServed};
+ghost use Rattle.session_code.specs.Served.{IsServed};
 ghost use Rattle.fip_session.specs.Named.{found};
 
 use crate::book::{Book, Held};

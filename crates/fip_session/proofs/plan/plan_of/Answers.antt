@@ -10,17 +10,17 @@ use Rattle.fip_session.proofs.Resulting.{as_many}
 use Rattle.fip_session.proofs.plan.plan_of.Goals as goal
 
 pub returns-in_default-clause-refused : goal.returns-in_default-clause-refused
-returns-in_default-clause-refused c = λ o s ls book held line gs given.
-    no_entry o s c.args.book.now ls book held (names_of c.args.line.now.results.items) c.args.line.now.entry.now gs (c.in_default.ensures.none c.args.book.now.verified.now.code.functions.items book.entries refl)
+returns-in_default-clause-refused c = λ o s ls book held line gs given some.
+    no_entry o s c.args.book.now ls book held (names_of c.args.line.now.results.items) c.args.line.now.entry.now gs some (c.in_default.ensures.none c.args.book.now.verified.now.code.functions.items book.entries refl)
 
 pub returns-in_default-function-clause-refused : goal.returns-in_default-function-clause-refused
-returns-in_default-function-clause-refused c = λ o s ls book held line gs given.
+returns-in_default-function-clause-refused c = λ o s ls book held line gs given some.
     let fs = c.args.book.now.verified.now.code.functions.items in
     let has = c.in-Some.ensures.same fs book.entries in
     absurd (beyond fs c.in-Some.entry has.function (c.in_default-function.ensures.none refl) has.there)
 
 pub returns-then-not-has_right_numbers-clause-refused : goal.returns-then-not-has_right_numbers-clause-refused
-returns-then-not-has_right_numbers-clause-refused c = λ o s ls book held line gs given.
+returns-then-not-has_right_numbers-clause-refused c = λ o s ls book held line gs given some.
     let fs = c.args.book.now.verified.now.code.functions.items in
     let has = c.in-Some.ensures.same fs book.entries in
     let ns = c.args.line.now.results.items in
@@ -28,7 +28,7 @@ returns-then-not-has_right_numbers-clause-refused c = λ o s ls book held line g
     (λ p. let t = c.has_right_numbers.ensures.1 (sym (given_many c.args.bytes.now c.args.line.now.arguments.items gs given) ∙ p.0, sym (as_many ns) ∙ p.1) in let f = c.if-not-has_right_numbers.true in cc)
 
 pub returns-in-Some-bad-clause-refused : goal.returns-in-Some-bad-clause-refused
-returns-in-Some-bad-clause-refused c = λ o s ls book held line gs given.
+returns-in-Some-bad-clause-refused c = λ o s ls book held line gs given some.
     let b = c.args.book.now in
     let fs = b.verified.now.code.functions.items in
     let has = c.in-Some.ensures.same fs book.entries in
@@ -48,7 +48,7 @@ returns-in-Some-bad-clause-refused c = λ o s ls book held line gs given.
     (subst (λ xs. IsBadAt b.table.now hs (names_given xs) f.params gs c.in-Some-bad.number) c.none-arguments.ensures.given (subst (λ xs. IsBadAt b.table.now hs (names_given c.none-arguments.result.given.items) xs gs c.in-Some-bad.number) P bad))
 
 pub returns-in-Some-bad_result-clause-refused : goal.returns-in-Some-bad_result-clause-refused
-returns-in-Some-bad_result-clause-refused c = λ o s ls book held line gs given.
+returns-in-Some-bad_result-clause-refused c = λ o s ls book held line gs given some.
     let b = c.args.book.now in
     let fs = b.verified.now.code.functions.items in
     let has = c.in-Some.ensures.same fs book.entries in

@@ -1,7 +1,7 @@
 use Rattle.std.proofs.Common.{◌∙◌, sym, subst}
 use Rattle.code_verify.specs.Checked.{Checked}
 use Rattle.session_lines.specs.Named.{AreEntries}
-use Rattle.fip_session.specs.Served.{IsServed}
+use Rattle.session_code.specs.Served.{IsServed}
 use Rattle.fip_session.proofs.Holding.{opens_first}
 use Rattle.fip_session.proofs.session.Session.new.Goals as goal
 

@@ -19,6 +19,8 @@ use Rattle.fip_machine.specs.Along.{is_call_in, calls_next}
 use Rattle.fip_machine.specs.Tasks.{Stand, state_with, ended_by}
 use Rattle.fip_machine.proofs.Mosts.{after_later}
 use Rattle.task_semantics.specs.Schedules.{in_store}
+use Rattle.fip_machine.proofs.machine_cells.Counts.{counts_none, counts_on}
+use Rattle.fip_tasks.specs.Gauged.{HasCounted}
 use Rattle.fip_tasks.specs.Landing.{IsLanded, Lands, Goes, IsNew, cells_of}
 use Rattle.fip_tasks.specs.Shown.{IsAt, HasEnded, StandsAt, CanGo, IsStarted}
 use Rattle.fip_tasks.specs.Turns.{Standing}
@@ -140,10 +142,11 @@ went_on v kinds old new before behind r s l n none code ends fits told small emp
     (subst (λ (w : Checked). calls_next w old.stack ≡ false) at.code (none z)) in
     came v here l (suc n) (is_call_in (instr_of (plain v.code) here)) (next kinds (plain v.code) here) r new (cells_of behind) comes can.1 (calling (plain v.code) (kinds_of kinds here) here (instr_of (plain v.code) here)) (λ z. call (at.left ∙ z)) (code ∙ at.code) ends (subst (λ m. Fits r m new) at.left fits)
 
-pub step_lands : (old new : Standing) (before behind : Stored) (r : Stepped) → old.ended ≡ None → (old.stack.ended ≡ None → old.left ≡ 0 → calls_next old.stack.code old.stack ≡ false) → new.stack.code ≡ old.stack.code → (IsSmall before.cells → IsSmall behind.cells) → (before.pushed ≡ [] → behind.pushed ≡ []) → (old.stack.ended ≡ None → new.stack.ended ≡ ended_by r) → Fits r old.left new → IsTold old before r new behind → Lands old before new behind
-step_lands old new before behind r on none code small empty ends fits told = record {
+pub step_lands : (old new : Standing) (before behind : Stored) (r : Stepped) → old.ended ≡ None → (old.stack.ended ≡ None → old.left ≡ 0 → calls_next old.stack.code old.stack ≡ false) → new.stack.code ≡ old.stack.code → (IsSmall before.cells → IsSmall behind.cells) → (before.pushed ≡ [] → behind.pushed ≡ []) → (old.stack.ended ≡ None → new.stack.ended ≡ ended_by r) → Fits r old.left new → IsTold old before r new behind → HasCounted old (cells_of before) new (cells_of behind) → Lands old before new behind
+step_lands old new before behind r on none code small empty ends fits told counted = record {
   small = small;
   empty = empty;
+  counted = counted;
   turn = by;
 }
   where
@@ -157,6 +160,7 @@ pub ended_lands : (t : Standing) (before : Stored) (e : Ended) → t.ended ≡ S
 ended_lands t before e over = record {
   small = λ h. h;
   empty = λ h. h;
+  counted = record { started = refl; counted = counts_none before.cells before.released t.stack.freed };
   turn = by;
 }
   where
@@ -168,6 +172,7 @@ pub out_lands : (t : Standing) (before : Stored) → t.ended ≡ None → t.left
 out_lands t before on left call = record {
   small = λ h. h;
   empty = λ h. h;
+  counted = record { started = refl; counted = counts_none before.cells before.released t.stack.freed };
   turn = by;
 }
   where
@@ -188,10 +193,17 @@ out_lands t before on left call = record {
 
 -- ---- many turns
 
+counted_both : (a b c : Standing) (x y z : Store) → HasCounted a x b y → HasCounted b y c z → HasCounted a x c z
+counted_both a b c x y z f g = record {
+  started = g.started ∙ f.started;
+  counted = counts_on x.cells y.cells z.cells x.released y.released z.released a.stack.freed b.stack.freed c.stack.freed f.counted g.counted;
+}
+
 pub goes_none : (t : Standing) (before : Stored) → Goes t before t before
 goes_none t before = record {
   small = λ h. h;
   empty = λ h. h;
+  counted = record { started = refl; counted = counts_none before.cells before.released t.stack.freed };
   turns = λ v kinds r few top at can. (0, record { stands = over_cells v t (cells_of before) r at; cells = cells_in (cells_of before) r });
 }
 
@@ -199,6 +211,7 @@ pub goes_on : (a b c : Standing) (x y z : Stored) → Goes a x b y → Lands b y
 goes_on a b c x y z g l = record {
   small = λ h. l.small (g.small h);
   empty = λ h. l.empty (g.empty h);
+  counted = counted_both a b c (cells_of x) (cells_of y) (cells_of z) g.counted l.counted;
   turns = λ v kinds r few top at can.
       let h = g.turns v kinds r few top at can in
       let first : Run = in_store (cells_of x) r in
@@ -216,6 +229,7 @@ pub goes_far : (a b c : Standing) (x y z : Stored) → Goes a x b y → Goes b y
 goes_far a b c x y z g l = record {
   small = λ h. l.small (g.small h);
   empty = λ h. l.empty (g.empty h);
+  counted = counted_both a b c (cells_of x) (cells_of y) (cells_of z) g.counted l.counted;
   turns = λ v kinds r few top at can.
       let h = g.turns v kinds r few top at can in
       let first : Run = in_store (cells_of x) r in

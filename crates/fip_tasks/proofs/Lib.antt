@@ -3,3 +3,4 @@ pub mod Landings
 pub mod Lists
 pub mod Turning
 pub use Rattle.task_semantics.proofs as task_semantics
+pub mod Held

@@ -2,6 +2,7 @@
 use Rattle.std.proofs.Common.{◌≡◌, ◌≢◌, ◌⊎◌, inl, inr, ℕ, zero, suc, ◌<◌, List, [], ◌∷◌, ◌++◌, Some, refl, sym, ap, subst, ◌∙◌, length, map, replicate, get_or, length-set, arith}
 use Rattle.std.proofs.lemmas.Option.{same_Some, slice_get-map, slice_get_read}
 use Rattle.std.specs.Prelude.{slice_get, slice_set, option_map}
+use Rattle.cell_store.specs.Cells.{Cells}
 use Rattle.cell_store.specs.Made.{Stored}
 use Rattle.code_verify.specs.Checked.{Checked}
 use Rattle.task_semantics.specs.machine_semantics.Codes.{PlainCode, plain}
@@ -15,6 +16,7 @@ use Rattle.fip_tasks.specs.declared.task.Task.{Task}
 use Rattle.fip_tasks.specs.Landing.{standing, cells_of, IsLanded, Lands, Goes, IsNew}
 use Rattle.fip_tasks.specs.Shown.{StandsAt, CanGo, CanTurn, CanFinish, Shows, AreStarted}
 use Rattle.fip_tasks.specs.Turns.{Standing, Turns}
+use Rattle.fip_tasks.specs.Gauged.{HasCounted, HoldsAtStart}
 use Rattle.fip_tasks.proofs.Lists.{at_same, at_other, at_push, map_set, there}
 use Rattle.fip_tasks.proofs.Landings.{from_cells, cells_in, own_cells}
 
@@ -95,6 +97,18 @@ is_set [] k t a h e = absurd (omega (arith, h))
 is_set (x ∷ xs) zero t a h e = same_Some (standing t) a e
 is_set (x ∷ xs) (suc k) t a h e = is_set xs k t a (omega (arith, h)) e
 
+-- the task that stood at its number
+pub was_set : (ts : List Task) (k : ℕ) (x : Task) (a : Standing) → slice_get ts k ≡ Some x → slice_get (map standing ts) k ≡ Some a → standing x ≡ a
+was_set ts k x a at is = same_Some (standing x) a (sym (ap (λ o. option_map standing o) at) ∙ sym (slice_get-map standing ts k) ∙ is)
+
+-- what its turns released is counted
+pub counts_at : (ts : List Task) (k : ℕ) (x t : Task) (a b : Standing) (before behind : Store) → k < length ts → slice_get ts k ≡ Some x → slice_get (map standing ts) k ≡ Some a → slice_get (map standing (slice_set ts k t)) k ≡ Some b → HasCounted (standing x) before (standing t) behind → HasCounted a before b behind
+counts_at ts k x t a b before behind within at old new counted = subst (λ (z : Standing). HasCounted z before b behind) (was_set ts k x a at old) (subst (λ (z : Standing). HasCounted (standing x) before z behind) (is_set ts k t b within new) counted)
+
+-- the others stay
+pub others_at : (ts : List Task) (k j : ℕ) (t : Task) → j ≢ k → slice_get (map standing (slice_set ts k t)) j ≡ slice_get (map standing ts) j
+others_at ts k j t h = ap (λ zs. slice_get zs j) (map_set standing ts k t) ∙ at_other (map standing ts) k j (standing t) h
+
 pub within : (ts : List Task) (k : ℕ) → k < length (map standing ts) → k < length ts
 within [] k h = h
 within (x ∷ xs) zero h = omega arith
@@ -158,6 +172,23 @@ new_more v starts ts b t at are new k a u is here = elim (at_push ts t k u here)
       let start : b ≡ a = same_Some b a (sym at ∙ ap (slice_get starts) (sym h.0) ∙ is) in
       subst (λ (z : Start). IsNew v z (standing u)) start (subst (λ (z : Task). IsNew v b (standing z)) (sym h.1) new))
 ]
+
+-- each of them holds the cells of its start
+abbrev pub AreHeld : Checked → Cells → List Start → List Task → Type 0
+AreHeld v cs starts ts = (k : ℕ) (b : Start) (t : Task) → slice_get starts k ≡ Some b → slice_get ts k ≡ Some t → HoldsAtStart v cs b t.started
+
+pub held_more : (v : Checked) (cs : Cells) (starts : List Start) (ts : List Task) (b : Start) (t : Task) → slice_get starts (length ts) ≡ Some b → AreHeld v cs starts ts → HoldsAtStart v cs b t.started → AreHeld v cs starts (ts ++ t ∷ [])
+held_more v cs starts ts b t at are new k a u is here = elim (at_push ts t k u here) [
+  | inl h ↦ are k a u is h
+  | inr h ↦ (
+      let start : b ≡ a = same_Some b a (sym at ∙ ap (slice_get starts) (sym h.0) ∙ is) in
+      subst (λ (z : Start). HoldsAtStart v cs z u.started) start (subst (λ (z : Task). HoldsAtStart v cs b z.started) (sym h.1) new))
+]
+
+pub held_seen : (v : Checked) (cs : Cells) (starts : List Start) (ts : List Task) (k : ℕ) (b : Start) (a : Standing) → AreHeld v cs starts ts → slice_get starts k ≡ Some b → slice_get (map standing ts) k ≡ Some a → HoldsAtStart v cs b a.started
+held_seen v cs starts ts k b a are at is =
+    let t = there (map standing ts) ts k a (map_length ts) is in
+    subst (λ (z : Standing). HoldsAtStart v cs b z.started) (was_set ts k t.0 a t.1 is) (are k b t.0 at t.1)
 
 -- new tasks stand where their functions are loaded
 pub new_shows : (v : Checked) (starts : List Start) (ts : List Task) (cells : Stored) (first : Store) (shared : Shared) → AreNew v starts ts → length ts ≡ length starts → store_of cells.cells cells.released ≡ first → IsSmall first.cells → cells.pushed ≡ [] → AreStarted v first starts shared → Shows v (seen ts cells) shared

@@ -14,11 +14,12 @@ use Rattle.fip_tasks.specs.declared.task.Advanced.TheVariants as A
 use Rattle.fip_tasks.specs.declared.task.Start.{Start}
 use Rattle.fip_tasks.specs.declared.task.Task.{Task}
 use Rattle.fip_tasks.specs.Turns.{Standing}
+use Rattle.fip_tasks.specs.Gauged.{HasCounted}
 use Rattle.fip_tasks.specs.Shown.{StandsAt, CanGo, IsStarted}
 
 -- a task as callers see it
 abbrev pub standing : Task → Standing
-standing t = record { stack = t.stack; left = t.calls_left; ended = t.ended }
+standing t = record { stack = t.stack; left = t.calls_left; started = t.started; ended = t.ended }
 
 -- how a task has ended by what a step came to
 abbrev pub end_by : Advanced → Option Ended
@@ -38,6 +39,7 @@ pub record IsLanded (v : Checked) (t : Standing) (store : Store) (r : Run) : Typ
 pub record Lands (old : Standing) (before : Stored) (new : Standing) (behind : Stored) : Type 0 where
   pub small : IsSmall before.cells → IsSmall behind.cells
   pub empty : before.pushed ≡ [] → behind.pushed ≡ []
+  pub counted : HasCounted old (cells_of before) new (cells_of behind)
   pub turn : (v : Checked) (kinds : Kinds) (r : Run) → IsSmall before.cells → before.pushed ≡ [] → StandsAt v old r →
       CanGo v kinds (in_store (cells_of before) r) →
       IsLanded v new (cells_of behind) (later kinds (plain v.code) (in_store (cells_of before) r))
@@ -46,6 +48,7 @@ pub record Lands (old : Standing) (before : Stored) (new : Standing) (behind : S
 pub record Goes (old : Standing) (before : Stored) (new : Standing) (behind : Stored) : Type 0 where
   pub small : IsSmall before.cells → IsSmall behind.cells
   pub empty : before.pushed ≡ [] → behind.pushed ≡ []
+  pub counted : HasCounted old (cells_of before) new (cells_of behind)
   pub turns : (v : Checked) (kinds : Kinds) (r : Run) → IsSmall before.cells → before.pushed ≡ [] → StandsAt v old r →
       ((n : ℕ) → CanGo v kinds (after kinds (plain v.code) n (in_store (cells_of before) r))) →
       (n : ℕ) × IsLanded v new (cells_of behind) (after kinds (plain v.code) n (in_store (cells_of before) r))

@@ -1,4 +1,5 @@
 pub mod Turns
+pub mod Gauged
 pub mod Shown
 pub mod Landing
 pub use Rattle.fip_machine.specs.cell_code as cell_code

@@ -15,10 +15,12 @@ pub record CanStart (v : Checked) (s : Start) : Type 0 where
   pub entry : s.entry < length v.code.functions.items
   pub frames : s.frames ≤ MOST_FRAMES
 
--- a task: its frames, the calls that are left, and how it ended, where it did
+-- a task: its frames, the calls that are left, how many cells of each size from 1 it held at the start, and how it
+-- ended, where it did
 pub record Standing : Type 0 where
   pub stack : Stand
   pub left : ℕ
+  pub started : List ℕ
   pub ended : Option Ended
 
 -- tasks by number, the store of all, and the words on its stack, of which there are none between turns

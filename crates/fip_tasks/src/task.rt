@@ -1,17 +1,27 @@
 // A task: frames, and what is known of its run.
-ghost use Rattle.std.specs.Prelude.{◌≡◌, ◌<◌, IfOk, None, Some};
+ghost use Rattle.std.specs.Prelude.{◌≡◌, ℕ, ◌+◌, ◌<◌, ◌≤◌, ◌^◌, ◌++◌, List, IfOk, OnOk, None, Some};
+ghost use Rattle.std.specs.Prelude.{length, map, slice_index_or};
+ghost use Rattle.fip_language.specs.declared.limits.TheConstants.{MOST_FIELDS};
 ghost use Rattle.fip_tasks.specs.Turns.{CanStart};
 ghost use Rattle.fip_tasks.specs.Shown.{turned_by};
+ghost use Rattle.fip_language.specs.Store.{Placed, Parts, value_of, values_of, word_of, words_of, places, places_of_all};
+ghost use Rattle.fip_language.specs.Store.{count};
+ghost use Rattle.fip_language.specs.Values as V;
+ghost use Rattle.value_text.specs.Standing.{Stands, StandAll};
+ghost use Rattle.store_trees.specs.Added.{places_of};
+ghost use Rattle.store_trees.specs.declared.trees.TheConstants.{MOST_CELLS};
+ghost use Rattle.fip_machine.specs.machine_cells.Counting.{CountsOne};
+ghost use Rattle.fip_tasks.specs.Gauged.{IsGaugeOf, left_of, AddsCells, HoldsAtStart, sized};
 ghost use Rattle.fip_tasks.specs.Landing.{standing, end_by, Lands, Goes, IsNew};
 
 use cell_store::{Cells, Sealed};
 use code_verify::Verified;
-use fip_base::plain::{FunKind, NoMemory, TrapKind, Words};
+use fip_base::plain::{NoMemory, Param, TrapKind, Words};
 use fip_base::table::TypeTable;
 use fip_language::limits::MOST_FIELDS;
 use fip_machine::{Ended, Gauge, Stepped, TaskStack};
 use std::alloc::Global;
-use store_trees::{MOST_CELLS, Trees};
+use store_trees::{MOST_CELLS, Tree, Trees};
 
 // The sizes of cells.
 const SIZES: usize = MOST_FIELDS;
@@ -59,38 +69,33 @@ impl Turned {
     }
 }
 
-// The number of cells of each size from 1 to 16 of a task's arguments and credits.
-fn held_at_start(
-    alloc: Global,
-    verified: &Verified,
-    cells: &Sealed,
-    start: &Start,
-) -> Result<[u64; SIZES], NoMemory> {
-    let mut held = [0; SIZES];
-    let Some(function) = verified.code().functions.get(start.entry) else {
-        return Ok(held);
-    };
-    let params = function.params.as_slice();
-    for (param, word) in params.iter().zip(start.words.as_slice().iter()) {
-        add_cells(
-            alloc,
-            &verified.code().types,
-            cells,
-            param.ty,
-            *word,
-            &mut held,
-        )?;
+// One more cell of a size.
+fn add_one(held: &mut [u64; SIZES], size: usize)
+    ensures one { CountsOne held.old size held.new }
+{
+    if 1 <= size && size <= SIZES {
+        held[size - 1] = held[size - 1].saturating_add(1);
     }
-    for size in &function.credits {
-        add_one(&mut held, *size as usize);
-    }
-    Ok(held)
 }
 
-// One more cell of a size.
-fn add_one(held: &mut [u64; SIZES], size: usize) {
-    if let Some(number) = held.get_mut(size.wrapping_sub(1)) {
-        *number = number.saturating_add(1);
+// As many more of each size as the credits have.
+fn add_credits(credits: &[u8], held: &mut [u64; SIZES])
+    ensures added { AddsCells held.old (λ k. count k credits.now) held.new }
+{
+    for i in 0..credits.len() {
+        add_one(held, credits[i] as usize);
+    }
+}
+
+// As many more of each size as the trees' roots have.
+fn add_roots(cells: &Sealed, trees: &[Tree], held: &mut [u64; SIZES])
+    ensures added { AddsCells held.old (λ k. sized k cells.now.cells (places_of trees.now)) held.new }
+{
+    for i in 0..trees.len() {
+        let place = trees[i].place;
+        if cells.begins(place) {
+            add_one(held, cells.cell_size(place));
+        }
     }
 }
 
@@ -102,15 +107,63 @@ fn add_cells(
     ty: u32,
     word: u64,
     held: &mut [u64; SIZES],
-) -> Result<(), NoMemory> {
+) -> Result<(), NoMemory>
+    ensures added { length cells.now.cells ≤ 2 ^ 32 → (x : Placed) → Stands table.now cells.now.cells ty x →
+        word_of x ≡ word → length (places x) ≤ MOST_CELLS →
+        OnOk result (AddsCells held.old (λ k. V.cells k (value_of x)) held.new) }
+{
     let mut trees = Trees::none(alloc);
     trees.add(table, cells, ty, word, MOST_CELLS)?;
-    for tree in trees.as_slice() {
-        if cells.begins(tree.place) {
-            add_one(held, cells.cell_size(tree.place));
+    add_roots(cells, trees.as_slice(), held);
+    Ok(())
+}
+
+// As many more of each size as the values of words of these parameters have.
+fn add_arguments(
+    alloc: Global,
+    table: &TypeTable,
+    cells: &Sealed,
+    params: &[Param],
+    words: &[u64],
+    held: &mut [u64; SIZES],
+) -> Result<(), NoMemory>
+    ensures added { length cells.now.cells ≤ 2 ^ 32 → (xs : Parts) (more : List ℕ) → StandAll table.now
+        cells.now.cells (map (λ p. p.ty) params.now) xs → words.now ≡ words_of xs ++ more →
+        length (places_of_all xs) ≤ MOST_CELLS →
+        OnOk result (AddsCells held.old (λ k. V.cells_of_all k (values_of xs)) held.new) }
+{
+    for i in 0..params.len() {
+        if i < words.len() {
+            add_cells(alloc, table, cells, params[i].ty, words[i], held)?;
         }
     }
     Ok(())
+}
+
+// The number of cells of each size from 1 to 16 of a task's arguments and credits.
+fn held_at_start(
+    alloc: Global,
+    verified: &Verified,
+    cells: &Sealed,
+    start: &Start,
+) -> Result<[u64; SIZES], NoMemory>
+    ensures held { IfOk result (HoldsAtStart verified.now cells.now.cells start.now) }
+{
+    let mut held = [0; SIZES];
+    let code = verified.code();
+    if start.entry < code.functions.len() {
+        let function = &code.functions[start.entry];
+        add_arguments(
+            alloc,
+            &code.types,
+            cells,
+            function.params.as_slice(),
+            start.words.as_slice(),
+            &mut held,
+        )?;
+        add_credits(function.credits.as_slice(), &mut held);
+    }
+    Ok(held)
 }
 
 // What a step of a task came to.
@@ -131,12 +184,8 @@ pub struct Task<'a> {
     stack: TaskStack<'a>,
     calls_left: u64,
     ended: Option<Ended>,
-    // Whether its function may release cells.
-    may_release: bool,
-    // The cells of each size from 1 to 16 at the start, and now.
+    // The cells of each size from 1 to 16 that it held at the start.
     started: [u64; SIZES],
-    held: [u64; SIZES],
-    gauge: Gauge,
 }
 
 impl<'a> Task<'a> {
@@ -149,12 +198,11 @@ impl<'a> Task<'a> {
     ) -> Result<Task<'a>, NoMemory>
         requires can { CanStart verified.now start.now }
         ensures new { IfOk result (λ t. IsNew verified.now start.now (standing t)) }
+        ensures held { IfOk result (λ t. HoldsAtStart verified.now cells.now.cells start.now t.started) }
     {
         let held = held_at_start(alloc, verified, cells, start)?;
         let words = start.words.copy(alloc)?.into_vec();
         let stack = TaskStack::start(alloc, verified, start.entry, words, start.frames)?;
-        let mut gauge = Gauge::new();
-        gauge.see(&held, stack.frames(), stack.words());
         let ended = if start.calls == 0 {
             Some(Ended::Out)
         } else {
@@ -165,10 +213,7 @@ impl<'a> Task<'a> {
             stack,
             calls_left: start.calls.saturating_sub(1),
             ended,
-            may_release: verified.code().functions[start.entry].kind != FunKind::Fip,
             started: held,
-            held,
-            gauge,
         })
     }
 
@@ -191,34 +236,26 @@ impl<'a> Task<'a> {
         self.stack.results()
     }
 
+    // How many cells of each size from 1 to 16 its turns have left of those that it held at the start.
+    fn held(&self) -> [u64; SIZES]
+        ensures left { (k : ℕ) → k < MOST_FIELDS → slice_index_or result k 0 ≡ left_of (standing self.now) (k + 1) }
+    {
+        let mut held = [0; SIZES];
+        for k in 0..SIZES {
+            held[k] = self.started[k].saturating_sub(self.stack.freed(k + 1) as u64);
+        }
+        held
+    }
+
     /// The gauge of the states that it was in.
-    pub fn gauge(&self) -> &Gauge {
-        &self.gauge
-    }
-
-    // Takes in the cells that were released. False where none was.
-    fn count_released(&mut self) -> bool
-        ensures stands { standing self.new ≡ standing self.old }
+    pub fn gauge(&self) -> Gauge
+        ensures tells { IsGaugeOf (standing self.now) result }
     {
-        let mut fell = false;
-        for k in 1..=SIZES {
-            let now = self.started[k - 1].saturating_sub(self.stack.freed(k) as u64);
-            fell = fell || now != self.held[k - 1];
-            self.held[k - 1] = now;
-        }
-        fell
-    }
-
-    // Shows the gauge the state that it is in, where that tells it more.
-    fn look(&mut self)
-        ensures stands { standing self.new ≡ standing self.old }
-    {
-        let frames = self.stack.frames();
-        let words = self.stack.words();
-        let fell = self.may_release && self.count_released();
-        if fell || frames > self.gauge.frames() || words > self.gauge.words() {
-            self.gauge.see(&self.held, frames, words);
-        }
+        let highest = self.stack.highest();
+        let mut gauge = Gauge::new();
+        gauge.see(&self.started, highest.frames, highest.words);
+        gauge.see(&self.held(), highest.frames, highest.words);
+        gauge
     }
 
     // Does one instruction.
@@ -237,7 +274,6 @@ impl<'a> Task<'a> {
             return Advanced::Over(Ended::Out);
         }
         let stepped = self.stack.step(cells);
-        self.look();
         let ended = match stepped {
             Stepped::Went => return Advanced::Went,
             Stepped::Entered if self.calls_left > 0 => {

@@ -1,10 +1,11 @@
 // Tasks in one store.
-ghost use Rattle.std.specs.Prelude.{◌≡◌, ℕ, ◌<◌, length, IfOk, All, Some, slice_get, replicate};
+ghost use Rattle.std.specs.Prelude.{◌≡◌, ◌≢◌, ℕ, ◌<◌, length, IfOk, All, Some, slice_get, replicate};
 ghost use Rattle.task_semantics.specs.machine_semantics.Codes.{plain};
 ghost use Rattle.task_semantics.specs.machine_semantics.Steps.{Kinds};
 ghost use Rattle.code_verify.specs.Checked.{Checked};
 ghost use Rattle.fip_machine.specs.machine_cells.Small.{store_of};
 ghost use Rattle.task_semantics.specs.Schedules.{Shared, turn, scheduled};
+ghost use Rattle.fip_tasks.specs.Gauged.{HasCounted, HoldsAtStart, IsGaugeOf};
 ghost use Rattle.fip_tasks.specs.Turns.{CanStart, Standing};
 ghost use Rattle.fip_tasks.specs.Shown.{Shows, CanTurn, CanFinish, AreStarted, turned_by};
 
@@ -53,6 +54,9 @@ impl<'a> Tasks<'a> {
         // They stand where the functions are loaded, each with its words.
         ensures first { IfOk result (λ t. (shared : Shared) → AreStarted verified.now
             (store_of loader.cells loader.released) starts.now shared → Shows verified.now t shared) }
+        // At its start each holds the cells of its arguments and credits.
+        ensures started { IfOk result (λ t. (k : ℕ) (b : Start) (a : Standing) → slice_get starts.now k ≡ Some b →
+            slice_get t.tasks k ≡ Some a → HoldsAtStart verified.now loader.cells b a.started) }
     {
         let _left = loader.left();
         let cells = seal(loader);
@@ -78,6 +82,10 @@ impl<'a> Tasks<'a> {
         // Tasks that stand where the runs of a schedule do stand where they do after one turn more,
         ensures turn { (v : Checked) (kinds : Kinds) (shared : Shared) → Shows v self.old shared →
             CanTurn v kinds shared k → Shows v self.new (turn kinds (plain v.code) shared k) }
+        // what its turn released is counted, for its gauge, and the others stay as they are,
+        ensures counted { (a b : Standing) → slice_get self.old.tasks k ≡ Some a → slice_get self.new.tasks k ≡ Some b →
+            HasCounted a self.old.store b self.new.store }
+        ensures others { (j : ℕ) → j ≢ k → slice_get self.new.tasks j ≡ slice_get self.old.tasks j }
         // and the answer tells whether the task has ended, and how.
         ensures told { (a : Standing) → slice_get self.new.tasks k ≡ Some a → result ≡ turned_by a.ended }
     {
@@ -92,7 +100,11 @@ impl<'a> Tasks<'a> {
         ensures turns { (v : Checked) (kinds : Kinds) (shared : Shared) → Shows v self.old shared →
             CanFinish v kinds shared k →
             (n : ℕ) × Shows v self.new (scheduled kinds (plain v.code) (replicate n k) shared) }
-        // which then has ended.
+        // what they released is counted, and the others stay as they are,
+        ensures counted { (a b : Standing) → slice_get self.old.tasks k ≡ Some a → slice_get self.new.tasks k ≡ Some b →
+            HasCounted a self.old.store b self.new.store }
+        ensures others { (j : ℕ) → j ≢ k → slice_get self.new.tasks j ≡ slice_get self.old.tasks j }
+        // and the task has ended.
         ensures told { (a : Standing) → slice_get self.new.tasks k ≡ Some a → a.ended ≡ Some result }
     {
         self.tasks[k].finish(&mut self.cells)
@@ -114,9 +126,11 @@ impl<'a> Tasks<'a> {
         self.tasks[k].results()
     }
 
-    /// The gauge of the states that task `k` was in: it counts the cells of this task alone.
-    pub fn gauge(&self, k: usize) -> &Gauge
+    /// The gauge of the states that task `k` was in: it counts the cells of this task alone. Its highest numbers are
+    /// those of the start, its lowest those that its turns have left.
+    pub fn gauge(&self, k: usize) -> Gauge
         requires there { k < length self.now.tasks }
+        ensures tells { (a : Standing) → slice_get self.now.tasks k ≡ Some a → IsGaugeOf a result }
     {
         self.tasks[k].gauge()
     }

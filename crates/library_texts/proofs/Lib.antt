@@ -5,6 +5,8 @@ mod TreeCore
 mod RedBlackCore
 mod FingerCore
 mod Deriving
+mod Reading
+mod Typing
 pub mod ListText
 pub mod TreeText
 pub mod RedBlackText

@@ -1,5 +1,5 @@
-// What the texts of the library come to: each to the program that is written out. The theorem is the contract of a
-// function that does nothing.
+// What the texts of the library come to: each to the program that is written out. The theorems are the contracts of
+// functions that do nothing.
 #![tactic(auto)]
 
 ghost use Rattle.fip_library.specs.declared.list.TheConstants as list_text;
@@ -10,6 +10,7 @@ ghost use Rattle.library_programs.specs.ListProgram.{list_program};
 ghost use Rattle.library_programs.specs.TreeProgram.{tree_program};
 ghost use Rattle.library_programs.specs.RedBlackProgram.{rbtree_program};
 ghost use Rattle.library_programs.specs.FingerProgram.{finger_program};
+ghost use Rattle.source_report.specs.Report.{IsTyped};
 ghost use Rattle.library_texts.specs.ComesTo.{ComesTo};
 
 /// Each text of the library has just the typed program that is written out, places included, where it breaks no rule.
@@ -19,4 +20,13 @@ pub fn the_texts_come_to_the_programs()
     ensures tree { ComesTo tree_text.TEXT.now tree_program }
     ensures rbtree { ComesTo rbtree_text.TEXT.now rbtree_program }
     ensures finger { ComesTo finger_text.TEXT.now finger_program }
+{}
+
+/// Each text of the library is spelt, its declarations, its uses of functions and its types break no rule, and its typed
+/// program is the one that is written out. For who has the program typed again.
+pub fn the_texts_are_well_typed()
+    ensures list { IsTyped list_text.TEXT.now list_program }
+    ensures tree { IsTyped tree_text.TEXT.now tree_program }
+    ensures rbtree { IsTyped rbtree_text.TEXT.now rbtree_program }
+    ensures finger { IsTyped finger_text.TEXT.now finger_program }
 {}

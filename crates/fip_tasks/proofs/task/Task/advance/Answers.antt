@@ -4,7 +4,7 @@ use Rattle.fip_machine.specs.machine_step.declared.rows.Stepped.{Stepped}
 use Rattle.fip_machine.specs.declared.machine.Ended.{Ended}
 use Rattle.fip_machine.specs.Along.{calls_next}
 use Rattle.fip_tasks.specs.Turns.{Standing}
-use Rattle.fip_tasks.specs.Landing.{standing, Lands}
+use Rattle.fip_tasks.specs.Landing.{standing}
 use Rattle.fip_tasks.proofs.Landings.{Fits, step_lands, not_some, entered_fits, spent_fits}
 use Rattle.fip_tasks.proofs.task.Task.advance.Goals.{else-self-eq0-via-then-self-eq0+else-at_call, else-self-eq0-via-else-self-eq0, in-Entered-2, in-Value, in-Trap, in-Deep}
 use Rattle.fip_tasks.proofs.task.Task.advance.Goals as goal
@@ -18,10 +18,9 @@ returns-in-Went-clause-lands c =
       | else-self-eq0-via-else-self-eq0 w ↦ absurd (let f = w.if-self-eq0.false in omega (arith, f, z))
     ] in
     let t = c.step-stepped.ensures in
-    let new : Standing = record { stack = c.step-stepped.new.self; left = old.left; ended = old.ended } in
+    let new : Standing = record { stack = c.step-stepped.new.self; left = old.left; started = old.started; ended = old.ended } in
     let fits : Fits c.step-stepped.result old.left new = subst (λ (q : Stepped). Fits q old.left new) (sym c.in-Went.is) (on, refl) in
-    let lands : Lands old c.args.cells.now new c.step-stepped.new.cells = step_lands old new c.args.cells.now c.step-stepped.new.cells c.step-stepped.result on none t.code t.small t.pushed t.ends fits t.next in
-    subst (λ (z : Standing). Lands old c.args.cells.now z c.step-stepped.new.cells) (sym c.look.ensures.stands) lands
+    step_lands old new c.args.cells.now c.step-stepped.new.cells c.step-stepped.result on none t.code t.small t.pushed t.ends fits t.next (record { started = refl; counted = t.counted })
 
 pub returns-in-Entered-clause-lands : goal.returns-in-Entered-clause-lands
 returns-in-Entered-clause-lands c =
@@ -32,13 +31,10 @@ returns-in-Entered-clause-lands c =
       | else-self-eq0-via-else-self-eq0 w ↦ absurd (let f = w.if-self-eq0.false in omega (arith, f, z))
     ] in
     let t = c.step-stepped.ensures in
-    let new : Standing = record { stack = c.step-stepped.new.self; left = old.left - 1; ended = old.ended } in
-    let stays : standing c.look.new.self ≡ record { stack = c.step-stepped.new.self; left = old.left; ended = old.ended } = c.look.ensures.stands in
-    let left : c.look.new.self.calls_left ≡ old.left = ap (λ (z : Standing). z.left) stays in
-    let some : 0 < old.left = (let f = c.if-self-gt0.true in omega (arith, f, left)) in
+    let new : Standing = record { stack = c.step-stepped.new.self; left = old.left - 1; started = old.started; ended = old.ended } in
+    let some : 0 < old.left = c.if-self-gt0.true in
     let fits : Fits c.step-stepped.result old.left new = subst (λ (q : Stepped). Fits q old.left new) (sym c.in-Entered.is) (entered_fits old.left new some on refl) in
-    let lands : Lands old c.args.cells.now new c.step-stepped.new.cells = step_lands old new c.args.cells.now c.step-stepped.new.cells c.step-stepped.result on none t.code t.small t.pushed t.ends fits t.next in
-    subst (λ (z : Standing). Lands old c.args.cells.now (record { stack = z.stack; left = z.left - 1; ended = z.ended }) c.step-stepped.new.cells) (sym stays) lands
+    step_lands old new c.args.cells.now c.step-stepped.new.cells c.step-stepped.result on none t.code t.small t.pushed t.ends fits t.next (record { started = refl; counted = t.counted })
 
 pub returns-clause-lands : goal.returns-clause-lands
 returns-clause-lands c =
@@ -49,14 +45,11 @@ returns-clause-lands c =
       | else-self-eq0-via-else-self-eq0 w ↦ absurd (let f = w.if-self-eq0.false in omega (arith, f, z))
     ] in
     let t = c.step-stepped.ensures in
-    let new : Standing = record { stack = c.step-stepped.new.self; left = old.left; ended = Some c.match-stepped.ended } in
-    let stays : standing c.look.new.self ≡ record { stack = c.step-stepped.new.self; left = old.left; ended = old.ended } = c.look.ensures.stands in
-    let left : c.look.new.self.calls_left ≡ old.left = ap (λ (z : Standing). z.left) stays in
+    let new : Standing = record { stack = c.step-stepped.new.self; left = old.left; started = old.started; ended = Some c.match-stepped.ended } in
     let fits : Fits c.step-stepped.result old.left new = elim c.match-stepped.branch [
-      | in-Entered-2 w ↦ subst (λ (q : Stepped). Fits q old.left new) (sym w.in-Entered-2.is) (spent_fits old.left new (let f = w.if-self-gt0.false in omega (arith, f, left)))
+      | in-Entered-2 w ↦ subst (λ (q : Stepped). Fits q old.left new) (sym w.in-Entered-2.is) (spent_fits old.left new (let f = w.if-self-gt0.false in omega (arith, f)))
       | in-Value w ↦ subst (λ (q : Stepped). Fits q old.left new) (sym w.in-Value.is) (ap (λ (e : Ended). Some e) w.ended-is)
       | in-Trap w ↦ subst (λ (q : Stepped). Fits q old.left new) (sym w.in-Trap.is) (ap (λ (e : Ended). Some e) w.ended-is)
       | in-Deep w ↦ subst (λ (q : Stepped). Fits q old.left new) (sym w.in-Deep.is) (ap (λ (e : Ended). Some e) w.ended-is)
     ] in
-    let lands : Lands old c.args.cells.now new c.step-stepped.new.cells = step_lands old new c.args.cells.now c.step-stepped.new.cells c.step-stepped.result on none t.code t.small t.pushed t.ends fits t.next in
-    subst (λ (z : Standing). Lands old c.args.cells.now (record { stack = z.stack; left = z.left; ended = Some c.match-stepped.ended }) c.step-stepped.new.cells) (sym stays) lands
+    step_lands old new c.args.cells.now c.step-stepped.new.cells c.step-stepped.result on none t.code t.small t.pushed t.ends fits t.next (record { started = refl; counted = t.counted })

@@ -13,7 +13,7 @@ returns c =
     let v = c.args.verified.now in
     let start = c.args.start.now in
     let words : c.into_vec-words.result.items ≡ start.words = c.into_vec-words.ensures.same ∙ c.in_ok-copy.ensures.same in
-    let t : Standing = record { stack = c.in_ok-stack.stack; left = c.saturating_sub.result; ended = c.if-start-eq0.ended } in
+    let t : Standing = record { stack = c.in_ok-stack.stack; left = c.saturating_sub.result; started = c.in_ok-held.held; ended = c.if-start-eq0.ended } in
     let loads : IsLoaded v start c.in_ok-stack.stack = λ cells r h.
     c.in_ok-stack.ensures.loaded h.function h.there (subst (λ (ws : List ℕ). length ws ≤ h.function.registers) (sym words) h.fits) cells h.first
     (ap (λ (ws : List ℕ). loaded (plain v.code) start.entry cells ws start.frames) words ∙ h.loaded) in
@@ -26,4 +26,4 @@ returns c =
       | else-start-eq0 w ↦ w.ended-is
     ] in
     let left : (n : ℕ) → start.calls ≡ suc n → t.left ≡ n = λ n z. (let f = c.saturating_sub.ensures in omega (arith, f, z)) in
-    record { new = is_new v start t c.in_ok-stack.ensures.code c.in_ok-stack.ensures.going loads out (λ n z. (on n z, left n z)) }
+    record { held = c.in_ok-held.ensures.held; new = is_new v start t c.in_ok-stack.ensures.code c.in_ok-stack.ensures.going loads out (λ n z. (on n z, left n z)) }

@@ -1,8 +1,11 @@
 -- The task goes to its end, and the others stay.
-use Rattle.std.proofs.Common.{◌∙◌, ◌<◌, length, sym, ap, subst}
+use Rattle.std.proofs.Common.{◌≡◌, ◌∙◌, ◌<◌, Some, length, sym, ap, subst}
+use Rattle.std.specs.Prelude.{slice_get}
 use Rattle.fip_tasks.specs.Turns.{Standing, Turns}
+use Rattle.fip_tasks.specs.Gauged.{HasCounted}
+use Rattle.fip_tasks.specs.Landing.{cells_of}
 use Rattle.fip_tasks.specs.Shown.{Shows}
-use Rattle.fip_tasks.proofs.Turning.{turns_show, is_set, within, read_at, seen}
+use Rattle.fip_tasks.proofs.Turning.{turns_show, is_set, within, read_at, seen, counts_at, others_at}
 use Rattle.fip_tasks.proofs.tasks.Tasks.finish.Goals as goal
 
 pub returns-clause-turns : goal.returns-clause-turns
@@ -16,3 +19,15 @@ returns-clause-turns c v kinds shared shows can =
 pub returns-clause-told : goal.returns-clause-told
 returns-clause-told c a is =
     ap (λ (t : Standing). t.ended) (sym (is_set c.self.inside.tasks.items c.args.k c.finish.new.self a (within c.self.inside.tasks.items c.args.k (subst (λ (t : Turns). c.args.k < length t.tasks) (sym c.self.view_is) c.requires.there)) is)) ∙ c.finish.ensures.ended
+
+pub returns-clause-counted : goal.returns-clause-counted
+returns-clause-counted c a b old new =
+    let ts = c.self.inside.tasks.items in
+    let before = c.self.inside.cells in
+    let there : c.args.k < length ts = within ts c.args.k (subst (λ (t : Turns). c.args.k < length t.tasks) (sym c.self.view_is) c.requires.there) in
+    let counted = counts_at ts c.args.k c.index_mut.result.now c.finish.new.self a b (cells_of before) (cells_of c.finish.new.cells) there (read_at ts c.args.k c.index_mut.result.now there c.index_mut.ensures.value) (subst (λ (t : Turns). slice_get t.tasks c.args.k ≡ Some a) (sym c.self.view_is) old) new c.finish.ensures.goes.counted in
+    subst (λ (t : Turns). HasCounted a t.store b (cells_of c.finish.new.cells)) c.self.view_is counted
+
+pub returns-clause-others : goal.returns-clause-others
+returns-clause-others c j h =
+    others_at c.self.inside.tasks.items c.args.k j c.finish.new.self h ∙ ap (λ (t : Turns). slice_get t.tasks j) c.self.view_is

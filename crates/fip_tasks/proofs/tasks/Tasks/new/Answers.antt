@@ -5,7 +5,9 @@ use Rattle.std.specs.Prelude.{slice_get}
 use Rattle.task_semantics.specs.machine_semantics.Cells.{Store}
 use Rattle.fip_machine.specs.machine_cells.Small.{IsSmall, store_of}
 use Rattle.fip_tasks.specs.declared.task.Task.{Task}
-use Rattle.fip_tasks.proofs.Turning.{AreNew, new_more, new_shows}
+use Rattle.cell_store.specs.Cells.{Cells}
+use Rattle.fip_tasks.specs.Gauged.{HoldsAtStart}
+use Rattle.fip_tasks.proofs.Turning.{AreNew, new_more, new_shows, AreHeld, held_more, held_seen}
 use Rattle.fip_tasks.proofs.tasks.Tasks.new.Goals as goal
 
 pub loop-start-preserved : goal.loop-start-preserved
@@ -16,10 +18,12 @@ loop-start-preserved c =
     let task = c.in_ok-new.field-0 in
     let at : slice_get starts (length old) ≡ Some c.start-item.result =
     subst (λ n. slice_get starts n ≡ Some c.start-item.result) (sym c.loop-start.invariant.number) (slice_get_read starts (length starts) c.loop-start.start-index c.start-item.result refl c.loop-start-test.true c.start-item.is) in
+    let held : AreHeld v c.args.loader.cells starts (old ++ task ∷ []) = held_more v c.args.loader.cells starts old c.start-item.result task at c.loop-start.invariant.held (subst (λ (cs : Cells). HoldsAtStart v cs c.start-item.result task.started) c.seal-cells.ensures.cells c.in_ok-new.ensures.held) in
     let are : AreNew v starts (old ++ task ∷ []) = new_more v starts old c.start-item.result task at c.loop-start.invariant.each c.in_ok-new.ensures.new in
     record {
       number = (let e = ap length c.in_ok-push.ensures.items in let f = length-append old (task ∷ []) in let n = c.loop-start.invariant.number in omega (arith, e, f, n));
       each = subst (λ (ts : List Task). AreNew v starts ts) (sym c.in_ok-push.ensures.items) are;
+      held = subst (λ (ts : List Task). AreHeld v c.args.loader.cells starts ts) (sym c.in_ok-push.ensures.items) held;
     }
 
 pub returns-clause-first : goal.returns-clause-first
@@ -31,3 +35,6 @@ returns-clause-first c shared started =
     let small : IsSmall first.cells = omega (arith, few) in
     let number : length c.loop-start.tasks.items ≡ length c.args.starts.now = (let n = c.loop-start.invariant.number in let m = c.loop-start.auto.start-index-end in let f = c.loop-start-test.false in omega (arith, n, m, f)) in
     new_shows c.args.verified.now c.args.starts.now c.loop-start.tasks.items cells first shared c.loop-start.invariant.each number same small c.seal-cells.ensures.pushed started
+
+pub returns-clause-started : goal.returns-clause-started
+returns-clause-started c k b a at is = held_seen c.args.verified.now c.args.loader.cells c.args.starts.now c.loop-start.tasks.items k b a c.loop-start.invariant.held at is

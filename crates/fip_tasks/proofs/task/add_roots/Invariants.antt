@@ -1,0 +1,12 @@
+-- What was added so far, and what is still to be.
+use Rattle.std.proofs.Common.{◌≡◌, ◌+◌, ◌<◌, ◌≤◌, ◌^◌, ℕ, drop}
+use Rattle.fip_language.specs.declared.limits.TheConstants.{MOST_FIELDS}
+use Rattle.store_trees.specs.Added.{places_of}
+use Rattle.fip_machine.specs.machine_cells.Counting.{freed_of}
+use Rattle.fip_tasks.specs.Gauged.{sized}
+use Rattle.fip_tasks.proofs.task.add_roots.Given as goal
+
+abbrev pub invariant-loop-i : goal.invariant-loop-i
+invariant-loop-i l = record {
+  added : (k : ℕ) → 1 ≤ k → k ≤ MOST_FIELDS → freed_of l.initial.held k + sized k l.cells.cells (places_of l.trees) < 2 ^ 64 → freed_of l.held k + sized k l.cells.cells (places_of (drop l.i l.trees)) ≡ freed_of l.initial.held k + sized k l.cells.cells (places_of l.trees);
+}

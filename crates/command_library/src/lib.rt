@@ -7,8 +7,7 @@ mod keys;
 mod making;
 mod printing;
 
-pub use command_tasks::runner;
 pub use command_tasks::runner::{evaluator, source};
-pub use command_tasks::tasks;
+pub use command_tasks::{runner, tasks};
 pub use making::generate;
 pub use printing::library;

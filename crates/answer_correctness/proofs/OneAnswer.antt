@@ -19,16 +19,16 @@ grown old text (Some xs) (Some ys) h k = ap (λ zs. Some zs) (h ∙ sym k)
 
 module _ (out err : List ℕ) (h k : Host) (x : Finds h out err) (y : Finds k out err) where
   grown_out : (text : List ℕ) → Appends h.out h.out' text → Appends k.out k.out' text → h.out' ≡ k.out'
-  grown_out text a b = grown out text h.out' k.out' (subst (λ o. Appends o h.out' text) x.out a) (subst (λ o. Appends o k.out' text) y.out b)
+  grown_out text a b = grown out text h.out' k.out' (subst (λ o. Appends o h.out' text) x.on_out a) (subst (λ o. Appends o k.out' text) y.on_out b)
 
   grown_err : (text : List ℕ) → Appends h.err h.err' text → Appends k.err k.err' text → h.err' ≡ k.err'
-  grown_err text a b = grown err text h.err' k.err' (subst (λ o. Appends o h.err' text) x.err a) (subst (λ o. Appends o k.err' text) y.err b)
+  grown_err text a b = grown err text h.err' k.err' (subst (λ o. Appends o h.err' text) x.on_err a) (subst (λ o. Appends o k.err' text) y.on_err b)
 
   same_out : h.out' ≡ h.out → k.out' ≡ k.out → h.out' ≡ k.out'
-  same_out a b = a ∙ (x.out ∙ (sym y.out ∙ sym b))
+  same_out a b = a ∙ (x.on_out ∙ (sym y.on_out ∙ sym b))
 
   same_err : h.err' ≡ h.err → k.err' ≡ k.err → h.err' ≡ k.err'
-  same_err a b = a ∙ (x.err ∙ (sym y.err ∙ sym b))
+  same_err a b = a ∙ (x.on_err ∙ (sym y.on_err ∙ sym b))
 
   alone_alike : (files : List File) (status : ℕ) (text : List ℕ) → IsAlone files status text h → IsAlone files status text k → AreAlike h k
   alone_alike files status text a b = record { status = a.ended ∙ sym b.ended; out = same_out a.unwritten b.unwritten; err = grown_err text a.shown b.shown }

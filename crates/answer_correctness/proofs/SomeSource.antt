@@ -90,7 +90,7 @@ module _ (source name : List ℕ) (p : Program) (accepted : IsAccepted source p)
 
   -- the input is a text of its arguments, or goes wrong at a place
   pub text_or_place : (input : List ℕ) → ((vs : Values) × Spells y input vs) ⊎ ((at : ℕ) × IsPlace (Spells y) input at)
-  text_or_place input = by (P.run (step tb) (final tb) (start ks) input 0) refl
+  text_or_place input = by (P.run (step p.types) (final p.types) (start (parameter_types d)) input 0) refl
     where
       table : IsSoundTable p.types
       table = table_sound source name p root.place rooted
@@ -122,7 +122,7 @@ module _ (source name : List ℕ) (p : Program) (accepted : IsAccepted source p)
       by (inr (at, place)) = (Err (F.BadInput at), E.Misspelt y at place)
 
   -- its stack number is one
-  bound_told : IsBoundOf y (held accepted.members root.place)
+  pub bound_told : IsBoundOf y (held accepted.members root.place)
   bound_told ms found i m at is =
       let same : root.place ≡ i = (typed_sound source p types).roots root.place i d d root.there at root.root root.root refl in
       held_same p.instances accepted.members ms (fip_calls source p accepted.tailed.credited.owned) accepted.groups found root.place

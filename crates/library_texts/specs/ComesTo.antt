@@ -1,7 +1,5 @@
--- What a text comes to, if anything: no other program is its typed program.
---
--- Whether it is accepted at all is another question, which a run of the front end answers. Of the empty text's program
--- it is said too; and a text that breaks a rule comes to any program.
+-- What a text comes to, if anything: no other program is its typed program. A text that breaks a rule comes to any
+-- program; whether one is accepted at all is another question, which a run of the front end answers.
 use Rattle.std.specs.Prelude.{◌≡◌, ℕ, List}
 use Rattle.source_report.specs.fip_trees.Tree.{Program}
 use Rattle.source_report.specs.Report.{IsAccepted}

@@ -46,11 +46,11 @@ module _ (out err : List ℕ) (h k : Host) (x : Finds h out err) (y : Finds k ou
 
   module _ (words : List (List ℕ)) (files : List File) (input : List ℕ) where
     abbrev IsLeftOpen : Type 0
-    IsLeftOpen = (c : Command) × IsCommand words c × ((d : End) × (e : End) × IsOpen files input c d e)
+    IsLeftOpen = (c : Command) × IsCommand words c × ((a : IsAnswer c files input h) × (b : IsAnswer c files input k) × IsOpen files input c a.end b.end)
 
     opened : (c : Command) → IsCommand words c → (a : IsAnswer c files input h) (b : IsAnswer c files input k) → AreAlike h k ⊎ IsOpen files input c a.end b.end → AreAlike h k ⊎ IsLeftOpen
     opened c asked a b (inl same) = inl same
-    opened c asked a b (inr more) = inr (c, asked, (a.end, b.end, more))
+    opened c asked a b (inr more) = inr (c, asked, (a, b, more))
 
     pub one_answer : Answered words files input h → Answered words files input k → h.status ≢ 10 → k.status ≢ 10 → AreAlike h k ⊎ IsLeftOpen
     one_answer (inl a) b some more = absurd (some a.ended)

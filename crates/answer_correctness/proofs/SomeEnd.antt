@@ -30,9 +30,6 @@ use Rattle.answer_correctness.proofs.SomeSource.{evaluated, executed, listed, de
 listing_end : (source : List ℕ) → IsReady source Lawful → (e : End) × A.ListsRoots source e
 listing_end source h = let l = listed source h in (Ok l.0, l.1)
 
-compiling_end : (source : List ℕ) → IsReady source Lawful → (e : End) × A.Compiles source e
-compiling_end source h = let l = listed source h in (Ok l.0, l.1)
-
 deriving_end : (source : List ℕ) → IsReady source Lawful → (e : End) × Derives source e
 deriving_end source h = by (derivable source h)
   where
@@ -45,7 +42,6 @@ wants a w e source h = subst (λ v. IsReady source v) (same_Some w a (sym e)) h
 
 some_doing : (source input : List ℕ) (c : Command) (w : Wanted) → wanted c ≡ Some w → IsCertain c → IsReady source w → (e : End) × Does source input c e
 some_doing source input (Check file) w e is h = listing_end source (wants Lawful w e source h)
-some_doing source input (Compile file out) w e is h = compiling_end source (wants Lawful w e source h)
 some_doing source input (Exec r) w e is h = executed source r.entry input r.room r.gauge (wants (Compiled r.entry) w e source h)
 some_doing source input (Eval file entry calls frames) w e is h = evaluated source entry input calls frames (wants (Root entry) w e source h)
 some_doing source input (Derive file out) w e is h = deriving_end source (wants Lawful w e source h)

@@ -13,8 +13,8 @@ ghost use Rattle.command_answers.specs.Exec.{End as an_end};
 ghost use Rattle.worked_examples.specs.code_file.Plain.{PlainCode};
 ghost use Rattle.answer_correctness.specs.Certain.{IsCertain};
 
-/// `check`, `compile`, `exec`, `eval` and `derive` have an answer on a source that is refused, or has what the command
-/// wants, whatever the input is. For who asks whether a command may be without one.
+/// `check`, `exec`, `eval` and `derive` have an answer on a source that is refused, or has what the command wants,
+/// whatever the input is. For who asks whether a command may be without one.
 pub fn a_source_has_an_answer()
     ensures law { (files : List File) (source input name : List ℕ) (c : Command) (w : Wanted) →
         fetched_name c ≡ Some name → wanted c ≡ Some w → file_of name files ≡ Some source → IsCertain c →

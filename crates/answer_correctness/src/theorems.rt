@@ -31,7 +31,7 @@ ghost use Rattle.command_answers.specs.command_library.command_outcome.declared.
 ghost use Rattle.command_answers.specs.command_library.command_source.Wanted.{Wanted, Refuses};
 ghost use Rattle.command_answers.specs.command_source.derivation_making.Weakening.{IsLean};
 ghost use Rattle.command_answers.specs.command_library.MadeTree.{keys_line, pads_line, lines_of_tree};
-ghost use Rattle.command_answers.specs.Answer.{Answered, Host, IsNoCommand};
+ghost use Rattle.command_answers.specs.Answer.{Answered, Host, IsAnswer, IsNoCommand};
 ghost use Rattle.command_answers.specs.CodeOf.{IsCodeOf, IsLoaded, IsSourceFile};
 ghost use Rattle.command_answers.specs.Ends.{OnSource};
 ghost use Rattle.command_answers.specs.Exec.{End as an_end, Execs, TellsAll};
@@ -57,7 +57,8 @@ pub fn an_answer_is_one()
     ensures law { (words : List (List ℕ)) (files : List File) (input out err : List ℕ) (h k : Host) →
         Finds h out err → Finds k out err → Answered words files input h → Answered words files input k →
         h.status ≢ 10 → k.status ≢ 10 → AreAlike h k
-        ⊎ ((c : Command) × IsCommand words c × ((d : an_end) × (e : an_end) × IsOpen files input c d e)) }
+        ⊎ ((c : Command) × IsCommand words c × ((a : IsAnswer c files input h) × (b : IsAnswer c files input k)
+        × IsOpen files input c a.end b.end)) }
 {}
 
 /// Where the status isn't 0, out and all files are as they were; where it is 0, err is. For who goes on after a failure.

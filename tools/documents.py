@@ -15,8 +15,8 @@ span in backquotes is one of these:
 A path is `function`, `Type::function` or `Type`; a function of a type is found without its type too. Any other span is
 free. Each clause must be one of the function that is named, each path must be there, each link must lead to a file of
 the repository and, after `#`, to a heading of it, and each file that is named by its folder (docs/.., crates/..,
-tools/.., examples/.., editors/..) must be there. README.md has at most 8,000 bytes and rows of at most 200 characters;
-each crate has a README.md that begins with its name and has at most 3,000 bytes.
+tools/.., examples/.., editors/.., host/..) must be there. README.md has at most 8,000 bytes and rows of at most 200
+characters; each crate has a README.md that begins with its name and has at most 3,000 bytes.
 """
 import collections
 import pathlib
@@ -30,7 +30,7 @@ COMMANDS = set(
     "fp2 check compile verify upgrade exec run eval session tasks trace replay derive audit library gen".split()
 )
 OTHERS = ("std", "core", "alloc", "clap")
-FUNCTION = re.compile(r"^(\s*)(?:pub(?:\([^)]*\))? )?(?:(?:const|unsafe|ghost) )*fn (\w+)")
+FUNCTION = re.compile(r"^(\s*)(?:pub(?:\([^)]*\))? )?(?:(?:const|unsafe|ghost|extern \"C\") )*fn (\w+)")
 OWNER = re.compile(r"^(?:pub )?(?:unsafe )?(?:impl|trait)(?:<.*?>)? (?:.* for )?(\w+)")
 CLAUSE = re.compile(r"^\s*(?:ensures|requires) (\w+) ?\{")
 TYPE = re.compile(r"\b(?:struct|enum|trait|type|const|static) ([A-Za-z_]\w*)")
@@ -38,7 +38,7 @@ DEFINITION = re.compile(r"(?m)^(?:abbrev |unfoldable |mutual )*(?:pub )?(?:recor
 PATH = r"[A-Za-z_]\w*(?:::[A-Za-z_]\w*)?"
 NAMED = re.compile(rf"(?:([a-z][a-z0-9_]*)::)?({PATH})(?:: ([a-z_]\w*(?:, [a-z_]\w*)*))?")
 SPAN = re.compile(r"`([^`\n]+)`")
-PLACE = re.compile(r"(?<![\w./])(?:docs|crates|tools|examples|editors)/[\w./-]*\w")
+PLACE = re.compile(r"(?<![\w./])(?:docs|crates|tools|examples|editors|host)/[\w./-]*\w")
 LINK = re.compile(r"\[[^\]\n]*\]\(([^)\s]+)\)")
 WORD = re.compile(r"[^\W\d]\w*")
 

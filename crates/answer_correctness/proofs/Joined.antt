@@ -1,7 +1,7 @@
 -- `run` on a file of a code of a source ends as `exec` on the source; and on an upgraded file as on the one before it.
 -- The idea: the code has a function of a name just where the source has a root of it that isn't plain.
-use Rattle.std.proofs.Common.{◌≡◌, ◌∙◌, ◌≤◌, ◌<◌, ℕ, Bool, true, false, List, [], length, map, Option, Some, None, slice_get, true≢false, if◌then◌else◌, inl, inr, refl, sym, ap, subst, arith}
-use Rattle.std.specs.Prelude.{Ok, Err}
+use Rattle.std.proofs.Common.{◌≡◌, ◌∙◌, ◌<◌, ℕ, true, List, [], length, map, Option, Some, None, slice_get, if◌then◌else◌, inl, inr, refl, sym, ap, subst, arith}
+use Rattle.std.specs.Prelude.{Err}
 use Rattle.std.proofs.lemmas.Option.{same_Some}
 use Rattle.command_answers.specs.fip_outside.Files.{File, file_of}
 use Rattle.command_answers.specs.command_library.fip_language.declared.FunKind.TheVariants.{Fun}
@@ -11,11 +11,9 @@ use Rattle.worked_examples.specs.fip_trees.Tree.{Instance, Program}
 use Rattle.worked_examples.specs.cell_lower.Shape.{Header, header_of, headers}
 use Rattle.worked_examples.specs.code_file.Plain as F
 use Rattle.worked_examples.specs.code_file.declared.tags.Version.TheVariants.{Second}
-use Rattle.worked_examples.specs.lowering_relation.LoweredBodies.{function_of}
 use Rattle.worked_examples.specs.source_report.Report.{IsAccepted}
 use Rattle.command_answers.proofs.command_tasks.source_report.Once.{accepted_not, accepted_once}
 use Rattle.command_answers.specs.command_library.command_words.Words.{Request, Exec, Run}
-use Rattle.command_answers.specs.command_library.command_outcome.declared.failure.Failure.{Failure}
 use Rattle.command_answers.specs.command_library.command_outcome.declared.failure.Failure.TheVariants as O
 use Rattle.command_answers.specs.command_library.code_rules.Codes.{PlainFunction, function_at}
 use Rattle.command_answers.proofs.command_library.command_run.machine_correctness.Entries.{plain_header, IsNamed, named}
@@ -35,7 +33,7 @@ use Rattle.compile_correctness.proofs.Rooted.{ruled_at, root_found, names_there,
 use Rattle.compile_correctness.proofs.Upgraded.{upgraded_once}
 use Rattle.compile_correctness.proofs.Views.{headers_view}
 use Rattle.command_answers.specs.Answer.{OnFound, ComesTo}
-use Rattle.command_answers.specs.CodeOf.{IsCodeOf, IsSourceCode, IsSourceFile}
+use Rattle.command_answers.specs.CodeOf.{IsSourceCode, IsSourceFile}
 use Rattle.command_answers.specs.Ends as A
 use Rattle.command_answers.specs.Ends.{OnSource, OnCode, RunsFile}
 use Rattle.command_answers.specs.Exec.{End}

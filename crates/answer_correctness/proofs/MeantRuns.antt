@@ -3,7 +3,7 @@
 -- The idea: `run` tells one thing, wherever the cells of the arguments lie; so the run may be that from the state in which
 -- they are loaded, which ends as the program means, with its peak; and its cells are counted by trees, as of every sound
 -- code.
-use Rattle.std.proofs.Common.{◌≡◌, ◌∙◌, ◌<◌, ◌≤◌, ◌+◌, ℕ, Bool, true, List, [], ◌∷◌, ◌++◌, length, map, Option, Some, None, slice_get, refl, sym, ap, ap₂, subst, arith}
+use Rattle.std.proofs.Common.{◌≡◌, ◌∙◌, ◌<◌, ◌≤◌, ◌+◌, ℕ, Bool, true, List, [], ◌∷◌, ◌++◌, length, map, Some, slice_get, refl, sym, ap, subst, arith}
 use Rattle.std.specs.Prelude.{Ok, Err}
 use Rattle.std.proofs.lemmas.Option.{same_Some}
 use Rattle.command_answers.specs.command_library.fip_language.Character.{characters}
@@ -15,13 +15,10 @@ use Rattle.command_answers.specs.command_library.fip_language.Store.{count}
 use Rattle.command_answers.specs.command_library.fip_language.Table.{Table, HaveTypes}
 use Rattle.command_answers.specs.command_library.fip_language.Values.{Values, cells_of_all}
 use Rattle.command_answers.specs.command_library.fip_language.ValueText.{SpellsValues}
-use Rattle.command_answers.specs.command_library.fip_base.declared.plain.Param.{Param}
 use Rattle.command_answers.specs.command_library.fip_base.declared.plain.Stack.{Stack}
-use Rattle.worked_examples.specs.fip_trees.declared.groups.Member.{Member}
 use Rattle.worked_examples.specs.fip_trees.Tree.{Instance, Program}
-use Rattle.worked_examples.specs.tail_groups.Members.{AreMembers}
 use Rattle.worked_examples.specs.instance_semantics.Meaning.{flat_meaning}
-use Rattle.worked_examples.specs.cell_lower.Shape.{Header, header_of, headers}
+use Rattle.worked_examples.specs.cell_lower.Shape.{Header, header_of}
 use Rattle.worked_examples.specs.code_file.Plain as F
 use Rattle.worked_examples.specs.lowering_relation.LoweredBodies.{function_of}
 use Rattle.worked_examples.specs.lowering_simulation.CellEnds.{EndsAs}
@@ -32,19 +29,17 @@ use Rattle.worked_examples.specs.tree_refinement.Runs.{BeginsWith, IsSameEnd}
 use Rattle.worked_examples.specs.type_safety.Soundness.{parameter_types}
 use Rattle.command_answers.specs.command_library.command_words.Words.{Room}
 use Rattle.command_answers.specs.command_library.command_outcome.declared.failure.Failure.TheVariants as O
-use Rattle.command_answers.specs.command_library.machine_semantics.Gauges.{seen}
 use Rattle.command_answers.specs.command_library.machine_semantics.Runs as C
 use Rattle.command_answers.specs.command_library.machine_semantics.Runs.{End, begun, loaded}
 use Rattle.command_answers.specs.command_library.machine_semantics.States.{State}
 use Rattle.command_answers.specs.command_library.machine_semantics.Steps.{Kinds}
-use Rattle.command_answers.specs.command_library.code_rules.Codes.{PlainCode, PlainFunction, function_at, results, results_of}
-use Rattle.command_answers.specs.command_library.separation.Codes.{run_code, AreKinds, HasLiterals}
+use Rattle.command_answers.specs.command_library.code_rules.Codes.{PlainCode, PlainFunction, results, results_of}
+use Rattle.command_answers.specs.command_library.separation.Codes.{run_code, HasLiterals}
 use Rattle.command_answers.specs.command_library.separation.Starts.{IsStart}
 use Rattle.command_answers.proofs.command_library.separation.KindsFound.{kinds_found}
 use Rattle.command_answers.proofs.command_library.separation.Loading.{loaded_is}
 use Rattle.command_answers.specs.command_library.run_loading.Loading.{first_store, first_words}
 use Rattle.command_answers.proofs.command_library.run_loading.Begins.{begins, is_loaded}
-use Rattle.command_answers.specs.command_library.session_semantics.Talk.{frames_of}
 use Rattle.command_answers.specs.command_library.value_text.Loaded.{types_of}
 use Rattle.command_answers.proofs.command_library.value_text.Typed.{input_typed}
 use Rattle.command_answers.specs.command_library.machine_correctness.Gauges.{IsMeasured}
@@ -56,7 +51,7 @@ use Rattle.command_answers.proofs.command_library.command_run.machine_correctnes
 use Rattle.command_answers.proofs.command_library.command_run.machine_correctness.compiler_correctness.SoundTypes.{typed_sound}
 use Rattle.command_answers.specs.command_library.command_source.Codes.{sound_function, sound_view, IsSoundFile}
 use Rattle.command_answers.specs.command_library.command_source.ProgramCode as P
-use Rattle.command_answers.specs.command_library.command_eval.EvalAnswer.{Entry, Spells}
+use Rattle.command_answers.specs.command_library.command_eval.EvalAnswer.{Entry}
 use Rattle.command_answers.proofs.command_library.command_eval.Meant.{typed_of}
 use Rattle.command_answers.specs.command_library.command_run.CodeRun as D
 use Rattle.command_answers.specs.command_library.command_run.CodeRun.{Chosen, RunsCode, TellsCode, all_seen, words_for}

@@ -1,10 +1,10 @@
 -- Two answers of the same words are alike, but where an end isn't one, or memory was wanting.
-use Rattle.std.proofs.Common.{◌≡◌, ◌≢◌, ◌∙◌, ◌++◌, inl, inr, ℕ, List, Option, Some, None, sym, ap, subst}
+use Rattle.std.proofs.Common.{◌≡◌, ◌≢◌, ◌∙◌, inl, inr, ℕ, List, Option, Some, None, sym, ap, subst}
 use Rattle.std.specs.Prelude.{◌⊎◌, Ok, Err}
 use Rattle.std.specs.Io.KnownBytes.{Appends}
 use Rattle.command_answers.specs.fip_outside.Files.{File}
 use Rattle.command_answers.specs.command_library.command_words.Words.{Command, IsCommand}
-use Rattle.command_answers.specs.Answer.{ComesTo, Shows, Host, IsAnswer, IsAlone, IsNoCommand, Answered}
+use Rattle.command_answers.specs.Answer.{Shows, Host, IsAnswer, IsAlone, Answered}
 use Rattle.command_answers.specs.Exec.{End}
 use Rattle.command_answers.specs.Open.{IsOpen}
 use Rattle.command_answers.proofs.OneCommand.{command_once}

@@ -1,13 +1,13 @@
 -- How an answer is shown: by cases on its end.
-use Rattle.std.proofs.Common.{◌≡◌, ◌≢◌, ◌∙◌, inl, inr, ℕ, List, sym, ap}
+use Rattle.std.proofs.Common.{◌≡◌, ◌≢◌, ◌∙◌, inl, inr, ℕ, List, sym}
 use Rattle.std.specs.Prelude.{◌⊎◌, Option, Some, None, Ok, Err}
 use Rattle.command_answers.specs.fip_outside.Files.{File}
 use Rattle.command_answers.specs.command_library.command_words.Words.{Command}
 use Rattle.command_answers.specs.command_library.command_outcome.Failures.{failure_status}
 use Rattle.command_answers.specs.command_library.command_outcome.declared.failure.Failure.{Failure}
 use Rattle.command_answers.specs.command_library.command_outcome.declared.failure.Failure.TheVariants as F
-use Rattle.command_answers.specs.Answer.{ComesTo, Shows, Host, IsAnswer, IsAlone, IsNoCommand, Answered}
-use Rattle.command_answers.specs.Open.{MayDiffer, IsOpen}
+use Rattle.command_answers.specs.Answer.{ComesTo, Shows, Host, IsAlone, IsNoCommand, Answered}
+use Rattle.command_answers.specs.Open.{MayDiffer}
 use Rattle.command_answers.specs.Asks.{stored_name}
 use Rattle.command_answers.specs.Exec.{End}
 use Rattle.command_answers.specs.Stored.{Stores}

@@ -1,7 +1,7 @@
 -- `run`, `verify`, `upgrade` and `replay` are never without an answer: a code file is refused, or that of a sound code; its
 -- functions have stack numbers; and a trace's file is that of a trace, or bad at a place.
-use Rattle.std.proofs.Common.{◌≡◌, ◌⊎◌, inl, inr, ℕ, zero, suc, ◌<◌, ◌≤◌, ◌-◌, ◌++◌, Bool, true, false, List, [], ◌∷◌, Option, Some, None, length, refl, sym, ap, ap₂, ◌∙◌, subst, arith, slice_get, if◌then◌else◌}
-use Rattle.std.specs.Prelude.{Ok, Err, bytes_eq}
+use Rattle.std.proofs.Common.{◌≡◌, ◌⊎◌, inl, inr, ℕ, suc, ◌<◌, ◌≤◌, ◌-◌, ◌++◌, Bool, true, false, List, [], ◌∷◌, Option, Some, None, length, refl, sym, ◌∙◌, subst, arith}
+use Rattle.std.specs.Prelude.{Ok, Err}
 use Rattle.std.proofs.lemmas.Option.{none-some, same_Some}
 use Rattle.command_answers.specs.fip_outside.Files.{File, file_of}
 use Rattle.command_answers.proofs.command_library.fip_language.Search.{le_or_less}

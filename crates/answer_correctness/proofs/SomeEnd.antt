@@ -1,7 +1,7 @@
 -- A command on a source that is there has an end, where the source is refused or has what the command wants.
-use Rattle.std.proofs.Common.{◌≡◌, ◌≤◌, ◌<◌, inl, inr, ℕ, List, Option, Some, None, length, refl, sym, subst}
+use Rattle.std.proofs.Common.{◌≡◌, ◌≤◌, ◌<◌, inl, inr, ℕ, List, Some, length, refl, sym, subst}
 use Rattle.std.specs.Prelude.{◌⊎◌, Ok, Err}
-use Rattle.std.proofs.lemmas.Option.{none-some, same_Some}
+use Rattle.std.proofs.lemmas.Option.{same_Some}
 use Rattle.command_answers.proofs.command_library.fip_language.Search.{le_or_less}
 use Rattle.command_answers.specs.fip_outside.Files.{File, file_of}
 use Rattle.command_answers.specs.command_library.fip_language.declared.limits.TheConstants.{MOST_FILE_BYTES}

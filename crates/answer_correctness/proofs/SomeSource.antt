@@ -2,10 +2,9 @@
 -- evaluated and run, whatever the input is.
 -- The idea: a text is one of the entry's arguments or goes wrong at a place; an accepted source is never stuck; and a root
 -- is one instance, whose stack number is the least.
-use Rattle.std.proofs.Common.{◌≡◌, ◌∙◌, ◌≤◌, ◌<◌, ◌++◌, inl, inr, ℕ, Bool, false, List, Option, Some, None, length, slice_get, refl, sym, ap, subst}
+use Rattle.std.proofs.Common.{◌≡◌, ◌∙◌, ◌≤◌, ◌<◌, ◌++◌, inl, inr, ℕ, Bool, false, List, Option, Some, None, length, refl, sym, ap, subst}
 use Rattle.std.specs.Prelude.{◌⊎◌, Ok, Err, codes, option_and_then}
 use Rattle.command_answers.proofs.command_library.fip_language.Search.{le_or_less}
-use Rattle.command_answers.specs.command_library.fip_language.declared.FunKind.TheVariants.{Fun}
 use Rattle.command_answers.specs.command_library.fip_language.declared.limits.TheConstants.{MOST_FILE_BYTES}
 use Rattle.command_answers.specs.command_library.fip_language.Meaning.{Answer, Gives, Trap, Out, Deep, Stuck, Peak, Run, meaning}
 use Rattle.command_answers.specs.command_library.fip_language.Prefix as P
@@ -15,12 +14,10 @@ use Rattle.command_answers.specs.command_library.fip_language.SoundTable.{AreTyp
 use Rattle.command_answers.specs.command_library.fip_language.Statics.{NoClosed}
 use Rattle.command_answers.specs.command_library.fip_language.Table.{Table}
 use Rattle.command_answers.specs.command_library.fip_language.Values.{Values}
-use Rattle.command_answers.specs.command_library.fip_base.declared.plain.Stack.{Stack}
 use Rattle.worked_examples.specs.fip_trees.declared.groups.Member.{Member}
 use Rattle.worked_examples.specs.fip_trees.Tree.{Instance, Program}
 use Rattle.worked_examples.specs.instance_semantics.Meaning.{flat_meaning}
 use Rattle.worked_examples.specs.source_report.Report.{IsTyped, IsAccepted}
-use Rattle.worked_examples.specs.tail_groups.Members.{AreMembers}
 use Rattle.worked_examples.specs.type_safety.Soundness.{IsSoundAnswer, parameter_types}
 use Rattle.command_answers.specs.command_library.command_words.Words.{Room, IsTextName}
 use Rattle.command_answers.specs.command_library.command_outcome.declared.failure.Failure.{Failure}

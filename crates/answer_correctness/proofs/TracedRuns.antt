@@ -1,9 +1,9 @@
 -- Where a source has a code, `trace` has an end.
 -- The idea: the function of the root is loaded and its run ends as the root means; where that gives values the run gives
 -- words, and its trace can be stored or can't.
-use Rattle.std.proofs.Common.{◌≡◌, ◌∙◌, ◌≤◌, ◌<◌, ◌++◌, ◌^◌, ℕ, Bool, false, List, [], length, map, Option, Some, None, slice_get, get_or, if◌then◌else◌, inl, inr, refl, sym, ap, subst, arith}
+use Rattle.std.proofs.Common.{◌≡◌, ◌∙◌, ◌≤◌, ◌<◌, ◌++◌, ◌^◌, ℕ, false, List, [], length, Option, Some, None, slice_get, get_or, if◌then◌else◌, inl, inr, refl, sym, ap, subst, arith}
 use Rattle.std.specs.Prelude.{◌⊎◌, Ok, Err, option_and_then}
-use Rattle.std.proofs.lemmas.Option.{same_Some, slice_get_within, slice_get-get_or}
+use Rattle.std.proofs.lemmas.Option.{slice_get_within, slice_get-get_or}
 use Rattle.command_answers.proofs.command_library.fip_language.Search.{le_or_less}
 use Rattle.command_answers.specs.command_library.fip_language.declared.FunKind.TheVariants.{Fun}
 use Rattle.command_answers.specs.command_library.fip_language.declared.limits.TheConstants.{MOST_FILE_BYTES}
@@ -13,7 +13,7 @@ use Rattle.command_answers.specs.command_library.fip_language.Meaning.{Answer, G
 use Rattle.command_answers.specs.command_library.fip_language.PrintedText.{printed_lines}
 use Rattle.command_answers.specs.command_library.fip_language.Prefix.{IsPlace}
 use Rattle.command_answers.specs.command_library.fip_language.Statics.{NoClosed}
-use Rattle.command_answers.specs.command_library.fip_language.Table.{Table, HaveTypes}
+use Rattle.command_answers.specs.command_library.fip_language.Table.{Table}
 use Rattle.command_answers.specs.command_library.fip_language.Values.{Values}
 use Rattle.command_answers.specs.command_library.fip_language.ValueText.{SpellsValues}
 use Rattle.command_answers.specs.command_library.fip_base.declared.plain.Stack.{Stack}
@@ -24,7 +24,7 @@ use Rattle.worked_examples.specs.code_file.Plain as F
 use Rattle.worked_examples.specs.instance_semantics.Meaning.{flat_meaning}
 use Rattle.worked_examples.specs.lowering_relation.LoweredBodies.{function_of}
 use Rattle.worked_examples.specs.lowering_simulation.CellEnds.{EndsAs}
-use Rattle.worked_examples.specs.source_report.Report.{bare, IsAccepted}
+use Rattle.worked_examples.specs.source_report.Report.{bare}
 use Rattle.worked_examples.specs.tree_refinement.Runs.{IsSameEnd}
 use Rattle.worked_examples.specs.type_safety.Soundness.{IsSoundAnswer, parameter_types}
 use Rattle.command_answers.proofs.command_tasks.source_report.Once.{accepted_once}

@@ -1,0 +1,5 @@
+pub mod AsBox
+pub mod Stepping
+pub mod Judging
+pub mod Growing
+pub mod Beginning

@@ -1,0 +1,14 @@
+use Rattle.std.proofs.Common.{◌≡◌, ◌∙◌, subst}
+use Rattle.code_verify.specs.code_rules.Breaks.{IsLeast}
+use Rattle.code_verify.specs.code_rules.Codes.{plain}
+use Rattle.fip_host.specs.Verdicts.{IsVerdict}
+use Rattle.fip_host.proofs.Judging.{verdict_unsound}
+use Rattle.fip_host.proofs.calls.codes.verified_of.Goals as goal
+
+pub returns-in-Err-Unsound-clause-verdict : goal.returns-in-Err-Unsound-clause-verdict
+returns-in-Err-Unsound-clause-verdict c v e =
+    let w = c.in-Err-Unsound in
+    let t = c.told.ensures in
+    let same : c.told.result ≡ v = cc in
+    let least : IsLeast (plain c.in-Ok.code) w.function w.at w.rule = w.ensures.least w.function w.at w.rule (cc) in
+    subst (IsVerdict c.args.bytes.now) same (verdict_unsound c.args.bytes.now c.told.result c.in-Ok.code w.function w.at w.rule t.status t.function t.at (t.rule ∙ c.rule_number.ensures.is) c.in-Ok.ensures.text least)

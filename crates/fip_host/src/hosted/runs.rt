@@ -1,0 +1,338 @@
+// Runs over a machine's store: starting, stepping, running to the end, and what came of them.
+ghost use Rattle.std.specs.Prelude.{◌≡◌, ◌≢◌, ◌≤◌, ◌<◌, [], Some, None, Err, IfSome, IfNone, OnOk, length};
+ghost use Rattle.std.specs.Prelude.{option_map, slice_get};
+ghost use Rattle.fip_language.specs.declared.limits.TheConstants.{MOST_FRAMES};
+ghost use Rattle.code_verify.specs.Checked.{Checked};
+ghost use Rattle.fip_machine.specs.Pausing.{stand_of};
+ghost use Rattle.fip_machine.specs.Tasks.{ended_by};
+ghost use Rattle.fip_host.specs.Hosting.{StepsTo, RunsOn, IsAtStart, IsStarted, IsIdle, end_now, results_of};
+ghost use Rattle.fip_host.specs.Hosting.{words_given};
+ghost use Rattle.fip_host.specs.Starting.{IsTextStarted};
+ghost use Rattle.fip_host.specs.Statuses.{end_at, end_by, end_by_run};
+
+use super::cells::add_credits;
+use super::{Hosted, no_cells, sealed};
+use crate::answer::{FipEnd, FipNeed, Refusal, trap_number};
+use code_verify::Verified;
+use fip_language::limits::MOST_FRAMES;
+use fip_machine::{Ended, Gauge, Machine, Paused, Stepped, TaskStack};
+use std::alloc::Global;
+use value_text::{LoadError, load_values};
+
+// The frames of a run: those that a fip function needs, or so many, at most 1,000,000.
+fn frames_for(verified: &Verified, number: usize, frames: u64) -> usize
+    ensures few { result ≤ MOST_FRAMES }
+{
+    match verified.code_stack(number) {
+        Some(stack) => stack.frames.min(MOST_FRAMES),
+        None => frames.min(MOST_FRAMES as u64) as usize,
+    }
+}
+
+/// The memory of a run that is given up: that of its words, and that beside them.
+pub fn memory_of(alloc: Global, task: Option<Paused>) -> (Vec<u64>, Vec<u64>)
+    ensures none { result.0.items ≡ [] }
+{
+    match task {
+        Some(paused) => paused.into_memory(),
+        None => (Vec::new(alloc), Vec::new(alloc)),
+    }
+}
+
+// A run that is so, and not in a trap.
+fn end_at(status: u32) -> FipEnd
+    ensures is { result ≡ end_at status }
+{
+    FipEnd {
+        status,
+        trap: 0,
+        line: 0,
+        col: 0,
+    }
+}
+
+// The state of a run that ended so, or goes on.
+fn end_of(stepped: Option<Stepped>) -> FipEnd
+    ensures is { result ≡ end_by stepped }
+    ensures memory { result.status ≢ 10 }
+{
+    match stepped {
+        Some(Stepped::Trap { kind, line, col }) => FipEnd {
+            status: 3,
+            trap: trap_number(kind),
+            line,
+            col,
+        },
+        Some(Stepped::Value) => end_at(0),
+        Some(Stepped::Deep) => end_at(7),
+        _ => end_at(15),
+    }
+}
+
+// How a run ended with a step; none where it goes on.
+fn ended_by(stepped: Stepped) -> Option<Stepped>
+    ensures is { result ≡ ended_by stepped }
+{
+    match stepped {
+        Stepped::Went | Stepped::Entered => None,
+        _ => Some(stepped),
+    }
+}
+
+// The state of a run that was run to an end.
+fn end_of_run(ended: Ended) -> FipEnd
+    ensures is { result ≡ end_by_run ended }
+    ensures memory { result.status ≢ 10 }
+{
+    match ended {
+        Ended::Value => end_of(Some(Stepped::Value)),
+        Ended::Trap { kind, line, col } => end_of(Some(Stepped::Trap { kind, line, col })),
+        Ended::Deep => end_of(Some(Stepped::Deep)),
+        Ended::Out => end_at(4),
+    }
+}
+
+/// The words of the results of a run that ended with values, where they are open to be read.
+pub fn results_in(task: &Option<Paused>, is_open: bool) -> Option<&[u64]>
+    ensures some { (v : Checked) →
+        IfSome result (λ r. words_given (option_map (stand_of v) task.now) is_open ≡ Some r.now) }
+    ensures none { (v : Checked) → IfNone result (words_given (option_map (stand_of v) task.now) is_open ≡ None) }
+{
+    match task {
+        Some(paused) => {
+            if !is_open {
+                return None;
+            }
+            match paused.ended() {
+                Some(Stepped::Value) => Some(paused.results()),
+                _ => None,
+            }
+        }
+        None => None,
+    }
+}
+
+impl Hosted {
+    /// Starts a run of a function on the words of its arguments, with a cell for each of its credits, and so many
+    /// frames where it isn't `fip`. A run that was there is given up, and its memory serves the new one. OutOfRange
+    /// where no function has the number, or takes another number of arguments; TooSmall where the store has no room for
+    /// the credits; NoMemory.
+    pub fn start(
+        &mut self,
+        alloc: Global,
+        number: usize,
+        arguments: &[u64],
+        frames: u64,
+    ) -> Result<(), Refusal>
+        ensures code { self.new.code ≡ self.old.code }
+        ensures kept { self.new.kept ≡ self.old.kept }
+        ensures starts { OnOk result (IsStarted number arguments.now self.new) }
+    {
+        let Some(function) = self.verified.code().functions.get(number) else {
+            return Err(Refusal::OutOfRange);
+        };
+        if arguments.len() != function.params.as_slice().len() {
+            return Err(Refusal::OutOfRange);
+        }
+        let (mut words, spare) = memory_of(alloc, self.task.take());
+        words.extend_from_slice(arguments)?;
+        add_credits(
+            alloc,
+            &mut self.cells,
+            function.credits.as_slice(),
+            &mut words,
+        )?;
+        self.begin(number, words, spare, frames)
+    }
+
+    /// Starts a run on words that are there.
+    pub fn begin(
+        &mut self,
+        number: usize,
+        words: Vec<u64>,
+        spare: Vec<u64>,
+        frames: u64,
+    ) -> Result<(), Refusal>
+        requires there { number < length self.old.code.code.functions.items }
+        ensures code { self.new.code ≡ self.old.code }
+        ensures store { self.new.store ≡ self.old.store }
+        ensures left { self.new.left ≡ self.old.left }
+        ensures kept { self.new.kept ≡ self.old.kept }
+        ensures starts { OnOk result (IsAtStart number words.items self.new) }
+    {
+        let frames = frames_for(&self.verified, number, frames);
+        let stack = TaskStack::start_in(&self.verified, number, words, spare, frames)?;
+        self.task = Some(stack.pause());
+        self.entry = number;
+        self.is_open = true;
+        self.gauge = Gauge::new();
+        Ok(())
+    }
+
+    /// Starts a run of a function on the text of its arguments, a line each, as `start` does. BadInput where the text
+    /// is none of the parameters' types; TooSmall where its cells and the credits need more words than the store has
+    /// left; both leave the store as it was. NoMemory, after which the store has no word.
+    pub fn start_text(
+        &mut self,
+        alloc: Global,
+        number: usize,
+        text: &[u8],
+        frames: u64,
+    ) -> Result<(), Refusal>
+        ensures code { self.new.code ≡ self.old.code }
+        ensures kept { self.new.kept ≡ self.old.kept }
+        ensures starts { OnOk result (IsTextStarted number self.new) }
+    {
+        let Some(function) = self.verified.code().functions.get(number) else {
+            return Err(Refusal::OutOfRange);
+        };
+        let types = &self.verified.code().types;
+        let params = function.params.as_slice();
+        let credits = function.credits.as_slice();
+        let (_, spare) = memory_of(alloc, self.task.take());
+        let loader = std::mem::replace(&mut self.cells, no_cells(alloc)).reopen();
+        match load_values(alloc, types, params, credits, text, loader) {
+            Ok((loader, words)) => {
+                self.cells = sealed(loader);
+                self.begin(number, words, spare, frames)
+            }
+            Err(LoadError::BadValue { at, loader }) => {
+                self.cells = sealed(loader);
+                Err(Refusal::BadInput { at })
+            }
+            Err(
+                LoadError::Full {
+                    needed,
+                    words,
+                    loader,
+                },
+            ) => {
+                self.cells = sealed(loader);
+                Err(Refusal::TooSmall {
+                    needed,
+                    given: words,
+                })
+            }
+            Err(LoadError::NoMemory) => Err(Refusal::NoMemory),
+        }
+    }
+
+    /// Does one instruction of the run. It takes no memory.
+    pub fn step(&mut self) -> FipEnd
+        ensures code { self.new.code ≡ self.old.code }
+        ensures steps { StepsTo self.old self.new result }
+        ensures idle { IsIdle self.old result }
+        ensures memory { result.status ≢ 10 }
+    {
+        match self.task.take() {
+            Some(paused) => {
+                let mut stack = paused.resume(&self.verified);
+                let stepped = stack.step(&mut self.cells);
+                self.task = Some(stack.pause());
+                end_of(ended_by(stepped))
+            }
+            None => end_at(13),
+        }
+    }
+
+    /// Runs to the end, with so many calls: the entry takes one, and each Call and Tail one. It takes no memory. After
+    /// status 4 another call goes on with one call fewer than it is given.
+    pub fn run(&mut self, alloc: Global, calls: u64) -> FipEnd
+        ensures code { self.new.code ≡ self.old.code }
+        ensures runs { RunsOn self.old calls self.new result }
+        ensures idle { IsIdle self.old result }
+        ensures memory { result.status ≢ 10 }
+    {
+        match self.task.take() {
+            Some(paused) => {
+                let cells = std::mem::replace(&mut self.cells, no_cells(alloc));
+                let mut machine = Machine::of(paused.resume(&self.verified), cells);
+                let ended = machine.run(calls, &mut self.gauge);
+                let (stack, cells) = machine.into_parts();
+                self.cells = sealed(cells.reopen());
+                self.task = Some(stack.pause());
+                end_of_run(ended)
+            }
+            None => end_at(13),
+        }
+    }
+
+    /// Where the run is.
+    pub fn end(&self) -> FipEnd
+        ensures is { result ≡ end_now self.now.task }
+    {
+        match &self.task {
+            Some(paused) => end_of(paused.ended()),
+            None => end_at(13),
+        }
+    }
+
+    /// The words of the results, where the run ended with values that aren't kept yet.
+    pub fn results(&self) -> Option<&[u64]>
+        ensures some { IfSome result (λ r. results_of self.now ≡ Some r.now) }
+        ensures none { IfNone result (results_of self.now ≡ None) }
+    {
+        results_in(&self.task, self.is_open)
+    }
+
+    /// What the calls of `run` saw.
+    pub fn gauge(&self) -> &Gauge
+        ensures is { result.now ≡ self.now.gauge }
+    {
+        &self.gauge
+    }
+
+    /// The bytes of memory that a store of so many words, with room for so many kept values, and a run of a function
+    /// with so many frames take.
+    pub fn need(&self, number: usize, words: usize, kept: usize, frames: u64) -> Option<FipNeed>
+        ensures none { result ≡ None → slice_get self.now.code.code.functions.items number ≡ None }
+    {
+        let Some(function) = self.function(number) else {
+            return None;
+        };
+        Some(FipNeed {
+            store: store_bytes(words, kept),
+            run: run_bytes(&self.verified, number, function.registers as usize, frames),
+        })
+    }
+}
+
+// A block has a header of at most 16 bytes, and is rounded up to 16.
+const BLOCK: usize = 32;
+
+// The bytes of a store: 8 for each word, a bit for each word, 8 for each cell, and 4 for each cell of each size.
+fn store_bytes(words: usize, kept: usize) -> usize {
+    let mut bytes = 4096usize;
+    for size in 2..18usize {
+        bytes = bytes.saturating_add((words / size).saturating_mul(4));
+        bytes = bytes.saturating_add(BLOCK);
+    }
+    bytes
+        .saturating_add(words.saturating_mul(8))
+        .saturating_add((words / 64).saturating_mul(8))
+        .saturating_add((words / 2).saturating_mul(8))
+        .saturating_add(kept.saturating_mul(24))
+}
+
+// The words of the greatest frame.
+fn largest_frame(verified: &Verified) -> usize {
+    let mut largest = 2usize;
+    for function in &verified.code().functions {
+        largest = largest.max(function.registers as usize + 2);
+    }
+    largest
+}
+
+// The bytes of a run: the words of its frames, the arguments' beside them, and the greatest frame once more.
+fn run_bytes(verified: &Verified, number: usize, registers: usize, frames: u64) -> usize {
+    let largest = largest_frame(verified);
+    let words = match verified.code_stack(number) {
+        Some(stack) => stack.words,
+        None => largest.saturating_mul(frames.min(MOST_FRAMES as u64) as usize + 1),
+    };
+    words
+        .saturating_add(registers)
+        .saturating_add(largest)
+        .saturating_mul(8)
+        .saturating_add(4 * BLOCK)
+}

@@ -1,6 +1,9 @@
 // The programs of the library, typed: what the phases up to typing make of its texts, none of which they refuse.
 #![tactic(auto)]
 
+#[cfg(test)]
+mod tests;
+
 ghost use Rattle.std.specs.Prelude.{◌↔◌, ◌≡◌, ℕ, List, IsSome, IfOk, IfSome, MatchResult};
 ghost use Rattle.fip_base.specs.CoreView as core_view;
 ghost use Rattle.fip_base.specs.declared.refusal.PhaseError.TheVariants.{NoMemory as no_memory};

@@ -2,13 +2,14 @@
 --
 -- With 6 words, after `a = rev(Cons(1, Nil), Nil)`: under a that list is found, its one cell is the only one, and 3 words
 -- are left.
-use Rattle.std.specs.Prelude.{◌≡◌, ℕ, Option, option_map}
+use Rattle.std.specs.Prelude.{◌≡◌, ℕ, List, ◌++◌, Option, option_map}
 use Rattle.std.specs.BTreeMap.{BTreeMap}
 use Rattle.std.specs.declared.alloc.Global.{Global}
 use Rattle.std.specs.declared.vec.Vec.{Vec}
 use Rattle.fip_language.specs.Core.{Name}
 use Rattle.session_lines.specs.Named.{AreEntries}
-use Rattle.session_lines.specs.session_semantics.Talk.{Setting, State}
+use Rattle.session_lines.specs.command_outcome.Texts.{line_end}
+use Rattle.session_lines.specs.session_semantics.Talk.{Setting, State, Replies}
 use Rattle.session_correctness.specs.Open.{IsOpen}
 use Rattle.fip_session.specs.Named.{found}
 use Rattle.session_code.specs.Served.{IsServed}
@@ -28,3 +29,7 @@ pub record IsSession (o : Setting) (t : Session) (s : State) : Type 0 where
   pub frames : t.book.frames ≡ o.frames
   pub opened : IsOpen o.program.types o.words (found_as t.book.held)
       (record { cells = t.store.cells.cells; released = t.store.cells.released }) t.store.left s
+
+-- A line of these bytes gets this reply, of which the LF at its end is left out, and the session is in the state behind it.
+abbrev pub RepliesTo : Setting → State → List ℕ → List ℕ → Session → Type 0
+RepliesTo o s bytes text t = (s' : State) × Replies o s bytes (text ++ line_end) s' × IsSession o t s'

@@ -5,12 +5,18 @@ ghost use Rattle.std.specs.Str.{bytes_eq};
 ghost use Rattle.cell_code.specs.declared.code.Function.{Function as a_function};
 ghost use Rattle.fip_language.specs.Core.{Name};
 ghost use Rattle.fip_language.specs.Table.{is_scalar};
-ghost use Rattle.fip_language.specs.declared.limits.TheConstants.{MOST_FRAMES};
+ghost use Rattle.fip_language.specs.declared.limits.TheConstants.{MOST_FRAMES, MOST_STORE_WORDS};
 ghost use Rattle.session_correctness.specs.tree_refinement.code_rules.Codes.{plain};
 ghost use Rattle.session_lines.specs.Named.{AreEntries, HasFrames, HasName};
+ghost use Rattle.store_trees.specs.Added.{places_of};
 ghost use Rattle.fip_language.specs.PrintedText.{printed};
-ghost use Rattle.fip_language.specs.Store.{Placed, value_of, word_of};
+ghost use Rattle.fip_language.specs.Store.{Placed, count, places, uses, value_of, word_of};
+ghost use Rattle.fip_language.specs.Every.{Every};
+ghost use Rattle.fip_machine.specs.machine_cells.Small.{store_of};
+ghost use Rattle.session_correctness.specs.Lodging.{Lodged, AreDistinct, lodged_uses};
+ghost use Rattle.session_correctness.specs.tree_refinement.machine_semantics.Cells.{there};
 ghost use Rattle.value_text.specs.Standing.{Stands};
+ghost use Rattle.fip_session.specs.Planned.{Finds};
 ghost use Rattle.fip_session.specs.Named.{found};
 
 use cell_code::Function;
@@ -144,16 +150,29 @@ impl<'a> Book<'a> {
     }
 
     /// The trees of a value.
-    pub fn trees_of(&self, cells: &Sealed, held: Held) -> Result<Trees, NoMemory> {
+    pub fn trees_of(&self, cells: &Sealed, held: Held) -> Result<Trees, NoMemory>
+        // The clause speaks of stores of at most 2^32 places, and of values of at most 16,777,216 cells.
+        ensures trees { length cells.now.cells ≤ 2 ^ 32 → (x : Placed) →
+            Stands self.now.table.now cells.now.cells held.ty x → word_of x ≡ held.word →
+            length (places x) ≤ MOST_STORE_WORDS → IfOk result (λ t. (q : ℕ) →
+            count q (places_of t.list.items) ≡ uses q x) }
+    {
         let mut trees = Trees::none(self.alloc);
         trees.add(self.table, cells, held.ty, held.word, MOST_STORE_WORDS)?;
         Ok(trees)
     }
 
     /// The trees of all values that are held.
-    pub fn all_trees(&self, cells: &Sealed) -> Result<Trees, NoMemory> {
+    pub fn all_trees(&self, cells: &Sealed) -> Result<Trees, NoMemory>
+        // The clause speaks of values that lie apart, in a store of at most 16,777,216 places.
+        ensures trees { length cells.now.cells ≤ MOST_STORE_WORDS → (ls : List Lodged) → Finds self.now.held ls →
+            AreDistinct ls → Every (λ l. Stands self.now.table.now cells.now.cells l.type l.tree) ls → ((q : ℕ) →
+            lodged_uses ls q ≤ there (store_of cells.now.cells cells.now.released) q) → IfOk result (λ t. (q : ℕ) →
+            count q (places_of t.list.items) ≡ lodged_uses ls q) }
+    {
         let mut trees = Trees::none(self.alloc);
-        for (_, held) in &self.held {
+        for entry in &self.held {
+            let held = *entry.1;
             trees.add(self.table, cells, held.ty, held.word, MOST_STORE_WORDS)?;
         }
         Ok(trees)

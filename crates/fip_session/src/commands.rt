@@ -1,6 +1,9 @@
 // Whole inputs: all lines of a session.
-ghost use Rattle.std.specs.Prelude.{◌≤◌};
-ghost use Rattle.fip_language.specs.declared.limits.TheConstants.{MOST_FRAMES, MOST_STORE_WORDS};
+ghost use Rattle.std.specs.Prelude.{◌≡◌, ◌≤◌, length, IfOk};
+ghost use Rattle.fip_language.specs.declared.limits.TheConstants.{MOST_FILE_BYTES, MOST_FRAMES, MOST_STORE_WORDS};
+ghost use Rattle.session_lines.specs.session_semantics.Lines.{lines_of};
+ghost use Rattle.session_lines.specs.session_semantics.Talk.{Setting, Talks, at_first};
+ghost use Rattle.session_code.specs.Served.{IsServed};
 
 use crate::session::Session;
 use code_verify::Verified;
@@ -28,6 +31,9 @@ pub fn session_reply(
 ) -> Result<Vec<u8>, NoMemory>
     requires words { room.words ≤ MOST_STORE_WORDS }
     requires frames { room.frames ≤ MOST_FRAMES }
+    ensures talks { (o : Setting) → IsServed o verified.now.code → typed.now.program.types ≡ o.program.types →
+        room.words ≡ o.words → room.calls ≡ o.calls → room.frames ≡ o.frames → length input.now ≤ MOST_FILE_BYTES →
+        IfOk result (λ out. Talks o at_first (lines_of input.now) out.items) }
 {
     let mut session = Session::new(alloc, typed, verified, room.words, room.calls, room.frames)?;
     let mut out = Vec::new(alloc);

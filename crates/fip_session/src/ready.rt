@@ -1,4 +1,17 @@
 // The values of a call come to life, and the cells of its entry's credits.
+ghost use Rattle.std.specs.Prelude.{◌≡◌, List, [], map, drop, IfOk};
+ghost use Rattle.fip_language.specs.Core.{Name};
+ghost use Rattle.fip_language.specs.Values.{Value, Values};
+ghost use Rattle.session_lines.specs.Said.{IsGiven, AreGiven};
+ghost use Rattle.session_lines.specs.session_semantics.Lines.{Given as a_given, Fresh as a_new, Written as a_written};
+ghost use Rattle.session_lines.specs.session_semantics.Lines.{WrittenText, symbols};
+ghost use Rattle.session_lines.specs.session_semantics.Typed.{IsValue};
+ghost use Rattle.session_lines.specs.session_semantics.Talk.{IsTaken, AreTaken};
+ghost use Rattle.session_correctness.specs.Lodging.{Lodged, holding_of};
+ghost use Rattle.value_text.specs.Loaded.{types_of, AreCredits};
+ghost use Rattle.fip_session.specs.Planned.{Finds, CanTake, CanTakeAll};
+ghost use Rattle.fip_session.specs.Readied.{Lie, IsPut, ArePut, IsReady};
+
 use crate::book::{Book, Held};
 use crate::plan::Plan;
 use cell_store::Loader;
@@ -28,7 +41,10 @@ pub struct Ready {
 
 impl Ready {
     // Nothing yet.
-    fn none(alloc: Global) -> Ready {
+    fn none(alloc: Global) -> Ready
+        ensures words { result.words.items ≡ [] }
+        ensures values { result.values.items ≡ [] }
+    {
         Ready {
             words: Vec::new(alloc),
             values: Vec::new(alloc),
@@ -44,7 +60,12 @@ impl Ready {
         param: Param,
         written: Written,
         loader: Loader,
-    ) -> Result<Loader, NoMemory> {
+    ) -> Result<Loader, NoMemory>
+        ensures put { CanTake book.now.table.now param.ty bytes.now → (ls : List Lodged) → Finds book.now.held ls →
+            Lie book.now.table.now ls loader → (before : List Name) (g : a_given) (v : Value) →
+            IsGiven bytes.now written.entry g → IsTaken book.now.table.now (map holding_of ls) before param g v →
+            IfOk result (λ next. IsPut book.now.table.now ls before param g v loader next self.old self.new) }
+    {
         match written {
             Written::Name(name) => {
                 // The name was found before.
@@ -66,10 +87,16 @@ impl Ready {
         param: Param,
         span: Span,
         loader: Loader,
-    ) -> Result<Loader, NoMemory> {
-        // The value was read before, so that nothing but memory can be wanting.
+    ) -> Result<Loader, NoMemory>
+        ensures put { CanTake book.now.table.now param.ty bytes.now → (ls : List Lodged) (before : List Name)
+            (w : a_written) (v : Value) →
+            WrittenText (symbols (drop span.start bytes.now)) w (symbols (drop span.end bytes.now)) →
+            IsValue book.now.table.now param.ty w v → IfOk result (λ next.
+            IsPut book.now.table.now ls before param (a_new w) v loader next self.old self.new) }
+    {
         let made = make_value(book.alloc, book.table, param.ty, bytes, span.start, loader);
-        let Ok((loader, word)) = made else {
+        // The value was read before, so that nothing but memory can be wanting.
+        let Ok((next, word)) = made else {
             return Err(NoMemory);
         };
         self.words.push(word)?;
@@ -77,7 +104,7 @@ impl Ready {
             held: Held { ty: param.ty, word },
             is_lent: param.lent,
         })?;
-        Ok(loader)
+        Ok(next)
     }
 
     // The words of the arguments. The cells of the values are made.
@@ -88,7 +115,13 @@ impl Ready {
         params: &[Param],
         arguments: &[Written],
         loader: Loader,
-    ) -> Result<Loader, NoMemory> {
+    ) -> Result<Loader, NoMemory>
+        ensures put { self.old.words.items ≡ [] → self.old.values.items ≡ [] →
+            CanTakeAll book.now.table.now (types_of params.now) bytes.now → (ls : List Lodged) → Finds book.now.held ls →
+            Lie book.now.table.now ls loader → (gs : List a_given) → AreGiven bytes.now arguments.now gs →
+            (vs : Values) → AreTaken book.now.table.now (map holding_of ls) [] params.now gs vs → IfOk result (λ next.
+            ArePut book.now.table.now ls params.now gs vs loader next self.new) }
+    {
         let mut loader = loader;
         for (param, written) in params.iter().zip(arguments.iter()) {
             loader = self.add_argument(book, bytes, *param, *written, loader)?;
@@ -104,7 +137,15 @@ pub fn make_ready(
     plan: &Plan,
     line: &CallLine,
     loader: Loader,
-) -> Result<(Loader, Ready), NoMemory> {
+) -> Result<(Loader, Ready), NoMemory>
+    ensures made { AreCredits plan.now.function.now.credits.items →
+        CanTakeAll book.now.table.now (types_of plan.now.function.now.params) bytes.now → (ls : List Lodged) →
+        Finds book.now.held ls → Lie book.now.table.now ls loader → (gs : List a_given) →
+        AreGiven bytes.now line.now.arguments.items gs → (vs : Values) →
+        AreTaken book.now.table.now (map holding_of ls) [] plan.now.function.now.params gs vs → IfOk result (λ r.
+        IsReady book.now.table.now ls plan.now.function.now.params plan.now.function.now.credits.items gs vs
+        loader r.0 r.1) }
+{
     let mut ready = Ready::none(book.alloc);
     let params = plan.function.params.as_slice();
     let arguments = line.arguments.as_slice();

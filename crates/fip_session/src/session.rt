@@ -1,20 +1,24 @@
 // A session: a store whose values have names.
-ghost use Rattle.fip_language.specs.declared.limits.TheConstants.{MOST_FRAMES, MOST_STORE_WORDS};
-ghost use Rattle.std.specs.Prelude.{◌≡◌, ◌≤◌, ◌++◌, ◌^◌, List, codes, length, Some, None, IfOk};
+ghost use Rattle.fip_language.specs.declared.limits.TheConstants.{MOST_FILE_BYTES, MOST_FRAMES, MOST_STORE_WORDS};
+ghost use Rattle.std.specs.Prelude.{◌≡◌, ◌≤◌, ◌++◌, ◌^◌, ℕ, List, codes, length, Some, None, IfOk, IfSome};
+ghost use Rattle.session_lines.specs.Said.{Says};
+ghost use Rattle.session_lines.specs.session_semantics.Lines.{Line as a_line, SpellsLine, GivesUp};
+ghost use Rattle.fip_session.specs.Answered.{LineAnswered};
 ghost use Rattle.session_lines.specs.command_outcome.Texts.{line_end};
-ghost use Rattle.session_lines.specs.session_semantics.Talk.{Setting, at_first, told};
+ghost use Rattle.session_lines.specs.session_semantics.Talk.{Setting, State, at_first, told};
 ghost use Rattle.fip_language.specs.PrintedText.{printed};
 ghost use Rattle.fip_language.specs.Store.{value_of};
+ghost use Rattle.session_values.specs.Readable.{IsLine};
 ghost use Rattle.value_text.specs.Standing.{Stands};
 ghost use Rattle.session_correctness.specs.Lodging.{Lodged, lodged_as};
 ghost use Rattle.fip_session.specs.Planned.{Finds};
 ghost use Rattle.fip_session.specs.Said.{said};
-ghost use Rattle.fip_session.specs.Opened.{IsSession};
+ghost use Rattle.fip_session.specs.Opened.{IsSession, RepliesTo};
 ghost use Rattle.session_code.specs.Served.{IsServed};
 ghost use Rattle.fip_session.specs.Named.{found};
 
 use crate::book::{Book, Held};
-use crate::call::{Store, call};
+use crate::call::{Store, call, release_held};
 use crate::reply::{Reply, reply_text};
 use cell_store::{Loader, Sealed, seal};
 use code_verify::Verified;
@@ -81,18 +85,14 @@ impl<'a> Session<'a> {
     ///
     /// The first that holds is answered, and the least argument and result. Refusals down to the store's change
     /// nothing.
-    pub fn line(self, bytes: &[u8]) -> Result<(Session<'a>, Vec<u8>), NoMemory> {
+    pub fn line(self, bytes: &[u8]) -> Result<(Session<'a>, Vec<u8>), NoMemory>
+        ensures replies { (o : Setting) (s : State) → IsSession o self.entry s → IsLine bytes.now →
+            length bytes.now ≤ MOST_FILE_BYTES → IfOk result (λ r. RepliesTo o s bytes.now r.1.items r.0) }
+    {
         let Session { mut book, store } = self;
         let alloc = book.alloc;
-        let (store, reply) = match line_of(alloc, bytes)? {
-            None => (store, Reply::BadLine),
-            Some(Line::Show(name)) => {
-                let reply = show(&book, &store.cells, name)?;
-                (store, reply)
-            }
-            Some(Line::Give(name)) => give(&mut book, store, name)?,
-            Some(Line::Call(line)) => call(&mut book, bytes, &line, store)?,
-        };
+        let read = line_of(alloc, bytes)?;
+        let (store, reply) = answer(&mut book, bytes, read, store)?;
         let text = reply_text(alloc, reply)?;
         Ok((Session { book, store }, text))
     }
@@ -127,14 +127,38 @@ fn show<'l>(book: &Book, cells: &Sealed, name: &'l [u8]) -> Result<Reply<'l>, No
 
 // Gives up what a name holds.
 fn give<'l>(book: &mut Book, store: Store, name: &'l [u8]) -> Result<(Store, Reply<'l>), NoMemory>
-    ensures none { found book.old.held name.now ≡ None →
-        IfOk result (λ r. (said r.1 ≡ told (codes "no name ") name.now) × (r.0 ≡ store) × (book.new ≡ book.old)) }
+    ensures gives { (o : Setting) (s : State) → IsSession o (record { book = book.old; store = store }) s →
+        (bytes : List ℕ) → SpellsLine bytes (GivesUp name.now) →
+        IfOk result (λ r. LineAnswered o s bytes book.new r.0 r.1) }
 {
     let Some(held) = book.find(name) else {
         return Ok((store, Reply::NoName(name)));
     };
     book.forget(name);
     let Store { mut cells, left } = store;
-    book.trees_of(&cells, held)?.release(&mut cells);
+    release_held(book, &mut cells, held)?;
     Ok((Store { cells, left }, Reply::Done))
+}
+
+// Does a line that was read so.
+fn answer<'l>(
+    book: &mut Book,
+    bytes: &[u8],
+    read: Option<Line<'l>>,
+    store: Store,
+) -> Result<(Store, Reply<'l>), NoMemory>
+    ensures answers { (o : Setting) (s : State) → IsSession o (record { book = book.old; store = store }) s →
+        IsLine bytes.now → length bytes.now ≤ MOST_FILE_BYTES → IfSome read.entry (Says bytes.now) →
+        (read.entry ≡ None → (l : a_line) → SpellsLine bytes.now l → ⊥) →
+        IfOk result (λ r. LineAnswered o s bytes.now book.new r.0 r.1) }
+{
+    match read {
+        None => Ok((store, Reply::BadLine)),
+        Some(Line::Show(name)) => {
+            let reply = show(book, &store.cells, name)?;
+            Ok((store, reply))
+        }
+        Some(Line::Give(name)) => give(book, store, name),
+        Some(Line::Call(line)) => call(book, bytes, &line, store),
+    }
 }

@@ -51,8 +51,8 @@ pub fn no_command_has_one_answer()
 /// Two answers of the same words, on the same files and input and behind the same on out and err, have the same status,
 /// and leave the same on out and err, unless memory was wanting. But two codes of an accepted source may differ in whether
 /// they have a file or a trace that can be stored: then of two answers of `compile` one is E61, and of two of `trace` one is
-/// E75; and what a session replies isn't said. So codes differ in what is left, stored and traced alone. For who compares
-/// two calls.
+/// E75; and of two of `session` it isn't shown that they are the same. So codes differ in what is left, stored and traced
+/// alone. For who compares two calls.
 pub fn an_answer_is_one()
     ensures law { (words : List (List ℕ)) (files : List File) (input out err : List ℕ) (h k : Host) →
         Finds h out err → Finds k out err → Answered words files input h → Answered words files input k →

@@ -27,7 +27,9 @@ use Rattle.command_library.specs.command_source.Roots.{IsListing}
 use Rattle.command_library.specs.command_source.Wanted.{Wanted, Refuses, IsReady, of_entry}
 use Rattle.command_library.specs.command_eval.EvalAnswer.{Evaluates}
 use Rattle.command_library.specs.command_run.CodeRun.{RunsCode}
-use Rattle.command_library.specs.command_tasks.TasksAnswer.{TakesTurns}
+use Rattle.command_library.specs.command_tasks.TasksAnswer.{IsSetting, TakesTurns}
+use Rattle.command_library.specs.session_semantics.Lines.{lines_of}
+use Rattle.command_library.specs.session_semantics.Talk.{Setting, Talks, at_first}
 use Rattle.command_trace.specs.Replayed.{IsReplayed}
 use Rattle.command_trace.specs.TraceAnswer.{IsLong}
 use Rattle.command_answers.specs.Asks.{ReadsInput}
@@ -55,9 +57,11 @@ pub data TracesTo (source name input : List ℕ) (room : Room) : End → Type 0 
   TooLong : (t : T.Trace) → IsSourceTrace source name input room t → IsLong t →
       TracesTo source name input room (Err (F.Refused (bare E75)))
 
--- The replies of a session, of which it is said alone that they are no failure.
+-- The replies to the lines of the input, one after another: those of a session of the source's program in this room, in
+-- which no name holds a value at first. With 6 words `a = rev(Cons(1, Nil), Nil)` and then `?a` are replied to by `ok` and
+-- `Cons(1, Nil)`.
 abbrev pub Replies : List ℕ → List ℕ → Room → End → Type 0
-Replies source input room (Ok text) = Unit {0}
+Replies source input room (Ok text) = (o : Setting) × IsSetting source room o × Talks o at_first (lines_of input) text
 Replies source input room (Err failure) = ⊥
 
 -- its derivation has been made; or the text of this has too many bytes

@@ -1,8 +1,8 @@
 -- It serves the law that a command ends with one thing: where it may not.
 --
 -- Two codes of a source may differ in whether their files, or the traces of their runs, are short enough. So of two ends of
--- `compile` on an accepted source that aren't the same one is E61, and of `trace` one is E75; and what a session replies
--- isn't said.
+-- `compile` on an accepted source that aren't the same one is E61, and of `trace` one is E75; and that two ends of
+-- `session` are the same isn't shown.
 use Rattle.std.specs.Prelude.{◌≡◌, ◌⊎◌, ℕ, List, Some, Err}
 use Rattle.fip_outside.specs.Files.{File}
 use Rattle.command_library.specs.fip_language.declared.rule.Rule.{Rule}

@@ -1,10 +1,11 @@
 // What sessions and tasks come to: which object is called when.
-ghost use Rattle.std.specs.Prelude.{◌≡◌, ◌⊎◌, ◌≤◌, ℕ, List, OnOk};
+ghost use Rattle.std.specs.Prelude.{◌≡◌, ◌⊎◌, ◌≤◌, ℕ, List, length, OnOk};
 ghost use Rattle.std.specs.Io.KnownBytes.{IsAtEnd};
-ghost use Rattle.fip_language.specs.declared.limits.TheConstants.{MOST_FRAMES, MOST_STORE_WORDS};
+ghost use Rattle.fip_language.specs.declared.limits.TheConstants.{MOST_FILE_BYTES, MOST_FRAMES, MOST_STORE_WORDS};
 ghost use Rattle.fip_outside.specs.Faults.{Rose};
 ghost use Rattle.command_words.specs.View.{room_of};
 ghost use Rattle.command_words.specs.Words as W;
+ghost use Rattle.command_answers.specs.command_library.command_eval.EvalAnswer.{OrNoMemory};
 ghost use Rattle.command_answers.specs.command_tasks.Fronts.{IsFrontOf};
 ghost use Rattle.command_answers.specs.command_tasks.TasksAnswer.{TakesTurns};
 ghost use Rattle.command_answers.specs.Asks.{ComesToInput};
@@ -26,17 +27,33 @@ use std::alloc::Global;
 fn runs_room(room: Room) -> fip_session::Room
     ensures words { result.words ≤ MOST_STORE_WORDS }
     ensures frames { result.frames ≤ MOST_FRAMES }
+    ensures all_words { room.words ≤ MOST_STORE_WORDS → result.words ≡ room.words }
+    ensures all_calls { result.calls ≡ room.calls }
+    ensures all_frames { room.frames ≤ MOST_FRAMES → result.frames ≡ room.frames }
 {
+    let words = room.words.min(MOST_STORE_WORDS as u64) as usize;
+    let frames = room.frames.min(MOST_FRAMES as u64) as usize;
     fip_session::Room {
-        words: room.words.min(MOST_STORE_WORDS as u64) as usize,
+        words,
         calls: room.calls,
-        frames: room.frames.min(MOST_FRAMES as u64) as usize,
+        frames,
     }
 }
 
 // The replies to the lines of an input, each ended by LF. Nothing but want of memory ends a session early.
-fn replies(alloc: Global, front: &Front, input: &[u8], room: Room) -> Result<Vec<u8>, NoMemory> {
-    session_reply(alloc, &front.typed, &front.verified, runs_room(room), input)
+fn replies(alloc: Global, front: &Front, input: &[u8], room: Room) -> Result<Vec<u8>, Failure>
+    requires words { room.words ≤ MOST_STORE_WORDS }
+    requires frames { room.frames ≤ MOST_FRAMES }
+    ensures means { (source : List ℕ) → IsFrontOf source front.now → length input.now ≤ MOST_FILE_BYTES →
+        OrNoMemory (Replies source input.now (room_of room)) result }
+    ensures late { IsBeforeInput result → ⊥ }
+{
+    // That the code's ints have 64 bits is told where it is read.
+    front.verified.code();
+    match session_reply(alloc, &front.typed, &front.verified, runs_room(room), input) {
+        Ok(out) => Ok(out),
+        Err(NoMemory) => Err(Failure::NoMemory),
+    }
 }
 
 // Reads the input and answers its lines.
@@ -46,13 +63,16 @@ fn talk<S: Source>(
     room: Room,
     input: &mut S,
 ) -> Result<Vec<u8>, Failure>
-    ensures outcome { (source : List ℕ) → ReadOutcome (λ bytes. Replies source bytes (room_of room)) (S.left input.old)
+    requires words { room.words ≤ MOST_STORE_WORDS }
+    requires frames { room.frames ≤ MOST_FRAMES }
+    ensures outcome { (source : List ℕ) → IsFrontOf source front.now →
+        ReadOutcome (λ bytes. Replies source bytes (room_of room)) (S.left input.old)
         (Rose (S.faults input.old) (S.faults input.new)) (end_of result) }
     ensures read { OnOk result (IsAtEnd (S.left input.new)) }
     ensures late { IsBeforeInput result → ⊥ }
 {
     match read_input(alloc, input) {
-        Ok(bytes) => Ok(replies(alloc, front, bytes.as_slice(), room)?),
+        Ok(bytes) => replies(alloc, front, bytes.as_slice(), room),
         Err(failure) => Err(failure),
     }
 }
@@ -65,6 +85,8 @@ pub fn session<F: Folder, S: Source>(
     folder: &mut F,
     input: &mut S,
 ) -> Result<Vec<u8>, Failure>
+    requires words { room.words ≤ MOST_STORE_WORDS }
+    requires frames { room.frames ≤ MOST_FRAMES }
     ensures outcome { FileOutcome (W.Session file.now (room_of room)) (F.files folder.old) (S.left input.old)
         (Rose (F.faults folder.old) (F.faults folder.new)) (Rose (S.faults input.old) (S.faults input.new))
         (end_of result) }

@@ -10,7 +10,7 @@ use Rattle.fip_driver.proofs.Counted.{late_counted, source_counted, fetch_counte
 use Rattle.fip_driver.proofs.sessions.session.Goals as goal
 
 pub returns-in-Ok-front-clause-outcome : goal.returns-in-Ok-front-clause-outcome
-returns-in-Ok-front-clause-outcome g c = source_ends (W.Session c.args.file.now (room_of c.args.room)) Lawful c.args.file.now (g.F.Folder.files c.args.folder.now) (g.S.Source.left c.args.input.now) ⊥ _ _ _ c.in-Ok.source.items c.as_slice.result.now (end_of c.talk.result) (λ r. absurd r) (λ r. r) c.in-Ok.ensures.found refl refl c.as_slice.ensures.value (input_ends (W.Session c.args.file.now (room_of c.args.room)) Lawful c.as_slice.result.now (g.S.Source.left c.args.input.now) ⊥ _ (λ bytes. Replies c.as_slice.result.now bytes (room_of c.args.room)) (end_of c.talk.result) (record { program = program c.in-Ok-front.front.typed.program; accepted = c.in-Ok-front.ensures.accepted; has = tt }) tt (λ input d m. m) (c.talk.ensures.outcome c.as_slice.result.now))
+returns-in-Ok-front-clause-outcome g c = source_ends (W.Session c.args.file.now (room_of c.args.room)) Lawful c.args.file.now (g.F.Folder.files c.args.folder.now) (g.S.Source.left c.args.input.now) ⊥ _ _ _ c.in-Ok.source.items c.as_slice.result.now (end_of c.talk.result) (λ r. absurd r) (λ r. r) c.in-Ok.ensures.found refl refl c.as_slice.ensures.value (input_ends (W.Session c.args.file.now (room_of c.args.room)) Lawful c.as_slice.result.now (g.S.Source.left c.args.input.now) ⊥ _ (λ bytes. Replies c.as_slice.result.now bytes (room_of c.args.room)) (end_of c.talk.result) (record { program = program c.in-Ok-front.front.typed.program; accepted = c.in-Ok-front.ensures.accepted; has = tt }) tt (λ input d m. m) (c.talk.ensures.outcome c.as_slice.result.now (record { accepted = c.in-Ok-front.ensures.accepted; found = c.in-Ok-front.ensures.groups; sound = c.in-Ok-front.ensures.sound; code = c.in-Ok-front.ensures.code })))
 
 pub returns-in-Ok-clause-outcome : goal.returns-in-Ok-clause-outcome
 returns-in-Ok-clause-outcome g c = source_ends (W.Session c.args.file.now (room_of c.args.room)) Lawful c.args.file.now (g.F.Folder.files c.args.folder.now) (g.S.Source.left c.args.input.now) ⊥ ⊥ _ _ c.in-Ok.source.items c.as_slice.result.now _ (λ r. absurd r) (λ r. absurd r) c.in-Ok.ensures.found refl refl c.as_slice.ensures.value (kept_ends (W.Session c.args.file.now (room_of c.args.room)) Lawful c.as_slice.result.now (g.S.Source.left c.args.input.now) ⊥ ⊥ c.in-Err-front.failure c.in-Err-front.ensures.kept)

@@ -1,7 +1,16 @@
+use Rattle.std.proofs.Common.{◌≤◌, ℕ, List, length, sym, subst}
+use Rattle.fip_language.specs.declared.limits.TheConstants.{MOST_FILE_BYTES}
 use Rattle.command_words.specs.View.{room_of}
 use Rattle.command_answers.specs.Ends.{Replies}
-use Rattle.fip_driver.proofs.SourceEnds.{unread_says}
+use Rattle.command_answers.specs.command_library.command_eval.EvalAnswer.{OrNoMemory}
+use Rattle.fip_driver.proofs.SourceEnds.{unread_says, read_says}
 use Rattle.fip_driver.proofs.sessions.talk.Goals as goal
 
+pub returns-in-Ok-clause-outcome : goal.returns-in-Ok-clause-outcome
+returns-in-Ok-clause-outcome g c = λ source front.
+    let within = subst (λ (xs : List ℕ). length xs ≤ MOST_FILE_BYTES) (sym c.as_slice.ensures.value) c.in-Ok.ensures.within in
+    let means = subst (λ (xs : List ℕ). OrNoMemory (Replies source xs (room_of c.args.room)) c.replies.result) c.as_slice.ensures.value (c.replies.ensures.means source front within) in
+    read_says (λ bytes. Replies source bytes (room_of c.args.room)) (g.S.Source.left c.args.input.now) _ _ c.in-Ok.bytes.items c.replies.result c.in-Ok.ensures.all c.in-Ok.ensures.end c.in-Ok.ensures.within means
+
 pub returns-in-Err-clause-outcome : goal.returns-in-Err-clause-outcome
-returns-in-Err-clause-outcome g c = λ source. unread_says (λ bytes. Replies source bytes (room_of c.args.room)) (g.S.Source.left c.args.input.now) _ _ _ c.in-Err.failure c.in-Err.ensures.fails
+returns-in-Err-clause-outcome g c = λ source front. unread_says (λ bytes. Replies source bytes (room_of c.args.room)) (g.S.Source.left c.args.input.now) _ _ _ c.in-Err.failure c.in-Err.ensures.fails

@@ -28,6 +28,7 @@ from session_fuzz import KIND, NAMES, TOP, Talk, programs
 CALL = re.compile(r"^[\w, \t\r]*=[ \t\r]*(\w+)[ \t\r]*\((.*)\)[ \t\r]*$", re.S)
 CREDITS = re.compile(r"^(?:fip|fbip)((?:[ \t]*\+\d+)*)[ \t]+fun[ \t]+(\w+)", re.M)
 VALUE = re.compile(r"[A-Z]\w*|-?\d+|[(),]")
+RESULTS = re.compile(r"^([\w, \t\r]*)=")
 ROOM = re.compile(r"store too small: (\d+) needed, (\d+) left")
 
 MAIN = r'''// Answers the lines of a session, and prints behind each reply what the library's calls tell of names and cells.
@@ -211,6 +212,12 @@ def needed_by(line, credits):
     return need
 
 
+def binds_others(line):
+    """Whether a line has a result name that isn't asked for, and so would hold cells that aren't counted here."""
+    found = RESULTS.match(line)
+    return found is not None and any(name.strip(" \t\r") not in NAMES for name in found[1].split(","))
+
+
 def asked(lines):
     """The lines, each followed by a question for each name."""
     return [text for line in lines for text in [line] + ["?" + name for name in NAMES]]
@@ -244,7 +251,7 @@ def compare(args, program, folder, number, text, seed):
     """The numbers of lines and of differences of one program; what differs first is printed."""
     rng = random.Random(seed)
     talk = Talk(rng, text)
-    lines = [talk.line() for _ in range(args.lines)]
+    lines = [line if not binds_others(line) else "?" + NAMES[0] for line in (talk.line() for _ in range(args.lines))]
     words, calls, frames = rng.choice([0, 12, 60, 200, 200, 1000, 5000]), rng.choice([0, 3, 10, 1000, 1000, 1000]), rng.choice([0, 1, 3, 1000])
     source = folder / f"p{number}.fp"
     source.write_text(text)

@@ -5,9 +5,7 @@ use Rattle.std.proofs.Math.Seq.{get_or-append_seam, take-append_seam}
 use Rattle.std.proofs.lemmas.Bool.Decides.{nat_tests}
 use Rattle.call_groups.specs.Search.{EndsIn}
 use Rattle.call_groups.proofs.Whole.{snoc}
-
-same_yes : (m n : ℕ) → nat_eq m n ≡ true → m ≡ n
-same_yes m n h = grind (arith, nat_tests)
+use Rattle.fip_base.proofs.fip_language.Facts.{nat_eq_same as same_yes}
 
 same_no : (m n : ℕ) → nat_eq m n ≡ false → m ≡ n → ⊥
 same_no m n h e = grind (arith, nat_tests)

@@ -5,15 +5,7 @@ use Rattle.std.specs.Prelude.{◌⊎◌, Some, slice_get}
 use Rattle.std.proofs.lemmas.Option.{none-some, same_Some}
 use Rattle.std.proofs.lemmas.Bool.{cases_lt}
 use Rattle.call_groups.specs.CallGraph.{In}
-
-pub same_or_not : (m n : ℕ) → (m ≡ n) ⊎ (m ≢ n)
-same_or_not m n = elim (cases_lt m n) [
-  | inl h ↦ inr (λ e. omega arith)
-  | inr h ↦ elim (cases_lt n m) [
-    | inl l ↦ inr (λ e. omega arith)
-    | inr l ↦ inl (omega arith)
-  ]
-]
+pub use Rattle.fip_base.proofs.fip_language.Facts.{get_last as at_end, get_more as at_more, get_push as at_push, same_or_not}
 
 pub at_same : {A : Type 0} (xs : List A) (i : ℕ) (x y : A) → slice_get xs i ≡ Some x → slice_get (set xs i y) i ≡ Some y
 at_same [] i x y h = absurd (none-some x h)
@@ -26,15 +18,6 @@ at_other (z ∷ xs) zero zero y h = absurd (h refl)
 at_other (z ∷ xs) zero (suc j) y h = refl
 at_other (z ∷ xs) (suc i) zero y h = refl
 at_other (z ∷ xs) (suc i) (suc j) y h = at_other xs i j y (λ e. h (ap suc e))
-
-pub at_end : {A : Type 0} (xs : List A) (y : A) → slice_get (xs ++ y ∷ []) (length xs) ≡ Some y
-at_end [] y = refl
-at_end (x ∷ xs) y = at_end xs y
-
-pub at_more : {A : Type 0} (xs ys : List A) (i : ℕ) (x : A) → slice_get xs i ≡ Some x → slice_get (xs ++ ys) i ≡ Some x
-at_more [] ys i x h = absurd (none-some x h)
-at_more (z ∷ xs) ys zero x h = h
-at_more (z ∷ xs) ys (suc i) x h = at_more xs ys i x h
 
 pub in_first : {A : Type 0} (xs ys : List A) (i : ℕ) (x : A) → i < length xs → slice_get (xs ++ ys) i ≡ Some x → slice_get xs i ≡ Some x
 in_first [] ys i x l h = absurd (omega arith)
@@ -55,16 +38,6 @@ at_second [] ys j x h = let e : j ≡ 0 + j = omega arith in subst (λ n. slice_
 at_second (z ∷ xs) ys j x h =
     let e : suc (length xs + j) ≡ suc (length xs) + j = omega arith in
     subst (λ n. slice_get (z ∷ (xs ++ ys)) n ≡ Some x) e (at_second xs ys j x h)
-
--- an element of a list and one more
-pub at_push : {A : Type 0} (xs : List A) (y : A) (i : ℕ) (x : A) → slice_get (xs ++ y ∷ []) i ≡ Some x → (slice_get xs i ≡ Some x) ⊎ ((i ≡ length xs) × (x ≡ y))
-at_push [] y zero x h = inr (refl, sym (same_Some y x h))
-at_push [] y (suc i) x h = absurd (none-some x h)
-at_push (z ∷ xs) y zero x h = inl h
-at_push (z ∷ xs) y (suc i) x h = elim (at_push xs y i x h) [
-  | inl e ↦ inl e
-  | inr e ↦ inr (ap suc e.0, e.1)
-]
 
 pub at_take : {A : Type 0} (n : ℕ) (xs : List A) (i : ℕ) (x : A) → slice_get (take n xs) i ≡ Some x → (i < n) × (slice_get xs i ≡ Some x)
 at_take zero xs i x h = absurd (none-some x h)

@@ -14,15 +14,10 @@ use Rattle.call_groups.specs.Raises.{greater, with_frame, raised, taken, one_cal
 use Rattle.call_groups.specs.declared.search.Call.{Call}
 use Rattle.call_groups.specs.declared.search.Partition.{Partition}
 use Rattle.call_groups.proofs.Lists.{same_or_not, in_first, at_more, at_second, in_push, in_none}
-
-same_yes : (m n : ℕ) → (m == n) ≡ true → m ≡ n
-same_yes m n h = grind (arith, nat_tests)
+use Rattle.fip_base.proofs.fip_language.Facts.{same_number as same_yes, unequal_test as yes_same}
 
 same_no : (m n : ℕ) → (m == n) ≡ false → m ≢ n
 same_no m n h e = grind (arith, nat_tests)
-
-yes_same : (m n : ℕ) → m ≢ n → (m == n) ≡ false
-yes_same m n h = elim (m == n) as (λ b. (m == n) ≡ b → b ≡ false) [ true ↦ λ e. absurd (h (same_yes m n e)) | false ↦ λ e. refl ] refl
 
 at_f_by_list : (xs pre fs : List ℕ) (f : ℕ) → xs ≡ pre ++ f ∷ fs → slice_get xs (length pre) ≡ Some f
 at_f_by_list xs pre fs f e = subst (λ ys. slice_get ys (length pre) ≡ Some f) (sym e) (let z : length pre + 0 ≡ length pre = omega arith in subst (λ k. slice_get (pre ++ f ∷ fs) k ≡ Some f) z (at_second pre (f ∷ fs) 0 f refl))

@@ -5,6 +5,7 @@ use Rattle.std.proofs.lemmas.Option.{slice_get_within, get_or_from_slice_get}
 use Rattle.std.proofs.lemmas.Bool.{cases_lt}
 use Rattle.cell_code.specs.Naming.{IsNamed}
 use Rattle.cell_code.specs.declared.code.Function.{Function}
+use Rattle.fip_base.proofs.fip_language.Facts.{below_next}
 
 pub IsNamed_within : (fs : List Function) (name : List ℕ) (n : ℕ) → IsNamed fs name n → n < length fs
 IsNamed_within fs name n (f, e, h) = slice_get_within fs n f e
@@ -12,9 +13,6 @@ IsNamed_within fs name n (f, e, h) = slice_get_within fs n f e
 -- the function that was read at i has this name
 IsNamed_read : (fs : List Function) (name : List ℕ) (i : ℕ) (f : Function) → f ≡ get_or fs i f → IsNamed fs name i → f.name ≡ name
 IsNamed_read fs name i f e (g, h, n) = ap (λ (r : Function). r.name) (e ∙ get_or_from_slice_get fs i g f h) ∙ n
-
-below_next : (i d : ℕ) → d < i + 1 → (d < i) ⊎ (d ≡ i)
-below_next i d h = elim (cases_lt d i) [ inl l ↦ inl l | inr g ↦ inr (omega (arith, h, g)) ]
 
 -- one more function that hasn't this name
 pub IsNamed_none_more : (fs : List Function) (name : List ℕ) (i : ℕ) (f : Function) → f ≡ get_or fs i f → (f.name ≡ name → ⊥) → ((d : ℕ) → d < i → IsNamed fs name d → ⊥) → (d : ℕ) → d < i + 1 → IsNamed fs name d → ⊥

@@ -37,23 +37,9 @@ use Rattle.lower_frame.proofs.Accounts.{last_same, not_of, no_new_credit, put_ac
 use Rattle.cell_lower.specs.Writing.{Named}
 use Rattle.cell_lower.specs.Bodies.{ScalarsRight, BuiltWell, Waits}
 use Rattle.cell_lower.proofs.Shedding.{set_length, used_length, root_length, widened_length}
-
-same_some : {A : Type 0} (x y : A) → Some x ≡ Some y → x ≡ y
-same_some x y e = cc
+use Rattle.fip_language.proofs.Facts.{and_false, and_true, get_set_here as set_here, get_set_other as set_other, none_some_implicit as none_is, same_some, some_is, unequal_false as unequal_is}
 
 -- ---- lists
-
-set_other : {A : Type 0} (xs : List A) (i : ℕ) (x : A) (j : ℕ) → (j ≡ i → ⊥) → slice_get (slice_set xs i x) j ≡ slice_get xs j
-set_other [] i x j ne = refl
-set_other (y ∷ xs) zero x zero ne = absurd (ne refl)
-set_other (y ∷ xs) zero x (suc j) ne = refl
-set_other (y ∷ xs) (suc i) x zero ne = refl
-set_other (y ∷ xs) (suc i) x (suc j) ne = set_other xs i x j (λ e. ne (ap suc e))
-
-set_here : {A : Type 0} (xs : List A) (i : ℕ) (x : A) → i < length xs → slice_get (slice_set xs i x) i ≡ Some x
-set_here [] i x within = absurd (omega (arith, within))
-set_here (y ∷ xs) zero x within = refl
-set_here (y ∷ xs) (suc i) x within = set_here xs i x (omega (arith, within))
 
 -- what a register holds, by what stands in the list
 
@@ -96,21 +82,6 @@ used_nothing false hs r q e = e
 used_nothing true hs r q e = held_map_nothing (without r) (slice_set hs r H.Nothing) q refl (held_set_nothing hs r q e)
 
 -- ---- one credit more
-
-and_false : (a : Bool) → (a && false) ≡ false
-and_false true = refl
-and_false false = refl
-
-and_true : (a : Bool) → (a && true) ≡ a
-and_true true = refl
-and_true false = refl
-
-unequal_is : (i j : ℕ) → (i ≡ j → ⊥) → (i == j) ≡ false
-unequal_is i j ne = by (i == j) refl
-  where
-    by : (b : Bool) → (i == j) ≡ b → b ≡ false
-    by true e = absurd (ne (Rattle.std.proofs.lemmas.Bool.eqb-true i j e))
-    by false e = refl
 
 counted_more : (m q : ℕ) (cs : List Credit) (c : Credit) → counted m q (cs ++ c ∷ []) ≡ counted m q cs + one_if ((c.size == m) && (c.register == q))
 counted_more m q [] c = omega arith
@@ -305,9 +276,6 @@ arrives_on tb k l m xs ys apart p q = record {
 named_accounted : (k : Known) (x r : ℕ) → Accounted k → Accounted (naming k x r)
 named_accounted k x r a = record { fresh = a.fresh; credits = a.credits; sizes = a.sizes }
 
-some_is : (a b : ℕ) → Some a ≡ Some b → a ≡ b
-some_is a b e = cc
-
 arrives_named : (tb : Table) (k : Known) (x r : ℕ) (h : Held) → NotBare h → is_credit (Some h) ≡ false → Arrives tb k (holding (naming k x r) r h) (r ∷ [])
 arrives_named tb k x r h bare solid = record {
   next = refl;
@@ -324,9 +292,6 @@ arrives_named tb k x r h bare solid = record {
       ];
   bares = λ q t d e. inl (barer_set k.held r h bare q t d e);
 }
-
-none_is : {A : Type 0} {x : A} → None ≡ Some x → ⊥
-none_is e = absurd (cc)
 
 arrives_unnamed : (tb : Table) (k : Known) (x : ℕ) (zs : List ℕ) → Arrives tb k (unnaming k x) zs
 arrives_unnamed tb k x zs = record {

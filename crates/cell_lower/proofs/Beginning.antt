@@ -34,9 +34,7 @@ use Rattle.cell_lower.specs.Growth.{Adds, Sheds}
 use Rattle.lower_frame.specs.Registers.{HasRoom, registers}
 use Rattle.lower_frame.specs.Labels.{labels}
 use Rattle.cell_lower.proofs.Shedding.{full_most, root_length}
-
-same_some : {A : Type 0} (x y : A) → Some x ≡ Some y → x ≡ y
-same_some x y e = cc
+use Rattle.fip_language.proofs.Facts.{if_false, if_true, same_some}
 
 pub adds_pattern : (c d : Choice) (q : Pattern) (root : Spot) (a b : ℕ) (r : Row) → Grows (spot_of c.root) (spot_of root) a b → Roomy q (spot_of root) → d.root ≡ root → d.ty ≡ c.ty → patterns_of d ≡ patterns_of c ++ q ∷ [] → (row r ≡ row_of q → HasRows (record c { root = root }) → HasRows d) → row r ≡ row_of q → AddsPattern c d q a b
 adds_pattern c d q root a b r g h e f p rs rq = record {
@@ -129,14 +127,6 @@ counted (p ∷ ps) = ap suc (counted ps)
 pub cell_credit : (s : Setting) (t c : ℕ) (ps : List Tree) (r : ℕ) (k : Known) → 0 < length ps → with_credit k (length ps) r ≡ with_cell s true t c (patterns ps) r k
 cell_credit s t c [] r k h = absurd (omega (arith, h))
 cell_credit s t c (p ∷ ps) r k h = ap (λ n. with_credit k (suc n) r) (sym (counted ps))
-
-if_true : {A : Type 0} (b : Bool) (x y : A) → b ≡ true → (if b then x else y) ≡ x
-if_true true x y e = refl
-if_true false x y e = absurd (cc)
-
-if_false : {A : Type 0} (b : Bool) (x y : A) → b ≡ false → (if b then x else y) ≡ y
-if_false true x y e = absurd (cc)
-if_false false x y e = refl
 
 pub cell_scalar : (s : Setting) (t c : ℕ) (ps : List Tree) (r : ℕ) (k : Known) → length ps ≡ 0 → is_scalar s t ≡ true → k ≡ with_cell s true t c (patterns ps) r k
 cell_scalar s t c [] r k h e = sym (if_true (is_scalar s t) k (holding k r (H.Bare t c)) e)

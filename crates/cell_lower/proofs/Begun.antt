@@ -42,12 +42,7 @@ use Rattle.cell_lower.proofs.Lessening.{Less, less_same, less_on, less_wide, les
 use Rattle.cell_lower.proofs.Matching.{typed_in}
 use Rattle.cell_lower.proofs.Parted.{none_past}
 use Rattle.cell_lower.proofs.Shown.{shown_told}
-
-none_some : {A : Type 0} (x : A) → None ≡ Some x → ⊥
-none_some x e = absurd (cc)
-
-same_some : {A : Type 0} (x y : A) → Some x ≡ Some y → x ≡ y
-same_some x y e = cc
+use Rattle.fip_language.proofs.Facts.{and_not_false as both_right, none_some, same_some}
 
 -- a scrutinee is a variable: nothing is written for it
 
@@ -164,11 +159,6 @@ pub record Begun (s : Setting) (k : Known) (v : Written) (a : Argument) (g : Mat
 typed_first : (tb : Table) (t : ℕ) (q : Pattern) (cs : Clauses) → IsPattern tb t (row_of q) → WellMatchedClauses tb t cs → (i : ℕ) (x : Pattern) → slice_get (q ∷ patterns_in cs) i ≡ Some x → IsPattern tb t (row_of x)
 typed_first tb t q cs first others zero x e = subst (λ z. IsPattern tb t (row_of z)) (same_some q x e) first
 typed_first tb t q cs first others (suc i) x e = typed_in tb t cs others i x e
-
-both_right : (d b : Bool) → (d && not b) ≡ true → b ≡ false
-both_right true true e = sym e
-both_right true false e = refl
-both_right false b e = absurd (true≢false (sym e))
 
 module _ (s : Setting) (fip : Bool) (ns : List Need) (k : Known) (v : Written) (d : Bool) (a : Argument) (t : ℕ) (c : Case) (cs : Clauses) (target : Target) (g : Matching) (w : Written) (h : BeginsLaid s fip ns k v d a t c cs target g w) (scalars : ScalarsRight s) (under : Underway s.types k v) (variable : IsSome (variable_of a)) (first : IsPattern s.types t (row_of c.pattern)) (others : WellMatchedClauses s.types t cs) where
   value : Scrutinee k a h.register v h.computed h.valued

@@ -22,9 +22,7 @@ use Rattle.cell_lower.specs.Growth.{Adds}
 use Rattle.cell_lower.proofs.Shedding.{adds_on, adds_less, adds_within, adds_both}
 use Rattle.cell_lower.proofs.Writing.{argument_one}
 use Rattle.cell_lower.proofs.Calling.{stay_on}
-
-same_some : {A : Type 0} (x y : A) → Some x ≡ Some y → x ≡ y
-same_some x y e = cc
+use Rattle.fip_language.proofs.Facts.{append_one, same_some}
 
 -- names of a let
 
@@ -245,10 +243,6 @@ at_drop : (bs : List Binder) (i : ℕ) → i < length bs → (r : ℕ) → regis
 at_drop [] i e r = absurd (omega (arith, e))
 at_drop (c ∷ bs) zero e r = refl
 at_drop (c ∷ bs) (suc i) e r = at_drop bs i (omega (arith, e)) r
-
-append_one : (before : List ℕ) (r : ℕ) (rs : List ℕ) → before ++ (r ∷ rs) ≡ (before ++ r ∷ []) ++ rs
-append_one [] r rs = refl
-append_one (b ∷ before) r rs = ap (λ x. b ∷ x) (append_one before r rs)
 
 pub reserved_step : (before : List ℕ) (bs : List Binder) (i n r : ℕ) (all : List ℕ) → i < length bs → before ++ registers_for n (drop i bs) ≡ all → r ≡ n → (before ++ r ∷ []) ++ registers_for (suc n) (drop (suc i) bs) ≡ all
 reserved_step before bs i n r all e h f =

@@ -22,9 +22,7 @@ use Rattle.lower_frame.proofs.lowering_relation.Placing.{extends_on, added_exten
 use Rattle.lower_frame.specs.Registers.{registers}
 use Rattle.cell_lower.specs.Growth.{Sheds, Stay}
 use Rattle.cell_lower.proofs.Shedding.{goes_length, taken_length, handed_length, received_length, sheds_on, adds_shed, adds_one, adds_on, adds_less}
-
-same_some : {A : Type 0} (x y : A) → Some x ≡ Some y → x ≡ y
-same_some x y e = cc
+use Rattle.fip_language.proofs.Facts.{append_none, append_one, drop_at_number as at_drop, drop_past as drop_done, same_some}
 
 -- as many registers before
 pub stay_on : (target : Target) (k m l : Known) → registers m ≡ registers k → Stay target m l → Stay target k l
@@ -133,14 +131,6 @@ pub ruleset numbering = (instance_there)
 
 -- credits
 
-append_one : (before : List ℕ) (r : ℕ) (rs : List ℕ) → before ++ (r ∷ rs) ≡ (before ++ r ∷ []) ++ rs
-append_one [] r rs = refl
-append_one (b ∷ before) r rs = ap (λ x. b ∷ x) (append_one before r rs)
-
-append_none : (before : List ℕ) → before ++ [] ≡ before
-append_none [] = refl
-append_none (b ∷ before) = ap (λ x. b ∷ x) (append_none before)
-
 takes_more : (k m l : Known) (n : ℕ) (ns before rs qs : List ℕ) → TakesOne k n before rs m → TakesAll m ns rs qs l → TakesAll k (n ∷ ns) before qs l
 takes_more k m l n ns before rs qs a b = record {
   credits = a.credit ∷ b.credits;
@@ -154,11 +144,6 @@ takes_more k m l n ns before rs qs a b = record {
 pub takes_start : (k : Known) (ns before : List ℕ) → FollowCredits k ns before k ns before
 takes_start k ns before = record { by = λ rs l h. h }
 
-at_drop : (xs : List ℕ) (i : ℕ) (x : ℕ) → slice_get xs i ≡ Some x → drop i xs ≡ x ∷ drop (suc i) xs
-at_drop [] i x e = absurd (cc)
-at_drop (y ∷ xs) zero x e = ap (λ z. z ∷ xs) (same_some y x e)
-at_drop (y ∷ xs) (suc i) x e = at_drop xs i x e
-
 pub takes_step : (k0 : Known) (ns0 before0 : List ℕ) (k m : Known) (ns before rs : List ℕ) (i n : ℕ) → slice_get ns i ≡ Some n → FollowCredits k0 ns0 before0 k (drop i ns) before → TakesOne k n before rs m → FollowCredits k0 ns0 before0 m (drop (suc i) ns) rs
 takes_step k0 ns0 before0 k m ns before rs i n e f a = record {
   by = λ qs l h. (subst (λ x. FollowCredits k0 ns0 before0 k x before) (at_drop ns i n e) f).by qs l (takes_more k m l n (drop (suc i) ns) before rs qs a h);
@@ -169,12 +154,6 @@ takes_end k0 ns0 before0 k before f = f.by before k (record { credits = []; behi
 
 pub takes_one : (k m : Known) (n r : ℕ) (before rs : List ℕ) → Takes k n r m → rs ≡ before ++ r ∷ [] → TakesOne k n before rs m
 takes_one k m n r before rs t e = record { credit = r; behind = e; taken = t }
-
-drop_done : (xs : List ℕ) (i : ℕ) → length xs ≤ i → drop i xs ≡ []
-drop_done [] zero e = refl
-drop_done [] (suc i) e = refl
-drop_done (x ∷ xs) zero e = absurd (omega (arith, e))
-drop_done (x ∷ xs) (suc i) e = drop_done xs i (omega (arith, e))
 
 pub takes_done : (k0 : Known) (ns0 before0 : List ℕ) (k : Known) (ns before : List ℕ) (i : ℕ) → length ns ≤ i → FollowCredits k0 ns0 before0 k (drop i ns) before → TakesAll k0 ns0 before0 before k
 takes_done k0 ns0 before0 k ns before i e f = takes_end k0 ns0 before0 k before (subst (λ x. FollowCredits k0 ns0 before0 k x before) (drop_done ns i e) f)

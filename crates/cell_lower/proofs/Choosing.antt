@@ -42,9 +42,7 @@ use Rattle.lower_frame.specs.Positions.{spot_of}
 use Rattle.cell_lower.specs.Testing.{TellsSide}
 use Rattle.cell_lower.proofs.Trying.{last_laid, test_laid, chosen_laid, steps_laid_on, follows_laid}
 use Rattle.cell_lower.specs.Scenes.{pattern_at, patterns_of, scene, HasRows, side_of, sides_of, first_side, HasLabel, Labelled, Ready, NotFirst, reading_of, IsFirstOf, SettlesBy, Settles, Tests, Then, Advances, Asks, PlacesSide, FollowsIn, Follows, ChoosesIf}
-
-same_some : {A : Type 0} (x y : A) → Some x ≡ Some y → x ≡ y
-same_some x y e = cc
+use Rattle.fip_language.proofs.Facts.{less_or_same, same_some}
 
 -- clauses that are added
 
@@ -80,12 +78,6 @@ asks_by : (v : Verdict) → is_asks v ≡ true → v ≡ D.Asks
 asks_by D.Fits e = absurd (cc)
 asks_by D.Misses e = absurd (cc)
 asks_by D.Asks e = refl
-
-less_or_same : (i j : ℕ) → j < suc i → (j < i) ⊎ (j ≡ i)
-less_or_same zero zero h = inr refl
-less_or_same zero (suc j) h = absurd (omega (arith, h))
-less_or_same (suc i) zero h = inl (omega arith)
-less_or_same (suc i) (suc j) h = ⊎_elim (λ a. inl (omega (arith, a))) (λ b. inr (ap suc b)) (less_or_same i j (omega (arith, h)))
 
 pub missed_next : (rs : List Row) (k : Known) (i n : ℕ) (r : Row) (v : Verdict) → n ≡ suc i → i < length rs → r ≡ get_or rs i r → v ≡ compare (row r) k → is_fits v ≡ false → is_asks v ≡ false → MissedUpTo (rows rs) k i → MissedUpTo (rows rs) k n
 missed_next rs k i n r v e lt f g x y m j p less at = ⊎_elim (λ a. m j p a at) (λ b. here b) (less_or_same i j (subst (λ z. j < z) e less))

@@ -19,9 +19,7 @@ use Rattle.cell_lower.specs.Scenes.{sides_of, first_side}
 use Rattle.cell_lower.specs.Clauses.{Begins, StartsIn, EndsIn, EndsMatch, MeetsAt, ClausesIn, JoinsKnown, WritesClause, WritesClauses, WritesMatch}
 use Rattle.cell_lower.specs.Writing.{WritesBlock}
 use Rattle.cell_lower.proofs.Matching.{writes_match, resumes_then}
-
-same_some : {A : Type 0} (x y : A) → Some x ≡ Some y → x ≡ y
-same_some x y e = cc
+use Rattle.fip_language.proofs.Facts.{same_some}
 
 -- where clauses meet
 

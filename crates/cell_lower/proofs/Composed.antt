@@ -50,9 +50,7 @@ use Rattle.cell_lower.proofs.Shown.{some_there, under_told, tells_takes, takes_s
 use Rattle.cell_lower.proofs.Begun.{Facts, Idle, Begun, begun, begun_return, begun_bares}
 use Rattle.cell_lower.proofs.Trying.{all_caught_less}
 use Rattle.cell_lower.proofs.Composing.{rising_less, sc, From, Before, IdleAt, ClauseOut, FirstLaid, ReturnOut, ReturnLaid, IntoOut, IntoLaid, OneInto, lays_out, first_laid, before_next, return_out, into_out, one_into, to_end, over_all, next_before, next_all, ends_laid}
-
-same_some : {A : Type 0} (x y : A) → Some x ≡ Some y → x ≡ y
-same_some x y e = cc
+use Rattle.fip_language.proofs.Facts.{same_some}
 
 pub same_patterns : (cs : Clauses) → patterns_in cs ≡ clause_patterns cs
 same_patterns NoClauses = refl

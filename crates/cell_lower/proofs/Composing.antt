@@ -55,12 +55,7 @@ use Rattle.cell_lower.proofs.Trying.{all_caught_less}
 use Rattle.cell_lower.proofs.Lessening.{Less, IsWide, less_same, less_on, less_left, less_met, wide_held, wide_wide, built_later}
 use Rattle.cell_lower.proofs.Shown.{under_told, tells_takes, takes_narrow}
 use Rattle.cell_lower.proofs.Begun.{Facts, Idle}
-
-same_some : {A : Type 0} (x y : A) → Some x ≡ Some y → x ≡ y
-same_some x y e = cc
-
-none_some : {A : Type 0} (x : A) → None ≡ Some x → ⊥
-none_some x e = absurd (cc)
+use Rattle.fip_language.proofs.Facts.{none_some, same_some}
 
 -- patterns from a clause on
 

@@ -41,19 +41,9 @@ use Rattle.cell_lower.specs.Bodies.{ScalarsRight, RightAt, BuiltWell, LabelTakes
 use Rattle.cell_lower.specs.Matches.{StartsLaid}
 use Rattle.cell_lower.proofs.Lessening.{plain_wide, wide_held}
 use Rattle.cell_lower.proofs.Shown.{catches_by}
-
-same_some : {A : Type 0} (x y : A) → Some x ≡ Some y → x ≡ y
-same_some x y e = cc
+use Rattle.fip_language.proofs.Facts.{or_false_both as both_false, or_false_false as none_named, same_some}
 
 -- ---- a pattern that names nothing
-
-none_named : (a b : Bool) → a ≡ false → b ≡ false → (a || b) ≡ false
-none_named true b e f = absurd (true≢false e)
-none_named false b e f = f
-
-both_false : (a b : Bool) → (a || b) ≡ false → (a ≡ false) × (b ≡ false)
-both_false true b e = absurd (true≢false e)
-both_false false b e = (refl, e)
 
 -- where nothing is read, nothing is named
 all_unnamed : (f : PlainFunction) (at : ℕ) (ps : Patterns) (ss : Spots) (r i end : ℕ) (more : List ℕ) → AllRoomy ps ss → end ≡ at → NameAll f at ps ss r i [] end more → any_named ps ≡ false

@@ -33,9 +33,8 @@ use Rattle.lower_frame.specs.declared.spots.Spot.{Spot, out-Spot}
 use Rattle.lower_frame.specs.declared.spots.Spot.TheFolds.{fold_out-Spot}
 use Rattle.lower_frame.specs.Positions.{spot_of, spots_of, spot_at, spot_step, past}
 use Rattle.cell_lower.specs.Scenes.{AtSpot, asking, naming_part}
-
-same_some : {A : Type 0} (x y : A) → Some x ≡ Some y → x ≡ y
-same_some x y e = cc
+use Rattle.fip_language.proofs.Facts.{append_none, append_one, same_some}
+pub use Rattle.fip_language.proofs.Facts.{get_at as item, if_false, if_true, nonempty}
 
 -- the parts from a place on
 
@@ -136,14 +135,6 @@ module _ (st : Setting) (takes : Bool) (root : Option ℕ) where
 
 -- their registers
 
-append_one : (before : List ℕ) (r : ℕ) (rs : List ℕ) → before ++ (r ∷ rs) ≡ (before ++ r ∷ []) ++ rs
-append_one [] r rs = refl
-append_one (b ∷ before) r rs = ap (λ x. b ∷ x) (append_one before r rs)
-
-append_none : (before : List ℕ) → before ++ [] ≡ before
-append_none [] = refl
-append_none (b ∷ before) = ap (λ x. b ∷ x) (append_none before)
-
 pub many_next : (ps : List Tree) (ss : S.Spots) (i n : ℕ) (p : Tree) (s : S.Spot) (r : ℕ) (as' bs all : List ℕ) → n ≡ suc i → slice_get ps i ≡ Some p → spot_at ss i ≡ Some s → r ≡ S.register s → bs ≡ as' ++ r ∷ [] → as' ++ as_many (patterns (drop i ps)) (past i ss) ≡ all → bs ++ as_many (patterns (drop n ps)) (past n ss) ≡ all
 many_next ps ss i n p s r as' bs all e f g h k m =
     ap (λ x. bs ++ as_many (patterns (drop x ps)) (past x ss)) e ∙ ap (λ x. x ++ rest) k ∙ ap (λ x. (as' ++ x ∷ []) ++ rest) h ∙ sym (append_one as' (S.register s) rest)
@@ -169,14 +160,6 @@ from_on (M.MorePatterns p ps) (MoreKnowns k ks) n m e = from_test (is_asks (comp
 pub record FirstIs (rs : List Row) (ks : List Knowledge) (ss : S.Spots) (p : Row) (k : Knowledge) (s : S.Spot) (r i : ℕ) (x : Reading) (f : ℕ) : Type 0 where
   pub reads : reading_first (parts rs) (knowns ks) ss r i x ≡ reading (row p) (known k) s (read_one x r (i + f) (S.register s))
   pub asks : asked_first (parts rs) (knowns ks) ss ≡ asked (row p) (known k) s
-
-pub if_true : {A : Type 0} (b : Bool) (x y : A) → b ≡ true → (if b then x else y) ≡ x
-if_true true x y e = refl
-if_true false x y e = absurd (cc)
-
-pub if_false : {A : Type 0} (b : Bool) (x y : A) → b ≡ false → (if b then x else y) ≡ y
-if_false true x y e = absurd (cc)
-if_false false x y e = refl
 
 first_here : (b : Bool) (q : Row) (rs : List Row) (l : Knowledge) (ks : List Knowledge) (t : S.Spot) (ss : S.Spots) (n : ℕ) (r i : ℕ) (x : Reading) → is_asks (compare (row q) (known l)) ≡ b → asking (parts (q ∷ rs)) (knowns (l ∷ ks)) n ≡ Some (n + 0) → FirstIs (q ∷ rs) (l ∷ ks) (S.MoreSpots t ss) q l t r i x zero
 first_here true q rs l ks t ss n r i x g e = record {
@@ -238,10 +221,6 @@ pub taken_cell : (r : ℕ) (ps : List Tree) (ss : S.Spots) (v w : Written) (rs :
 taken_cell r [] ss v w rs h e f = absurd (omega (arith, h))
 taken_cell r (p ∷ ps) ss v w rs h e f = f ∙ ap (λ x. added v (I.Take r x)) e
 
-pub nonempty : (n : ℕ) (b : Bool) → b ≡ (n == 0) → b ≡ false → 0 < n
-nonempty zero b e f = absurd (eqb-false 0 0 (sym e ∙ f) refl)
-nonempty (suc n) b e f = omega arith
-
 -- patterns without names
 
 abbrev pub before_rows : List Row → M.Patterns → M.Patterns
@@ -263,6 +242,3 @@ rows_next rs ss r ps i n p z e f g h k =
 
 pub rows_end : (rs : List Row) (ps : List Tree) (i : ℕ) (z : M.Patterns) → length ps ≤ i → before_rows rs (R.rows_of (patterns (drop i ps))) ≡ z → parts rs ≡ z
 rows_end rs ps i z e k = sym (before_all rs) ∙ sym (ap (λ x. before_rows rs (R.rows_of x)) (parts_past ps i e)) ∙ k
-
-pub item : {A : Type 0} (xs : List A) (i : ℕ) (x : A) → i < length xs → x ≡ get_or xs i x → slice_get xs i ≡ Some x
-item xs i x h e = slice_get-get_or xs i x h ∙ ap Some (sym e)

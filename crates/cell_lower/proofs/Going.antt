@@ -40,6 +40,7 @@ use Rattle.cell_lower.proofs.Parted.{quiet_part, under_values, values_laid, comp
 use Rattle.cell_lower.proofs.Sighting.{fits_same}
 use Rattle.cell_lower.proofs.Sided.{front_part, back_part}
 use Rattle.cell_lower.proofs.Building.{AllRight, Spends, arguments_right, arguments_on, arguments_waits, handed_lower, all_received, received_empty, lower_empty, lower_on, moves_right, moves_wait, moves_fixed, moves_on, moves_longer, right_lower, right_scalar, right_set, right_up, set_other, spends_wait, taken_spends, waits_on}
+use Rattle.fip_language.proofs.Facts.{and_false as and_none, unequal_false as not_equal}
 
 -- what is so behind instructions that tell nothing
 
@@ -151,17 +152,6 @@ empty_solid (h ∷ hs) (suc r) e = empty_solid hs r e
 pub waits_solid : (k : Known) (ds : List ℕ) → ((d : ℕ) → Among d ds → Waits k d) → AllSolid k ds
 waits_solid k [] x = tt
 waits_solid k (d ∷ ds) x = ((x d (inl refl)).used, empty_solid k.held d (x d (inl refl)).empty, waits_solid k ds (λ q m. x q (inr m)))
-
-not_equal : (i j : ℕ) → (i ≡ j → ⊥) → (i == j) ≡ false
-not_equal i j ne = by (i == j) (λ e. ne (eqb-true i j e))
-  where
-    by : (b : Bool) → (b ≡ true → ⊥) → b ≡ false
-    by true ne = absurd (ne refl)
-    by false ne = refl
-
-and_none : (a : Bool) → (a && false) ≡ false
-and_none true = refl
-and_none false = refl
 
 not_counted : (n r : ℕ) (cs : List Credit) → NotIn r cs → counted n r cs ≡ 0
 not_counted n r [] h = refl

@@ -8,9 +8,7 @@ use Rattle.lower_frame.specs.lowering_relation.LoweredBodies.{has_function, one_
 use Rattle.cell_lower.specs.Instances.{HaveEach, AddsEach}
 use Rattle.cell_lower.specs.Limits.{is_ruled}
 use Rattle.cell_lower.proofs.Programs.{ruled_is, instances_at, instances_past}
-
-same_some : {A : Type 0} (x y : A) → Some x ≡ Some y → x ≡ y
-same_some x y e = cc
+use Rattle.fip_language.proofs.Facts.{same_some}
 
 append_none : (xs : List Function) → xs ++ [] ≡ xs
 append_none [] = refl

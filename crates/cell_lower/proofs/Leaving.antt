@@ -35,9 +35,7 @@ use Rattle.cell_lower.specs.Laying.{GivesUpLaid}
 use Rattle.cell_lower.specs.Leaving.{CanLeave, ClauseLeavesLaid, DropsBut, DropsUnless, EndsBaresLaid, FreesBut, FreesPast, LeavesLaid, kept_of, stays_at}
 use Rattle.cell_lower.specs.Marks.{is_marked}
 use Rattle.cell_lower.proofs.Laying.{laid_on, nothing_bare, owned_tree, spending}
-
-same_some : {A : Type 0} (x y : A) → Some x ≡ Some y → x ≡ y
-same_some x y e = cc
+use Rattle.fip_language.proofs.Facts.{same_some}
 
 -- trees that stay where another is dropped
 

@@ -10,13 +10,9 @@ use Rattle.lower_frame.specs.lowering_relation.Known.{Known, register_of}
 use Rattle.lower_frame.specs.lowering_relation.Values.{Setting}
 use Rattle.lower_frame.specs.lowering_relation.Uses.{is_number, uses, uses_all, takes_of, uses_passed, used_in, used_in_block, used_in_clauses}
 use Rattle.cell_lower.specs.Marks.{is_marked, with_mark, marking, marking_all, marking_if, marking_passed, marking_in, marking_block, marking_clauses, AreMarked, MatchMarked, MarkedIf}
+use Rattle.fip_language.proofs.Facts.{or_cases as or_either, or_first as or_left, or_last as or_right, set_flag_length as set_long}
 
 -- one register more
-
-set_long : (ms : List Bool) (q : ℕ) → length (slice_set ms q true) ≡ length ms
-set_long [] q = refl
-set_long (m ∷ ms) zero = refl
-set_long (m ∷ ms) (suc q) = ap suc (set_long ms q)
 
 marked_there : (ms : List Bool) (q : ℕ) → q < length ms → is_marked (slice_set ms q true) q ≡ true
 marked_there [] q h = absurd (omega (arith, h))
@@ -43,18 +39,6 @@ record Marks (names : List (Option ℕ)) (used : ℕ → Bool) (f : List Bool �
   pub keeps : (ms : List Bool) (r : ℕ) → is_marked ms r ≡ true → is_marked (f ms) r ≡ true
   pub sets : (ms : List Bool) (x r : ℕ) → register_of names (Some x) ≡ Some r → used x ≡ true → r < length ms → is_marked (f ms) r ≡ true
   pub only : (ms : List Bool) (r : ℕ) → is_marked (f ms) r ≡ true → (is_marked ms r ≡ true) ⊎ ((x : ℕ) × (register_of names (Some x) ≡ Some r) × (used x ≡ true))
-
-or_left : (a b : Bool) → a ≡ true → (a || b) ≡ true
-or_left true b e = refl
-or_left false b e = absurd (true≢false (sym e))
-
-or_right : (a b : Bool) → b ≡ true → (a || b) ≡ true
-or_right true b e = refl
-or_right false b e = e
-
-or_either : (a b : Bool) → (a || b) ≡ true → (a ≡ true) ⊎ (b ≡ true)
-or_either true b e = inl refl
-or_either false b e = inr e
 
 module _ (names : List (Option ℕ)) where
   none_marked : Marks names (λ y. false) (λ ms. ms)

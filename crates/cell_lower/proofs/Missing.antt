@@ -11,10 +11,7 @@ use Rattle.match_knowledge.proofs.Facts.{same_is}
 use Rattle.match_knowledge.proofs.Split.{asks_is, both_asks, is_asking}
 use Rattle.match_knowledge.proofs.VerdictFacts.{if_asks, if_misses}
 use Rattle.cell_lower.proofs.Folding.{if_true, if_false}
-
-or_not : (b : Bool) → (b ≡ true) ⊎ (b ≡ false)
-or_not true = inl refl
-or_not false = inr refl
+use Rattle.fip_language.proofs.Facts.{true_or_false as or_not}
 
 either_misses : (a b : Verdict) → both a b ≡ D.Misses → (a ≡ D.Misses) ⊎ (b ≡ D.Misses)
 either_misses D.Fits b e = inr e

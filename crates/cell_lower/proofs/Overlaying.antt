@@ -22,6 +22,8 @@ use Rattle.lower_frame.specs.Positions.{spot_of, spots_of, spot_at, past}
 use Rattle.lower_frame.proofs.Counting.{numbers_next}
 use Rattle.cell_lower.specs.Overlays.{may_be, part_told, overlaid, overlaid_all, field_overlaid}
 use Rattle.cell_lower.proofs.Folding.{fields_are, if_false, if_true}
+use Rattle.fip_language.proofs.Facts.{append_none as none_more, drop_at_number as drop_at, same_some}
+pub use Rattle.fip_language.proofs.Facts.{get_none as missing}
 
 -- the constructors that are left
 
@@ -39,10 +41,6 @@ kept_more p (y ∷ xs) x = by (p y) (kept_more p xs x)
 up_to : (n : ℕ) → numbers 0 n ++ n ∷ [] ≡ numbers 0 (suc n)
 up_to n = numbers_next (numbers 0 n) (numbers 0 n ++ n ∷ []) n (suc n) refl refl refl
 
-none_more : (xs : List ℕ) → xs ++ [] ≡ xs
-none_more [] = refl
-none_more (x ∷ xs) = ap (λ z. x ∷ z) (none_more xs)
-
 next_kept : (p : ℕ → Bool) (n m : ℕ) → m ≡ suc n → kept p (numbers 0 m) ≡ kept p (numbers 0 n) ++ (if p n then n ∷ [] else [])
 next_kept p n m e = ap (λ z. kept p (numbers 0 z)) e ∙ ap (kept p) (sym (up_to n)) ∙ kept_more p (numbers 0 n) n
 
@@ -57,19 +55,6 @@ left_is w t (Open out) xs n e f = e ∙ ap (λ z. kept (may_be (Open out)) (numb
 left_is w t (Is h ks) xs n e f = e ∙ ap (λ z. kept (may_be (Is h ks)) (numbers 0 z)) f
 
 -- places
-
-same_some : {A : Type 0} (x y : A) → Some x ≡ Some y → x ≡ y
-same_some x y e = cc
-
-pub missing : {A : Type 0} (xs : List A) (i : ℕ) → length xs ≤ i → slice_get xs i ≡ None
-missing [] i h = refl
-missing (x ∷ xs) zero h = absurd (omega (arith, h))
-missing (x ∷ xs) (suc i) h = missing xs i (omega (arith, h))
-
-drop_at : (ts : List ℕ) (i t : ℕ) → slice_get ts i ≡ Some t → drop i ts ≡ t ∷ drop (suc i) ts
-drop_at [] i t e = absurd (cc)
-drop_at (u ∷ ts) zero t e = ap (λ x. x ∷ ts) (same_some u t e)
-drop_at (u ∷ ts) (suc i) t e = drop_at ts i t e
 
 drop_none : (ts : List ℕ) (i : ℕ) → slice_get ts i ≡ None → (drop i ts ≡ []) × (drop (suc i) ts ≡ [])
 drop_none [] zero e = (refl, refl)

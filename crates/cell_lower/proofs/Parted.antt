@@ -27,11 +27,9 @@ use Rattle.cell_lower.specs.Laying.{AccountedAt, IntoAt, ResultsIn, GivesLaid, O
 use Rattle.cell_lower.specs.Writing.{HandsOn, Kept, Movable, Named, Still, Computes, ComputesAll, Gives, Operates, CallsAt}
 use Rattle.cell_lower.proofs.Writing.{computes_none, computes_more, named_on, solid_on}
 use Rattle.cell_lower.proofs.Laying.{room_then}
+use Rattle.fip_language.proofs.Facts.{unequal_false as unequal_is}
 
 -- no label stands past the last one
-
-unequal_is : (i j : ℕ) → (i ≡ j → ⊥) → (i == j) ≡ false
-unequal_is i j ne = grind (arith, nat_tests)
 
 pub none_past : (high low : ℕ) (ms : List LabelMap) (p : ℕ) → Rising high low ms → high < p → label_at ms p ≡ None
 none_past high low [] p r lt = refl

@@ -23,9 +23,7 @@ use Rattle.lower_frame.proofs.lowering_relation.MatchLists.{among_left, among_ri
 use Rattle.lower_frame.proofs.lowering_relation.Placing.{one_longer}
 use Rattle.lower_frame.specs.Labels.{labels}
 use Rattle.cell_lower.specs.Growth.{unread, IsRoom, left, Spends, sides_cost, sides_left, side_cost, way_cost, way_left}
-
-same_some : {A : Type 0} (x y : A) → Some x ≡ Some y → x ≡ y
-same_some x y e = cc
+use Rattle.fip_language.proofs.Facts.{append_one, if_true_else as or_contains, same_some}
 
 -- the tree where a clause is chosen, or a pattern asks
 
@@ -66,10 +64,6 @@ left_branch tb ps k i p e a f l = count_arm tb ps k (side true p k) (side false 
     r = named_row ps i p e
 
 -- registers that are read
-
-or_contains : (b c : Bool) → c ≡ true → (if b then true else c) ≡ true
-or_contains true c e = refl
-or_contains false c e = e
 
 contains_last : (d : ℕ) (rs : List ℕ) → contains d (rs ++ d ∷ []) ≡ true
 contains_last d [] = ap (λ b. if b then true else false) (eq-eqb d d refl)
@@ -129,10 +123,6 @@ unread_most (suc n) read = omega (arith, at_most (contains n read), unread_most 
 abbrev NoneTwice : List ℕ → Type 0
 NoneTwice [] = Unit {0}
 NoneTwice (x ∷ xs) = (Among x xs → ⊥) × NoneTwice xs
-
-append_one : (xs : List ℕ) (x : ℕ) (ys : List ℕ) → xs ++ (x ∷ ys) ≡ (xs ++ x ∷ []) ++ ys
-append_one [] x ys = refl
-append_one (z ∷ xs) x ys = ap (λ u. z ∷ u) (append_one xs x ys)
 
 not_contained : (d : ℕ) (rs : List ℕ) → (Among d rs → ⊥) → contains d rs ≡ false
 not_contained d rs h = by_test (contains d rs) refl

@@ -22,9 +22,7 @@ use Rattle.cell_lower.specs.Shape.{Header, header_of, headers_from}
 use Rattle.cell_lower.proofs.Headers.{and_if-append}
 use Rattle.cell_lower.specs.Lowered.{instrs_of, function_instrs, IsCodeOf, HaveCodes, AddsCode}
 use Rattle.cell_lower.specs.Writing.{WritesBlock}
-
-same_some : {A : Type 0} (x y : A) → Some x ≡ Some y → x ≡ y
-same_some x y e = cc
+use Rattle.fip_language.proofs.Facts.{append_nil as append_none, same_some}
 
 pub ruled_is : (k : FunKind) → is_ruled k ≡ has_function k
 ruled_is Fip = refl
@@ -87,10 +85,6 @@ instances_past (t ∷ ts) (suc i) h = instances_past ts i (omega (arith, h))
 append_one : {A : Type 0} (xs : List A) (x : A) (ys : List A) → xs ++ (x ∷ ys) ≡ (xs ++ x ∷ []) ++ ys
 append_one [] x ys = refl
 append_one (z ∷ xs) x ys = ap (λ u. z ∷ u) (append_one xs x ys)
-
-append_none : {A : Type 0} (xs : List A) → xs ++ [] ≡ xs
-append_none [] = refl
-append_none (x ∷ xs) = ap (λ z. x ∷ z) (append_none xs)
 
 numbers_true : (b : Bool) (n : ℕ) (none : List (Option ℕ)) (more : ℕ → List (Option ℕ)) → b ≡ true → numbers_if b n none more ≡ Some n ∷ more (suc n)
 numbers_true true n none more e = refl

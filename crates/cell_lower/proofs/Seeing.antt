@@ -22,13 +22,7 @@ use Rattle.lower_frame.proofs.lowering_relation.MatchLists.{in_head, in_tail}
 use Rattle.lower_frame.specs.lowering_relation.Sights.{kept, not_in, is_tag, left, Fresh, AllFresh}
 use Rattle.cell_lower.specs.Seen.{NoneRead, Seen, AllSeen}
 use Rattle.cell_lower.proofs.Folding.{if_true, if_false}
-
-or_not : (b : Bool) → (b ≡ true) ⊎ (b ≡ false)
-or_not true = inl refl
-or_not false = inr refl
-
-same_some : {A : Type 0} (x y : A) → Some x ≡ Some y → x ≡ y
-same_some x y e = cc
+use Rattle.fip_language.proofs.Facts.{same_some, true_or_false as or_not}
 
 -- the constructors that are left
 

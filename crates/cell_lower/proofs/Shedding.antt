@@ -23,9 +23,7 @@ use Rattle.lower_frame.specs.lowering_relation.Matches.{widened}
 use Rattle.lower_frame.specs.Registers.{registers, holds, IsFull}
 use Rattle.cell_lower.specs.Growth.{full, Sheds, Adds}
 use Rattle.lower_frame.specs.Labels.{labels}
-
-same_some : {A : Type 0} (x y : A) → Some x ≡ Some y → x ≡ y
-same_some x y e = cc
+use Rattle.fip_language.proofs.Facts.{same_some}
 
 -- as many registers
 

@@ -27,12 +27,7 @@ use Rattle.cell_lower.specs.Bodies.{LabelTakes}
 use Rattle.cell_lower.proofs.Lessening.{IsWide}
 use Rattle.cell_lower.proofs.Sighting.{fits_self, numbers_has, told_kind, told_long}
 use Rattle.cell_lower.proofs.Sided.{refused, told_here}
-
-none_some : {A : Type 0} (x : A) → None ≡ Some x → ⊥
-none_some x e = absurd (cc)
-
-same_some : {A : Type 0} (x y : A) → Some x ≡ Some y → x ≡ y
-same_some x y e = cc
+use Rattle.fip_language.proofs.Facts.{both_left, both_right, none_some, same_some}
 
 -- no label stands at the start of a function
 
@@ -73,14 +68,6 @@ under_told tb k v w wide accounts named room told long rising = record {
 }
 
 -- a map that takes a tree whose constructor isn't known takes the one that was built
-
-both_left : (a b : Bool) → (a && b) ≡ true → a ≡ true
-both_left true b e = refl
-both_left false b e = absurd (true≢false (sym e))
-
-both_right : (a b : Bool) → (a && b) ≡ true → b ≡ true
-both_right true b e = e
-both_right false b e = absurd (true≢false (sym e))
 
 has_next : (c x : ℕ) (h rest : Bool) (ys : List ℕ) → (c == x) ≡ h → (h || rest) ≡ true → has ys c ≡ true → (rest ≡ true → has ys x ≡ true) → has ys x ≡ true
 has_next c x true rest ys e h here later = subst (λ z. has ys z ≡ true) (eqb-true c x e) here

@@ -39,15 +39,9 @@ use Rattle.cell_lower.specs.Chosen.{RuledSide, LaterSide, Sighted, Premises, Lai
 use Rattle.cell_lower.proofs.Trying.{all_caught_less}
 use Rattle.cell_lower.proofs.Sighting.{sighted}
 use Rattle.cell_lower.proofs.Choosing.{turned}
+use Rattle.fip_language.proofs.Facts.{less_or_same, same_some, true_or_false as or_not}
 
 -- what is told at a place
-
-same_some : {A : Type 0} (x y : A) → Some x ≡ Some y → x ≡ y
-same_some x y e = cc
-
-or_not : (b : Bool) → (b ≡ true) ⊎ (b ≡ false)
-or_not true = inl refl
-or_not false = inr refl
 
 pub refused : (m p : ℕ) (k : List Kind) (o : Option (List Kind)) → (m ≡ p → ⊥) → (if m == p then Some k else o) ≡ o
 refused m p k o ne = elim (or_not (m == p)) as (λ b. (if m == p then Some k else o) ≡ o) [
@@ -184,12 +178,6 @@ module _ (st : Setting) (hs : List Held) (s : Scene) (v w z : Written) (d : Side
 ruled_all : (s : Scene) (n : ℕ) (k : Known) (new : List Side) → ((p : M.Pattern) → compare p k ≡ D.Misses → Every (Misses p) new) → RuledOut s k n → Every (RuledSide s n) new
 ruled_all s n k [] f r = tt
 ruled_all s n k (d ∷ new) f r = ((λ j p lt e. (f (row_of p) (r j p lt e)).0), ruled_all s n k new (λ p m. (f p m).1) r)
-
-less_or_same : (i j : ℕ) → j < suc i → (j < i) ⊎ (j ≡ i)
-less_or_same zero zero h = inr refl
-less_or_same zero (suc j) h = absurd (omega (arith, h))
-less_or_same (suc i) zero h = inl (omega arith)
-less_or_same (suc i) (suc j) h = elim (less_or_same i j (omega (arith, h))) [ inl a ↦ inl (omega (arith, a)) | inr b ↦ inr (ap suc b) ]
 
 later_all : (n : ℕ) (ds : List Side) → Every (λ (d : Side). 0 < n) ds → Every (LaterSide n) ds
 later_all n [] h = tt

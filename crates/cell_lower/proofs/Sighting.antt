@@ -30,12 +30,9 @@ use Rattle.cell_lower.specs.Overlays.{with_root, part_told, overlaid, overlaid_a
 use Rattle.cell_lower.specs.Seen.{NoneRead, Seen, AllSeen}
 use Rattle.cell_lower.specs.Testing.{Alike}
 use Rattle.cell_lower.proofs.Folding.{if_true, if_false}
+use Rattle.fip_language.proofs.Facts.{both_true, or_last as or_true, true_or_false as or_not}
 
 -- lists of kinds
-
-or_not : (b : Bool) → (b ≡ true) ⊎ (b ≡ false)
-or_not true = inl refl
-or_not false = inr refl
 
 same_kind : (r : ℕ) (k : Kind) (ks : List Kind) → r < length ks → at (slice_set ks r k) r ≡ k
 same_kind r k [] h = absurd (omega (arith, h))
@@ -284,14 +281,6 @@ wide_root r (H.Credit n) = refl
 wide_root r (H.Bare t c) = refl
 
 -- kinds that take others
-
-both_true : (a b : Bool) → a ≡ true → b ≡ true → (a && b) ≡ true
-both_true true b e f = f
-both_true false b e f = absurd (true≢false (sym e))
-
-or_true : (a b : Bool) → b ≡ true → (a || b) ≡ true
-or_true true b e = refl
-or_true false b e = e
 
 has_more : (y : ℕ) (ys : List ℕ) (x : ℕ) → has ys x ≡ true → has (y ∷ ys) x ≡ true
 has_more y ys x h = or_true (y == x) (has ys x) h

@@ -22,33 +22,14 @@ use Rattle.cell_lower.specs.Bodies.{IsPlain}
 use Rattle.cell_lower.specs.Laying.{is_built}
 use Rattle.cell_lower.specs.Writing.{Named}
 use Rattle.cell_lower.proofs.Shedding.{set_length}
-
-same_some : {A : Type 0} (x y : A) → Some x ≡ Some y → x ≡ y
-same_some x y e = cc
+use Rattle.fip_language.proofs.Facts.{and_false, and_true, equal_true as equal_is, get_replicate as all_alike, get_set_here as get_there, get_set_other as get_other, same_some, unequal_false as unequal_is}
 
 -- what stands where after a change
-
-get_other : {A : Type 0} (xs : List A) (i : ℕ) (x : A) (j : ℕ) → (j ≡ i → ⊥) → slice_get (slice_set xs i x) j ≡ slice_get xs j
-get_other [] i x j h = refl
-get_other (z ∷ zs) zero x zero h = absurd (h refl)
-get_other (z ∷ zs) zero x (suc j) h = refl
-get_other (z ∷ zs) (suc i) x zero h = refl
-get_other (z ∷ zs) (suc i) x (suc j) h = get_other zs i x j (λ e. h (ap suc e))
-
-get_there : {A : Type 0} (xs : List A) (i : ℕ) (x : A) → i < length xs → slice_get (slice_set xs i x) i ≡ Some x
-get_there [] i x h = absurd (omega (arith, h))
-get_there (z ∷ zs) zero x h = refl
-get_there (z ∷ zs) (suc i) x h = get_there zs i x (omega (arith, h))
 
 get_same : {A : Type 0} (P : Option A → Type 0) (xs : List A) (i : ℕ) (x : A) → P None → P (Some x) → P (slice_get (slice_set xs i x) i)
 get_same P [] i x p q = p
 get_same P (z ∷ zs) zero x p q = q
 get_same P (z ∷ zs) (suc i) x p q = get_same P zs i x p q
-
-all_alike : {A : Type 0} (n : ℕ) (x : A) (i : ℕ) (y : A) → slice_get (replicate n x) i ≡ Some y → y ≡ x
-all_alike zero x i y e = absurd (cc)
-all_alike (suc n) x zero y e = sym (same_some x y e)
-all_alike (suc n) x (suc i) y e = all_alike n x i y e
 
 alike_or : {A : Type 0} (P : Option A → Type 0) (n : ℕ) (x : A) (i : ℕ) → P None → P (Some x) → P (slice_get (replicate n x) i)
 alike_or P zero x i p q = p
@@ -66,20 +47,6 @@ held_there (g ∷ hs) zero h e = same_some g h e
 held_there (g ∷ hs) (suc r) h e = held_there hs r h e
 
 -- numbers that are equal, or not
-
-equal_is : (i j : ℕ) → i ≡ j → (i == j) ≡ true
-equal_is i j e = grind (arith, nat_tests)
-
-unequal_is : (i j : ℕ) → (i ≡ j → ⊥) → (i == j) ≡ false
-unequal_is i j ne = grind (arith, nat_tests)
-
-and_true : (a : Bool) → (a && true) ≡ a
-and_true true = refl
-and_true false = refl
-
-and_false : (a : Bool) → (a && false) ≡ false
-and_false true = refl
-and_false false = refl
 
 -- ---- what is so at the start
 

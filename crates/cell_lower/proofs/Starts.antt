@@ -6,9 +6,7 @@ use Rattle.lower_frame.specs.lowering_relation.Known.{Known}
 use Rattle.lower_frame.specs.lowering_relation.Values.{Setting}
 use Rattle.cell_lower.specs.Writing.{param_at}
 use Rattle.lower_frame.specs.lowering_relation.LoweredFunctions.{with_param, with_params, with_next_credit, with_credits}
-
-same_some : {A : Type 0} (x y : A) → Some x ≡ Some y → x ≡ y
-same_some x y e = cc
+use Rattle.fip_language.proofs.Facts.{same_some}
 
 pub params_next : (s : Setting) (k : Known) (ps : List Param) (bs : List Binder) (i : ℕ) (p : Param) (b : Binder) → slice_get ps i ≡ Some p → slice_get bs i ≡ Some b → with_params s (with_param s k p b) (drop (suc i) ps) (drop (suc i) bs) ≡ with_params s k (drop i ps) (drop i bs)
 params_next s k [] bs i p b e f = absurd (cc)

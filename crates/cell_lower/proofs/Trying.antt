@@ -32,6 +32,7 @@ use Rattle.cell_lower.proofs.Seeing.{last_seen, side_seen}
 use Rattle.cell_lower.proofs.Missing.{side_misses}
 use Rattle.cell_lower.specs.Scenes.{reading_of, SettlesBy, Tests}
 use Rattle.lower_frame.specs.lowering_relation.Tests.{Choice, TestLaid, TestsLaid, SettledLaid, ReadOne, ReadsLaid, ReadsFirst, TakeLaid, TakesLaid, TakeAll, NamesLaid, NameAll}
+use Rattle.fip_language.proofs.Facts.{same_some}
 
 -- a part is read once
 
@@ -201,9 +202,6 @@ module _ (n : ℕ) (to : ℕ → ℕ) (f : PlainFunction) where
         )
 
 -- one step after another
-
-same_some : {A : Type 0} (x y : A) → Some x ≡ Some y → x ≡ y
-same_some x y e = cc
 
 settled_test : (r : ℕ) (h : Head) (label : ℕ) (to : ℕ → ℕ) → settled to (test_of r h label) ≡ test_of r h (to label)
 settled_test r (Tag c) label to = refl

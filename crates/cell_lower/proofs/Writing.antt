@@ -28,6 +28,7 @@ use Rattle.cell_lower.proofs.Shedding.{set_length, used_length, used_all_length,
 use Rattle.lower_frame.specs.lowering_relation.Written.{Written, size, added, GivesUp}
 use Rattle.cell_lower.specs.Writing.{HandsOn, Movable, Named, Still, Kept, Computes, ComputesAll, Builds, Follow, Gives, Moves, MovesOne, MovesTo, FollowMoves}
 use Rattle.lower_frame.proofs.lowering_relation.Placing.{same_extends, extends_on, added_extends, one_longer, front, back, stands, up_to, given_up}
+use Rattle.fip_language.proofs.Facts.{append_none, append_one, drop_at_next as at_drop, drop_end as drop_done}
 
 -- equal values may stand for one another
 pub three : {A B C : Type 0} (P : A → B → C → Type 0) (a b : A) (c d : B) (e f : C) → b ≡ a → d ≡ c → f ≡ e → P a c e → P b d f
@@ -142,14 +143,6 @@ computes_more s k v a as' r m w rs l z p q = record {
 
 pub follow_start : (s : Setting) (k : Known) (v : Written) (as' : Arguments) → Follow s k v as' k v as' []
 follow_start s k v as' = record { by = λ rs l w h. h }
-
-append_one : (before : List ℕ) (r : ℕ) (rs : List ℕ) → before ++ (r ∷ rs) ≡ (before ++ r ∷ []) ++ rs
-append_one [] r rs = refl
-append_one (b ∷ before) r rs = ap (λ x. b ∷ x) (append_one before r rs)
-
-append_none : (before : List ℕ) → before ++ [] ≡ before
-append_none [] = refl
-append_none (b ∷ before) = ap (λ x. b ∷ x) (append_none before)
 
 pub follow_next : (s : Setting) (k0 : Known) (v0 : Written) (as0 : Arguments) (k : Known) (v : Written) (a : Argument) (as' : Arguments) (before : List ℕ) (r : ℕ) (m : Known) (w : Written) → Follow s k0 v0 as0 k v (MoreArguments a as') before → Computes s k v a r m w → Follow s k0 v0 as0 m w as' (before ++ r ∷ [])
 follow_next s k0 v0 as0 k v a as' before r m w f c = record {
@@ -395,14 +388,6 @@ moves_start k v rs ds = record { by = λ l w h. h }
 pub moves_next : (k0 : Known) (v0 : Written) (rs0 ds0 : List ℕ) (k m : Known) (v w : Written) (r d : ℕ) (rs ds : List ℕ) → FollowMoves k0 v0 rs0 ds0 k v (r ∷ rs) (d ∷ ds) → MovesOne k v r d m w → FollowMoves k0 v0 rs0 ds0 m w rs ds
 moves_next k0 v0 rs0 ds0 k m v w r d rs ds f a = record { by = λ l z h. f.by l z (moves_more k m l v w z r d rs ds a h) }
 
-at_drop : {A : Type 0} (xs : List A) (i : ℕ) (x : A) → slice_get xs i ≡ Some x → drop i xs ≡ x ∷ drop (suc i) xs
-at_drop [] i x e = absurd (cc)
-at_drop (y ∷ xs) zero x e = ap (λ z. z ∷ xs) (same_some y x e)
-  where
-    same_some : {A : Type 0} (x y : A) → Some x ≡ Some y → x ≡ y
-    same_some x y h = cc
-at_drop (y ∷ xs) (suc i) x e = at_drop xs i x e
-
 pub moves_at : (k0 : Known) (v0 : Written) (rs0 ds0 : List ℕ) (k m : Known) (v w : Written) (rs ds : List ℕ) (i r d : ℕ) → slice_get rs i ≡ Some r → slice_get ds i ≡ Some d → FollowMoves k0 v0 rs0 ds0 k v (drop i rs) (drop i ds) → MovesOne k v r d m w → FollowMoves k0 v0 rs0 ds0 m w (drop (suc i) rs) (drop (suc i) ds)
 moves_at k0 v0 rs0 ds0 k m v w rs ds i r d e f h a =
     moves_next k0 v0 rs0 ds0 k m v w r d (drop (suc i) rs) (drop (suc i) ds)
@@ -433,13 +418,6 @@ moves_step k0 v0 rs0 ds0 k m v w rs ds i r e h t = by_get (slice_get ds i) refl 
 
 pub moves_end : (k0 : Known) (v0 : Written) (rs0 ds0 : List ℕ) (k : Known) (v : Written) (ds : List ℕ) → FollowMoves k0 v0 rs0 ds0 k v [] ds → Moves k0 v0 rs0 ds0 k v
 moves_end k0 v0 rs0 ds0 k v ds f = f.by k v (moves_over k v ds)
-
--- behind the last one
-drop_done : {A : Type 0} (xs : List A) (i : ℕ) → length xs ≤ i → drop i xs ≡ []
-drop_done [] zero e = refl
-drop_done [] (suc i) e = refl
-drop_done (x ∷ xs) zero e = absurd (omega (arith, e))
-drop_done (x ∷ xs) (suc i) e = drop_done xs i (omega (arith, e))
 
 pub follow_done : (s : Setting) (k0 : Known) (v0 : Written) (as0 : Arguments) (k : Known) (v : Written) (ts : List Tree) (i : ℕ) (before : List ℕ) → length ts ≤ i → Follow s k0 v0 as0 k v (arguments (drop i ts)) before → ComputesAll s k0 v0 as0 before k v
 follow_done s k0 v0 as0 k v ts i before e f = follow_end s k0 v0 as0 k v before (subst (λ x. Follow s k0 v0 as0 k v (arguments x) before) (drop_done ts i e) f)

@@ -9,6 +9,7 @@ use Rattle.std.proofs.lemmas.List.{get_or-set_other}
 use Rattle.fip_language.specs.Store.{Cell}
 use Rattle.cell_store.specs.Cells.{Cells, cell_at, size_of, size_in, sizes, number, one_live, count_live, one_free, count_free}
 use Rattle.cell_store.specs.Flat.{header, size, parse, flags, Laid, IsCounted, over, over_at}
+use Rattle.fip_language.proofs.Facts.{slice_set_length as length_set, take_front, take_length as length_take}
 
 -- what is known of the words of a cell
 pub record Found (n : ℕ) (ws : List ℕ) (p : ℕ) (c : Cell) : Type 0 where
@@ -23,11 +24,6 @@ pub record Found (n : ℕ) (ws : List ℕ) (p : ℕ) (c : Cell) : Type 0 where
   pub within : p + 1 + size head ≤ length ws
   pub fields : (i : ℕ) → i < size head → slice_get c.fields i ≡ slice_get ws (p + 1 + i)
   pub flag : slice_get (flags n ws) p ≡ Some (nat_eq (head % 2) 1)
-
-length_take : (k : ℕ) (ws : List ℕ) → k ≤ length ws → length (take k ws) ≡ k
-length_take zero ws h = refl
-length_take (suc k) [] h = absurd (omega arith)
-length_take (suc k) (w ∷ ws) h = ap suc (length_take k ws (omega arith))
 
 get_take : (k : ℕ) (ws : List ℕ) (i : ℕ) → i < k → slice_get (take k ws) i ≡ slice_get ws i
 get_take zero ws i h = absurd (omega arith)
@@ -186,11 +182,6 @@ take_set zero ws p v h = refl
 take_set (suc k) [] p v h = refl
 take_set (suc k) (w ∷ ws) zero v h = absurd (omega arith)
 take_set (suc k) (w ∷ ws) (suc p) v h = ap (λ xs. w ∷ xs) (take_set k ws p v (omega arith))
-
-length_set : (ws : List ℕ) (p v : ℕ) → length (slice_set ws p v) ≡ length ws
-length_set [] p v = refl
-length_set (w ∷ ws) zero v = refl
-length_set (w ∷ ws) (suc p) v = ap suc (length_set ws p v)
 
 pub release : (n : ℕ) (ws : List ℕ) (p h : ℕ) (c : Cell) → (l : Laid n ws) → cell_at (parse n ws) p ≡ Some c → slice_get ws p ≡ Some h → h % 2 ≡ 0 → Released n ws p h
 release n [] p h c l e r z = absurd (none-some c e)
@@ -453,11 +444,6 @@ writes_on ws xs start i h =
     ∙ ap (over_at ws start) (sym (one_more xs i h))
 
 -- a cell that is added at the end
-
-take_front : (k : ℕ) (ws vs : List ℕ) → k ≤ length ws → take k (ws ++ vs) ≡ take k ws
-take_front zero ws vs h = refl
-take_front (suc k) [] vs h = absurd (omega arith)
-take_front (suc k) (w ∷ ws) vs h = ap (λ xs. w ∷ xs) (take_front k ws vs (omega arith))
 
 parse_append : (n : ℕ) (ws vs : List ℕ) → Laid n ws → parse n (ws ++ vs) ≡ parse n ws ++ parse 0 vs
 parse_append zero [] vs l = refl

@@ -24,13 +24,9 @@ use Rattle.code_rules.specs.Headers.{are_rising, is_set, is_good_root, is_good_f
 use Rattle.code_rules.specs.Types.{count}
 use Rattle.code_bytes.specs.Operands.{operands, HaveFew}
 use Rattle.code_bytes.specs.Bytes.{instr_bytes, label_bytes, shape_bytes, row_bytes, table_bytes, most_constructors}
+pub use Rattle.fip_language.proofs.Facts.{times_le}
 
 -- ---- numbers
-
-pub times_le : (a b k : ℕ) → a ≤ b → a * k ≤ b * k
-times_le zero b k h = omega arith
-times_le (suc a) zero k h = absurd (omega (arith, h))
-times_le (suc a) (suc b) k h = let r = times_le a b k (omega (arith, h)) in omega (arith, r)
 
 -- ---- a text of at most so many bytes
 

@@ -13,13 +13,7 @@ use Rattle.code_file.specs.CodeText.{list_text, arguments_text, types_text, set_
 use Rattle.code_file.specs.Reading.{Reader, Give, Byte, ◌>>=◌, byte, any, is_byte, two_reader, four_reader, eight_reader, times, counted, list_reader, arguments_reader, set_reader}
 use Rattle.code_file.proofs.Numbers.{eight_fits}
 use Rattle.code_file.proofs.Readers.{Takes, Alive, Front, IsField, front_join, front_split, field_counted}
-
-pub and_both : (a b : Bool) → (a && b) ≡ true → (a ≡ true) × (b ≡ true)
-and_both true b e = (refl, e)
-and_both false b e = absurd cc
-
-pub both_and : (a b : Bool) → a ≡ true → b ≡ true → (a && b) ≡ true
-both_and a b e f = ap₂ (λ x y. x && y) e f
+pub use Rattle.fip_language.proofs.Facts.{and_both, both_true as both_and}
 
 -- a text that is there where a test holds
 pub front_only : (b : Bool) (o : Option (List ℕ)) (bs rest : List ℕ) → Front (only b o) bs rest → (b ≡ true) × Front o bs rest

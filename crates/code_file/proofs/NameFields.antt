@@ -11,13 +11,11 @@ use Rattle.code_file.specs.Spelling.{◌+++◌, each, mark, only, four, is_lower
 use Rattle.code_file.specs.Reading.{Reader, Give, Byte, ◌>>=◌, byte, any, is_byte, four_reader, times, length_reader, is_name_byte, upper_name_reader, may_follow, may_stand, name_on, function_name_reader}
 use Rattle.code_file.proofs.Readers.{Takes, Alive, Front, IsField, bind_takes, bind_gives, then_alive, front_join, front_split, takes_times, gives_times, times_alive}
 use Rattle.code_file.proofs.Fields.{and_both, both_and, front_only, only_front, field_test, field_four}
+use Rattle.fip_language.proofs.Facts.{positive_not_zero as not_zero, unequal_apart as apart}
 
 not_zero_at : (n : ℕ) (b : Bool) → (n == 0) ≡ b → 0 < n → not b ≡ true
 not_zero_at n true e lt = let k = eqb-true n 0 e in absurd (omega arith)
 not_zero_at n false e lt = refl
-
-not_zero : (n : ℕ) → 0 < n → not (n == 0) ≡ true
-not_zero n lt = not_zero_at n (n == 0) refl lt
 
 -- the text of a length that isn't 0
 abbrev length_text : ℕ → Option (List ℕ)
@@ -227,9 +225,6 @@ ends_with (f ∷ front) a (w ∷ word) b e = ends_with front a word b (tails e)
   where
     tails : f ∷ (front ++ a ∷ []) ≡ w ∷ (word ++ b ∷ []) → front ++ a ∷ [] ≡ word ++ b ∷ []
     tails e = cc
-
-apart : (a b : ℕ) → (a == b) ≡ false → a ≡ b → ⊥
-apart a b f e = let k : true ≡ false = sym (eq-eqb a b e) ∙ f in absurd cc
 
 no_word : (front word : List ℕ) (b : ℕ) → (95 == b) ≡ false → bytes_eq (front ++ 95 ∷ []) (word ++ b ∷ []) ≡ false
 no_word front word b f = bytes_eq-other (front ++ 95 ∷ []) (word ++ b ∷ []) (λ e. apart 95 b f (ends_with front 95 word b (sym e)))

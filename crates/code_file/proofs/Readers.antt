@@ -6,6 +6,7 @@ use Rattle.fip_language.specs.Prefix.{Outcome, run, Accepted, Stopped, or_stop, 
 use Rattle.fip_language.proofs.Prefix.{IsExact, stops_at_place, accepts, accepted}
 use Rattle.code_file.specs.Spelling.{◌+++◌, each, mark}
 use Rattle.code_file.specs.Reading.{Reader, Give, Byte, ◌>>=◌, Answer, Got, Stop, read, and_then, with_front, whole, read_all, byte, times, counted}
+use Rattle.fip_language.proofs.Facts.{if_some_both as guard}
 
 -- the bytes are those of x, and then rest
 abbrev pub Takes : {A : Type 0} → Reader A → List ℕ → A → List ℕ → Type 0
@@ -40,10 +41,6 @@ final (Byte may next) = None
 
 abbrev pub Spells : {A : Type 0} → Reader A → List ℕ → A → Type 0
 Spells r bs x = Takes r bs x []
-
-guard : {A : Type 0} → (b : Bool) (x y : A) → (if b then Some x else None) ≡ Some y → (b ≡ true) × (x ≡ y)
-guard true x y e = (refl, cc)
-guard false x y e = cc
 
 module _ {A : Type 0} where
   reader_takes : (r : Reader A) (b : ℕ) (bs : List ℕ) (x : A) → Spells r (b ∷ bs) x → (r' : Reader A) × (step r b ≡ Some r') × Spells r' bs x

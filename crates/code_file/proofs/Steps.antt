@@ -24,14 +24,8 @@ use Rattle.code_file.specs.Reading.{Reader, Give, Byte, ◌>>=◌, Answer, Got, 
 use Rattle.code_file.specs.Reading.{may_follow, may_stand, name_on, register_at, register_reader, operator_at, kind_body, credit_reader, instr_body, jump_reader, fun_kind_reader, exactly, magic_reader, code_reader}
 use Rattle.code_file.proofs.Readers.{read_bind, bind_got, bind_stop, times_got, times_stop, times_done}
 use Rattle.code_file.proofs.Whole.{read_text, text_read, read_place}
-
--- different numbers
-differs_at : (a b : ℕ) → a ≢ b → (t : Bool) → (a == b) ≡ t → t ≡ false
-differs_at a b n true e = absurd (n (eqb-true a b e))
-differs_at a b n false e = refl
-
-pub differs : (a b : ℕ) → a ≢ b → (a == b) ≡ false
-differs a b n = differs_at a b n (a == b) refl
+use Rattle.fip_language.proofs.Facts.{unequal_test_at as differs_at}
+pub use Rattle.fip_language.proofs.Facts.{unequal_test as differs}
 
 -- a byte
 abbrev judged : Bool → ℕ → List ℕ → Answer ℕ

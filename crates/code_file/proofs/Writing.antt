@@ -13,15 +13,13 @@ use Rattle.code_file.specs.Plain.{plain_label, plain_function}
 use Rattle.code_file.specs.Spelling.{◌+++◌, each, two, four}
 use Rattle.code_file.specs.CodeText.{label_text, labels_text, function_text, functions_text}
 use Rattle.code_file.specs.Written.{Written, after, Writes, second_text, label_in}
+use Rattle.fip_language.proofs.Facts.{same_some as some_same}
 
 abbrev with_bytes : Written → List ℕ → Written
 with_bytes w t = record { bytes = w.bytes ++ t; limit = w.limit }
 
 abbrev checked : Bool → Written → Option Written
 checked b w = if b then Some w else None
-
-some_same : {A : Type 0} → (a b : A) → Some a ≡ Some b → a ≡ b
-some_same a b e = cc
 
 leb_same : (a b c d : ℕ) → (a ≤ b → c ≤ d) → (c ≤ d → a ≤ b) → (x y : Bool) → nat_le a b ≡ x → nat_le c d ≡ y → x ≡ y
 leb_same a b c d f g true true e h = refl

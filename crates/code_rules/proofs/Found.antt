@@ -23,6 +23,7 @@ use Rattle.code_rules.specs.Calls.{IsCall}
 use Rattle.code_rules.specs.Breaks.{BreaksWithin, BreaksFunction, Breaks}
 use Rattle.code_rules.specs.Example.{code_of}
 use Rattle.code_rules.proofs.Known.{after, after_leaves, known, known_is, Sure, sure_row}
+use Rattle.cell_code.proofs.fip_base.fip_language.Facts.{not_of as not_true}
 
 pub record Arrival : Type 0 where
   pub target : ℕ
@@ -144,9 +145,6 @@ breaks_at c f i rule = breaks_by c f i (slice_get f.instrs i) (known c f i) rule
 
 by_reached : (c : PlainCode) (f : PlainFunction) → Sure c f → (i : ℕ) (ks : List Kind) (x : Instr) (rule : SoundRule) → IsReachedAt c f i ks x → breaks_known c f i x rule ks ≡ true → breaks_at c f i rule ≡ true
 by_reached c f sure i ks x rule r e = ap₂ (λ o p. breaks_by c f i o p rule) r.instr (known_is c f sure i ks r.known) ∙ e
-
-not_true : (b : Bool) → b ≡ false → not b ≡ true
-not_true b e = ap not e
 
 range_found : (c : PlainCode) (f : PlainFunction) (i : ℕ) (x : Instr) (o : Option (List Kind)) → in_range c f i x ≡ false → breaks_by c f i (Some x) o S1 ≡ true
 range_found c f i x None e = ap not e

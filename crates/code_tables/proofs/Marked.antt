@@ -9,6 +9,7 @@ use Rattle.std.proofs.lemmas.Int.{SFits-int_wrap}
 use Rattle.fip_language.specs.Table.{Table, Shape, shapes, constructors, HasType, HaveTypes}
 use Rattle.fip_language.specs.Values.{Value, Int, Node, Values, End, More}
 use Rattle.code_tables.specs.Marks.{is_marked, all_marked, has_marked, all_true, unmarked, HasValue, AreMarks, IsClosed, HaveValues, IsFieldsOf}
+use Rattle.fip_language.proofs.Facts.{replicate_length as length_of_all}
 
 marked_after : (marks : List Bool) (t u : ℕ) → is_marked (set marks t true) u ≡ true → (u ≡ t) ⊎ (is_marked marks u ≡ true)
 marked_after [] t u e = inr e
@@ -124,10 +125,6 @@ none_marked : (n t : ℕ) → is_marked (replicate n false) t ≡ true → ⊥
 none_marked zero t e = false≢true e
 none_marked (suc n) zero e = false≢true e
 none_marked (suc n) (suc t) e = none_marked n t e
-
-length_of_all : (n : ℕ) → length (replicate n false) ≡ n
-length_of_all zero = refl
-length_of_all (suc n) = ap suc (length_of_all n)
 
 pub first_marks : (w : Table) (n : ℕ) → n ≡ length w → AreMarks w (true ∷ replicate n false)
 first_marks w n e = record {

@@ -17,6 +17,7 @@ use Rattle.code_tables.specs.Apart.{none_met, is_any_name, is_some_name, apart, 
 use Rattle.code_tables.specs.Rows.{is_bare, is_bool_row, is_narrow, are_narrow, is_sound_row, are_sound_rows}
 use Rattle.code_tables.specs.Marks.{HaveValues}
 use Rattle.code_tables.proofs.NamesApart.{apart_tells, apart_from}
+use Rattle.fip_language.proofs.Facts.{map_at_inverse as at_name, mapped_from}
 
 -- ---- bool
 
@@ -77,13 +78,6 @@ narrow_all w (r ∷ ss) h = and_from _ _ (narrow_from w r (h zero r refl)) (narr
 
 named_at : {A : Type 0} (name : A → List ℕ) (xs : List A) (i : ℕ) (x : A) → slice_get xs i ≡ Some x → slice_get (map name xs) i ≡ Some (name x)
 named_at name xs i x e = slice_get-map name xs i ∙ ap (option_map name) e
-
-mapped_from : {A B : Type 0} (f : A → B) (o : Option A) (y : B) → option_map f o ≡ Some y → (x : A) × (o ≡ Some x) × (f x ≡ y)
-mapped_from f None y e = absurd (none-some y e)
-mapped_from f (Some x) y e = (x, refl, same_Some (f x) y e)
-
-at_name : {A B : Type 0} (name : A → B) (xs : List A) (i : ℕ) (n : B) → slice_get (map name xs) i ≡ Some n → (x : A) × (slice_get xs i ≡ Some x) × (name x ≡ n)
-at_name name xs i n e = mapped_from name (slice_get xs i) n (sym (slice_get-map name xs i) ∙ e)
 
 -- ---- a row
 

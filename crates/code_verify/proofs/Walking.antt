@@ -28,13 +28,7 @@ use Rattle.code_verify.specs.Checked.{HasMachineInt, ReachedDrop}
 use Rattle.code_verify.specs.Finding.{BreaksAlone, ReachedCall, Coming, Knowing, BrokenBelow, AreInOrder, HasMachineIntsBelow, IsFound}
 use Rattle.code_verify.proofs.InstrFacts.{end_leaves, in_left, in_right, in_parts, in_nil, in_calls, calls_in, in_waiting, waiting_in, IsDropOf, in_drops, drops_in, drops_cases}
 use Rattle.code_verify.proofs.Breaking.{known_tells, unknown_tells, next_tells, known_finds, unknown_finds}
-
-below_or_at : (i j : ℕ) → j < suc i → (j < i) ⊎ (j ≡ i)
-below_or_at i j h = at (cases_lt j i)
-  where
-    at : (j < i) ⊎ (i ≤ j) → (j < i) ⊎ (j ≡ i)
-    at (inl l) = inl l
-    at (inr l) = inr (omega (arith, h, l))
+use Rattle.fip_language.proofs.Facts.{less_or_same as below_or_at}
 
 -- ---- the least violation
 

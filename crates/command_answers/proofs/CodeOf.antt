@@ -60,6 +60,7 @@ use Rattle.command_library.proofs.command_run.machine_correctness.compiler_corre
 use Rattle.command_answers.specs.Exec.{stack_of_peak}
 use Rattle.command_answers.specs.CodeOf.{IsLoaded, IsCodeOf}
 use Rattle.command_answers.proofs.FileTexts.{literals}
+use Rattle.command_library.proofs.fip_language.Facts.{max_none}
 
 headers_view : (fs : List F.PlainFunction) → map plain_header (map sound_function fs) ≡ map P.plain_header fs
 headers_view [] = refl
@@ -89,9 +90,6 @@ frames_same c code (suc n) (T.Over a t left m) = omega arith
 
 words_state : (c : PlainCode) (t : U.State) → tree_words c t ≡ (height (wide_at c) t).words
 words_state c t = ap (λ w. wide_at c t.running.function + w) (all_same c t.waiting)
-
-max_none : (a b : ℕ) → a ≡ b → max a 0 ≡ b
-max_none a b e = omega (arith, e)
 
 words_same : (c : PlainCode) (code : R.PlainCode) (n : ℕ) (r : T.Run) → tree_highest (tree_words c) code n r ≡ (highest code (wide_at c) n r).words
 words_same c code zero (T.Going t left m) = max_none (tree_words c t) _ (words_state c t)

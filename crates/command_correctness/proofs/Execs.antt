@@ -34,12 +34,9 @@ use Rattle.command_library.proofs.command_run.Entry.{root_at}
 use Rattle.command_library.proofs.command_run.ExecOnce.{answers_alike, member_at, same_answer}
 use Rattle.command_correctness.specs.Asked.{Asked, answer_of, GivesWith, TrapsWith, Prints, TellsTrap, Suffices}
 use Rattle.command_correctness.proofs.Sources.{entry, means}
+use Rattle.fip_language.proofs.Facts.{append_none, if_some_true as fip_frame}
 
 -- ---- frames
-
-fip_frame : (b : Bool) (n w : ℕ) → (if b then Some n else None) ≡ Some w → b ≡ true
-fip_frame true n w e = refl
-fip_frame false n w e = absurd (none-some w e)
 
 is_fip_kind : (k : FunKind) → is_fip k ≡ true → k ≡ Fip
 is_fip_kind Fip e = refl
@@ -80,9 +77,6 @@ module _ (source name : List ℕ) (y : Entry source name) (vs : Values) (room : 
   same_as_in_room ne = same_answer y.core name vs room.calls (frames_for runs.code room) room.frames (not_deep ne) ne
 
 -- ---- what is told
-
-append_none : (xs : List ℕ) → xs ++ [] ≡ xs
-append_none xs = search rules
 
 given_told : (tb : Table) (ks : List ℕ) (calls frames left : ℕ) (vs : Values) (x : Answer) (e : Result (List ℕ) Failure) → x ≡ Gives vs left → TellsRun tb ks calls frames (λ us. []) x e → e ≡ Ok (printed_lines tb ks vs)
 given_told tb ks calls frames left vs x e is h =

@@ -1,0 +1,1 @@
+pub use Rattle.fip_base.proofs as fip_base

@@ -15,6 +15,7 @@ use Rattle.command_eval.specs.machine_correctness.code_rules.Headers.{are_params
 use Rattle.command_eval.specs.machine_correctness.code_rules.Tables.{AreSoundTables}
 use Rattle.command_eval.specs.machine_correctness.code_rules.Types.{is_type}
 use Rattle.command_eval.specs.machine_correctness.code_rules.declared.rule.SoundRule.TheVariants.{S0}
+use Rattle.fip_language.proofs.Facts.{and_both as both, same_or_apart as numbers}
 
 -- it can't be that tables aren't sound
 pub tables : (c : PlainCode) → IsSound c → (AreSoundTables c → ⊥) → ⊥
@@ -42,10 +43,6 @@ sound_table c h names = record {
 
 -- ---- parameters
 
-both : (a b : Bool) → (a && b) ≡ true → (a ≡ true) × (b ≡ true)
-both true b e = (refl, e)
-both false b e = cc
-
 type_within : (tb : Table) (t : ℕ) → is_type tb t ≡ true → t ≤ length tb
 type_within tb t e = grind (arith, nat_tests, e)
 
@@ -54,12 +51,6 @@ params_known tb [] e = tt
 params_known tb (p ∷ ps) e = let h = both (is_type tb p.ty) (are_params tb ps) e in (type_within tb p.ty h.0, params_known tb ps h.1)
 
 -- ---- whether values are the same
-
-numbers : (m n : ℕ) → (m ≡ n) ⊎ (m ≡ n → ⊥)
-numbers zero zero = inl refl
-numbers zero (suc n) = inr (λ e. absurd (omega (arith, e)))
-numbers (suc m) zero = inr (λ e. absurd (omega (arith, e)))
-numbers (suc m) (suc n) = elim (numbers m n) as (λ v. (suc m ≡ suc n) ⊎ (suc m ≡ suc n → ⊥)) [ inl h ↦ inl (ap suc h) | inr h ↦ inr (λ e. h (omega (arith, e))) ]
 
 ints : (i j : ℤ) → (i ≡ j) ⊎ (i ≡ j → ⊥)
 ints (pos m) (pos n) = elim (numbers m n) as (λ v. (pos m ≡ pos n) ⊎ (pos m ≡ pos n → ⊥)) [ inl h ↦ inl (ap pos h) | inr h ↦ inr (λ e. h (let z : m ≡ n = cc in z)) ]

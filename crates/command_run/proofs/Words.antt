@@ -15,14 +15,9 @@ use Rattle.value_text.specs.Loaded.{AreSizes, free_in, needed, wanted, words_up_
 use Rattle.value_text.proofs.Credits.{sum_join}
 use Rattle.value_text.proofs.Taken.{one_other, words_same, words_suc, words_zero}
 use Rattle.command_run.specs.CodeRun.{words_for}
+use Rattle.fip_language.proofs.Facts.{times_minus_one as top_one, times_minus_zero as top_zero}
 
 -- ---- one cell
-
-top_zero : (a x : ℕ) → x ≡ 0 → a * (x - 0) ≡ 0
-top_zero a x e = ap (λ x. a * x) (let z : x - 0 ≡ 0 = omega (arith, e) in z) ∙ mul-zero a
-
-top_one : (a x : ℕ) → x ≡ 1 → a * (x - 0) ≡ a
-top_one a x e = ap (λ x. a * x) (let z : x - 0 ≡ 1 = omega (arith, e) in z) ∙ mul-one a
 
 -- no size up to n is wanted
 none_up_to : (n : ℕ) (f : ℕ → ℕ) → ((k : ℕ) → k ≤ n → f k ≡ 0) → words_up_to n f (λ _. 0) ≡ 0

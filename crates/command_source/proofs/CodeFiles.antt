@@ -17,6 +17,7 @@ use Rattle.command_outcome.specs.declared.failure.Failure.TheVariants as F
 use Rattle.program_front.specs.source_report.Report.{bare}
 use Rattle.command_source.specs.Codes.{sound_label, sound_function, sound_view, IsSoundFile, UnsoundFile, KeepsFromCode, KeepsFromUpgrade, KeepsFromRun, IsLeastOf, IsLine, AreLines, IsCodeListing, IsUnspelt, HasFunction, names_one}
 use Rattle.command_source.specs.Wanted.{IsRefusedBy, of_entry}
+pub use Rattle.fip_language.proofs.Facts.{drop_end, drop_suc as drop_at}
 
 -- ---- the two views of a code
 
@@ -56,17 +57,6 @@ pub sound_file : (bytes : List ℕ) (code : Code) → CodeText bytes Second (pla
 sound_file bytes code spelt le sound = (plain_code code, record { short = le; spelt = (Second, spelt); sound = subst IsSound (sym (view_same code)) sound })
 
 -- ---- the lines
-
-pub drop_at : {A : Type 0} (xs : List A) (n : ℕ) (x : A) → n < length xs → x ≡ get_or xs n x → drop n xs ≡ x ∷ drop (suc n) xs
-drop_at [] n x le e = absurd (omega arith)
-drop_at (y ∷ xs) zero x le e = ap (λ z. z ∷ xs) (sym e)
-drop_at (y ∷ xs) (suc n) x le e = drop_at xs n x (omega arith) e
-
-pub drop_end : {A : Type 0} (xs : List A) (n : ℕ) → length xs ≤ n → drop n xs ≡ []
-drop_end [] zero le = refl
-drop_end [] (suc n) le = refl
-drop_end (x ∷ xs) zero le = absurd (omega arith)
-drop_end (x ∷ xs) (suc n) le = drop_end xs n (omega arith)
 
 -- one line more
 pub more_lines : (c : S.PlainCode) (all : List S.PlainFunction) (n : ℕ) (f : S.PlainFunction) (fs : List S.PlainFunction) (old line : List ℕ) → ((more : List ℕ) → AreLines c n (f ∷ fs) more → AreLines c 0 all (old ++ more)) → IsLine c n f f.name line → (more : List ℕ) → AreLines c (suc n) fs more → AreLines c 0 all ((old ++ line) ++ more)

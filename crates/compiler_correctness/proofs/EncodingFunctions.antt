@@ -20,9 +20,7 @@ use Rattle.derivation_correctness.specs.code_file.CodeText.{kind_text, label_tex
 use Rattle.derivation_correctness.proofs.code_file.Numbers.{credit_count_fits, size_fits}
 use Rattle.derivation_correctness.specs.lower_frame.Spelled.{IsSpelt, AreKindsSpelt, AreInstrsSpelt, AreLabelsSpelt, IsFunctionSpelt}
 use Rattle.compiler_correctness.proofs.Texts.{joined, each_spelt, only_spelt, two_spelt, four_spelt, types_spelt, there}
-
-below : (m n : ℕ) → nat_lt m n ≡ true → m < n
-below m n e = grind (arith, nat_tests)
+use Rattle.derivation_correctness.proofs.source_report.cell_lower.fip_language.Facts.{nat_lt_true as below}
 
 -- ---- parameters
 

@@ -43,6 +43,7 @@ use Rattle.lowering_soundness.specs.type_check.Faults.{fill_binders, fill_patter
 use Rattle.lowering_soundness.specs.fip_rules.Shapes.{binders, binders_all}
 use Rattle.lowering_soundness.specs.derivation_check.Scopes.{within, within_block, within_clauses}
 use Rattle.derivation_correctness.specs.source_report.Report.{IsParsed, IsFlat, IsTyped}
+use Rattle.derivation_correctness.proofs.source_report.cell_lower.fip_language.Facts.{length_of_none as few_where_none}
 
 -- ---- a function has a result
 
@@ -84,11 +85,6 @@ in_of : {A : Type 0} (f : A → List Violation) (x : A) (v : Violation) (xs : Li
 in_of f x v [] a h = absurd a
 in_of f x v (y ∷ xs) (inl e) h = in_left v (f y) (all_of f xs) (subst (λ y. In v (f y)) e h)
 in_of f x v (y ∷ xs) (inr a) h = in_right v (f y) (all_of f xs) (in_of f x v xs a h)
-
-few_where_none : {A : Type 0} (xs : List A) (n : ℕ) → slice_get xs n ≡ None → length xs ≤ n
-few_where_none [] n e = omega arith
-few_where_none (x ∷ xs) zero e = absurd (none-some x (sym e))
-few_where_none (x ∷ xs) (suc n) e = (let z = few_where_none xs n e in omega (arith, z))
 
 module _ (core : Core) (unbroken : (v : Violation) → Declaring.Violates core v → ⊥) where
   many_marks : (f : Function) (m : CreditMark) → Among f core.functions → slice_get f.credits MOST_CREDITS ≡ Some m → ⊥

@@ -14,6 +14,7 @@ use Rattle.source_safety.specs.fip_grammar.declared.Sign.TheVariants as S
 use Rattle.source_safety.specs.fip_grammar.Token.{Word, Lower, Upper, Number, Operate, Mark, Token}
 use Rattle.source_safety.specs.fip_grammar.Cut.{is_lower, is_upper, is_digit, is_name, keyword_or_name, single_sign, double_sign, sign_of, lower_word, word_of, IsFirst, Piece, Blank, Comment, Cut, behind, Pieces, tokens_of, first_place, IsCut}
 use Rattle.derivation_correctness.specs.code_file.Spelling.{is_keyword, is_function_name}
+use Rattle.derivation_correctness.proofs.source_report.cell_lower.fip_language.Facts.{not_of, or_exchange as name_byte, take_few}
 
 -- a name of a function, which isn't empty
 abbrev pub IsProperName : List ℕ → Type 0
@@ -113,22 +114,12 @@ proper_sign n b [] = proper_single n b
 proper_sign n b (c ∷ []) = proper_double n b c
 proper_sign n b (c ∷ d ∷ more) = tt
 
--- the same bytes, named in another order
-name_byte : (l u d x : Bool) → (l || (u || (d || x))) ≡ true → (d || (u || l || x)) ≡ true
-name_byte l u true x e = refl
-name_byte l true false x e = refl
-name_byte true false false x e = refl
-name_byte false false false x e = e
-
 name_bytes : (bs : List ℕ) → list_all is_name bs ≡ true → are_name_bytes bs ≡ true
 name_bytes [] e = refl
 name_bytes (b ∷ bs) e =
     and_from (is_digit b || is_letter b) (are_name_bytes bs)
     (name_byte (is_lower b) (is_upper b) (is_digit b) (b == 95) (and_parts (is_name b) (list_all is_name bs) e).0)
     (name_bytes bs (and_parts (is_name b) (list_all is_name bs) e).1)
-
-not_of : (b : Bool) → b ≡ false → not b ≡ true
-not_of b e = ap not e
 
 lower_name : (b : ℕ) (bs : List ℕ) → is_lower b ≡ true → list_all is_name bs ≡ true → is_keyword (b ∷ bs) ≡ false → is_function_name (b ∷ bs) ≡ true
 lower_name b bs l n k =
@@ -172,11 +163,6 @@ more_proper m n (Mark s) le h = tt
 more_option : (m n : ℕ) (o : Option Word) → m ≤ n → ProperOption m o → ProperOption n o
 more_option m n None le h = tt
 more_option m n (Some w) le h = more_proper m n w le h
-
-take_few : (n : ℕ) (xs : List ℕ) → length (take n xs) ≤ length xs
-take_few zero xs = omega arith
-take_few (suc n) [] = omega arith
-take_few (suc n) (x ∷ xs) = (let h = take_few n xs in omega (arith, h))
 
 proper_first : (text : List ℕ) (n : ℕ) (w : Word) → IsFirst text n w → Proper (length text) w
 proper_first text n w f =

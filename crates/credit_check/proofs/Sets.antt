@@ -16,20 +16,12 @@ use Rattle.credit_check.specs.Needs.{marked, takes, given, need_block, need_clau
 use Rattle.credit_check.specs.Credits.{Less, Unused, Differ, Breaks, BreaksBlock, BreaksClauses, Exceeds, FallsShort, BreaksInstance, BreaksOne}
 use Rattle.credit_check.specs.Tallies.{marked_from, given_sizes, block_sizes, clause_sizes, when, below_from, below, unused_notes, differ_notes, notes, block_notes, clauses_notes, header_notes, instance_notes, all_notes}
 use Rattle.credit_check.proofs.Amounts.{marked_at, given_at, block_at, clause_at}
+use Rattle.fip_base.proofs.fip_language.Facts.{nat_lt_of as less_is, nat_lt_true as is_less, same_or_above as first_or, sum_exchange as mixed, sum_exchanges as mix}
 
 -- ---- alternatives
 
 along : (A B C : Type 0) → (A ↔ B) → (B ↔ C) → A ↔ C
 along A B C f g = (λ h. g.0 (f.0 h), λ h. f.1 (g.1 h))
-
-mixed : (A B C D : Type 0) → ((A ⊎ B) ⊎ (C ⊎ D)) → ((A ⊎ C) ⊎ (B ⊎ D))
-mixed A B C D (inl (inl h)) = inl (inl h)
-mixed A B C D (inl (inr h)) = inr (inl h)
-mixed A B C D (inr (inl h)) = inl (inr h)
-mixed A B C D (inr (inr h)) = inr (inr h)
-
-mix : (A B C D : Type 0) → ((A ⊎ B) ⊎ (C ⊎ D)) ↔ ((A ⊎ C) ⊎ (B ⊎ D))
-mix A B C D = (mixed A B C D, mixed A C B D)
 
 append_is : (v : Violation) (xs ys : List Violation) (A B : Type 0) → (In v xs ↔ A) → (In v ys ↔ B) → In v (xs ++ ys) ↔ (A ⊎ B)
 append_is v xs ys A B f g = (
@@ -51,12 +43,6 @@ to_when false u v e h = absurd (cc)
 
 -- ---- sizes
 
-is_less : (m n : ℕ) → nat_lt m n ≡ true → m < n
-is_less m n h = grind (arith, nat_tests)
-
-less_is : (m n : ℕ) → m < n → nat_lt m n ≡ true
-less_is m n h = grind (arith, nat_tests)
-
 abbrev Below : Rule → Place → ℕ → List ℕ → List ℕ → ℕ → ℕ → Violation → Type 0
 Below r q i xs ys k n v = (j : ℕ) × (k ≤ j) × (j < k + n) × (number xs j < number ys j) × (v ≡ violation r q i j [])
 
@@ -66,12 +52,6 @@ below_in r q i xs ys k (suc n) v h = elim (in_either v (when (nat_lt (number xs 
   | inl g ↦ let t = of_when (nat_lt (number xs k) (number ys k)) (violation r q i k []) v g in (k, omega arith, omega arith, is_less (number xs k) (number ys k) t.0, t.1)
   | inr g ↦ let t = below_in r q i xs ys (suc k) n v g in (t.0, (let a = t.1 in omega arith), (let b = t.2 in omega arith), t.3, t.4)
 ]
-
-first_or : (k j : ℕ) → k ≤ j → (k ≡ j) ⊎ (suc k ≤ j)
-first_or zero zero h = inl refl
-first_or zero (suc j) h = inr (omega arith)
-first_or (suc k) zero h = absurd (omega arith)
-first_or (suc k) (suc j) h = elim (first_or k j (omega arith)) [ inl e ↦ inl (ap suc e) | inr g ↦ inr (omega arith) ]
 
 in_below : (r : Rule) (q : Place) (i : ℕ) (xs ys : List ℕ) (k n : ℕ) (v : Violation) → Below r q i xs ys k n v → In v (below_from r q i xs ys k n)
 in_below r q i xs ys k zero v h = absurd (let a = h.1 in let b = h.2 in omega arith)

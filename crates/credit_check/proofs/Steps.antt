@@ -26,6 +26,8 @@ use Rattle.fip_trees.proofs.Leasts.{after-append}
 use Rattle.fip_trees.proofs.TreeViews.{argument_constructor, pattern_constructor, count_view, count_patterns_view, expression_match, clause_is, binding_is, block_is}
 use Rattle.credit_check.specs.Needs.{takes}
 use Rattle.credit_check.specs.Tallies.{made_from, made_all_from, nodes_from, nodes_all_from, given_sizes, sizes, block_sizes, clauses_sizes, clause_sizes, above_need, needs, parts_needs, clauses_needs, block_needs, when, below_from, unused_notes, differ_notes, notes, block_notes, clauses_notes, clause_notes, instance_needs, all_needs, instance_notes, all_notes}
+use Rattle.fip_base.proofs.fip_language.Facts.{drop_end, drop_suc}
+pub use Rattle.fip_base.proofs.fip_language.Facts.{drop_item}
 
 pub made_step : (xs xs1 xs2 : List ℕ) (a : Argument) (u d c : ℕ) (n : Name) (q : Place) (v : Vec Argument Global) (as' : List Argument) (k : ℕ) → a ≡ AV.Constructor u d c n q v → k ≡ length as' → as' ≡ v.items → xs1 ≡ one_more k xs → xs2 ≡ made_all_from xs1 (arguments as') → xs2 ≡ made_from xs (argument a)
 made_step xs xs1 xs2 a u d c n q v as' k e l s f g =
@@ -156,20 +158,6 @@ pub bound_noted : (p : T.Program) (i : ℕ) (fip : Bool) (l0 l1 g : Option Viola
 bound_noted p i fip l0 l1 g b bs last e inv = ap (λ z. after z (block_notes p i fip (block_of bs last))) e ∙ sym (after-append l0 (notes p i fip b.bound) (block_notes p i fip (block_of bs last))) ∙ inv
 
 -- ---- lists from a place on
-
-drop_suc : {A : Type 0} (xs : List A) (i : ℕ) (x : A) → i < length xs → x ≡ get_or xs i x → drop i xs ≡ x ∷ drop (suc i) xs
-drop_suc [] i x l e = absurd (omega arith)
-drop_suc {A} (y ∷ ys) zero x l e = ap (λ (z : A). z ∷ ys) (sym e)
-drop_suc (y ∷ ys) (suc i) x l e = drop_suc ys i x (omega arith) e
-
-pub drop_item : {A : Type 0} (xs : List A) (i : ℕ) (x : A) → i < length xs → x ≡ get_or xs i x → drop i xs ≡ x ∷ drop (i + 1) xs
-drop_item xs i x l e = let s : suc i ≡ i + 1 = omega arith in drop_suc xs i x l e ∙ ap (λ k. x ∷ drop k xs) s
-
-drop_end : {A : Type 0} (xs : List A) (i : ℕ) → length xs ≤ i → drop i xs ≡ []
-drop_end [] zero l = refl
-drop_end [] (suc i) l = refl
-drop_end (x ∷ xs) zero l = absurd (omega arith)
-drop_end (x ∷ xs) (suc i) l = drop_end xs i (omega arith)
 
 -- ---- the end of a block
 

@@ -19,6 +19,7 @@ use Rattle.data_types.specs.Declarations.{declarations, declared_names, written_
 use Rattle.data_types.specs.Faults.{broken, when, repeats, written_violations, name_faults, all_data_faults, all_function_faults, type_mentions, row_mentions, constructor_mentions, function_mentions}
 use Rattle.data_types.specs.Answers.{HasNoValue, Violates, IsFirst, Says, IsWalked, value_faults}
 use Rattle.data_types.proofs.Repeats.{all_new, mention_names}
+use Rattle.fip_language.proofs.Facts.{get_there as there, get_within as get_length, map_length}
 
 -- ---- lists of violations
 
@@ -66,15 +67,6 @@ in_unflagged i zero flags (x ∷ ds) d h g =
 in_unflagged i (suc k) flags (x ∷ ds) d h g =
     let n : i + suc k ≡ suc i + k = omega arith in
     in_right (broken E13 d.place d.name) (when (not (true_of (slice_get flags i))) (broken E13 x.place x.name)) (value_faults (suc i) flags ds) (in_unflagged (suc i) k flags ds d h (sym (ap (λ j. true_of (slice_get flags j)) n) ∙ g))
-
-map_length : {A B : Type 0} (f : A → B) (xs : List A) → length (map f xs) ≡ length xs
-map_length f [] = refl
-map_length f (x ∷ xs) = ap suc (map_length f xs)
-
-get_length : {A : Type 0} (xs : List A) (k : ℕ) (x : A) → slice_get xs k ≡ Some x → k < length xs
-get_length [] k x h = absurd (cc)
-get_length (y ∷ ys) zero x h = omega arith
-get_length (y ∷ ys) (suc k) x h = let r = get_length ys k x h in omega (arith, r)
 
 -- within the list what isn't true is false
 is_flag : (flags : List Bool) (k : ℕ) → k < length flags → true_of (slice_get flags k) ≡ false → slice_get flags k ≡ Some false
@@ -201,11 +193,6 @@ flag_valued core flags n None told e h k = absurd (let r = got_none flags n h e 
     got_none (x ∷ xs) (suc m) h e = got_none xs m (omega (arith, h)) e
 flag_valued core flags n (Some true) told e h k = told.valued n e
 flag_valued core flags n (Some false) told e h k = absurd (k e)
-
-there : {A : Type 0} (xs : List A) (n : ℕ) → n < length xs → (x : A) × (slice_get xs n ≡ Some x)
-there [] n h = absurd (omega (arith, h))
-there (x ∷ xs) zero h = (x, refl)
-there (x ∷ xs) (suc n) h = there xs n (omega (arith, h))
 
 each_valued : (core : Core) → IsWalked core None None → (n : ℕ) → n < length (data_types core) → IsValued (declarations core) n
 each_valued core walked zero h = bool_valued core

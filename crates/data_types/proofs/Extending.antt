@@ -5,6 +5,7 @@ use Rattle.data_types.specs.Marks.{Claim, State, asked, known, bit, IsAsked, Lac
 use Rattle.data_types.specs.Steps.{Extends, IsAsking, IsLooked, AreFound, AreLooked, AreTried, IsParameter, IsApplied, has_values, gathered}
 use Rattle.data_types.specs.declared.found.Found.{Found}
 use Rattle.data_types.proofs.Values.{gathered_have, suffice_none, suffice_more}
+use Rattle.fip_language.proofs.Facts.{append_nil as append_none}
 
 pub extends_self : (s : State) → Extends s s
 extends_self s = record { kept = λ i c e. e; marks = λ i t bs e. e; todo = refl; more = omega arith; room = omega arith; same = λ e. refl }
@@ -130,10 +131,6 @@ append_one (x ∷ cs) ds c = ap (λ l. x ∷ l) (append_one cs ds c)
 
 pub looking_next : (a b c : State) (bs : List Bool) (all : Tys) (t : Ty) (rest : Tys) (fs : List Found) (f : Found) → Looking a b bs all (MoreTys t rest) fs → IsLooked b c bs t f → Looking a c bs all rest (fs ++ f ∷ [])
 looking_next a b c bs all t rest fs f l k = (extends_then a b c l.0 k.extends, λ s e gs h. subst (λ gs. AreFound a s bs all gs) (append_one fs gs f) (l.1 s (extends_then b c s k.extends e) (f ∷ gs) (λ g ds sound. k.suffice g ds (extends_sound ds a b l.0 sound), λ g. lacks_kept c s e bs t (k.lacks g), h)))
-
-append_none : {A : Type 0} (cs : List A) → cs ++ [] ≡ cs
-append_none [] = refl
-append_none (c ∷ cs) = ap (λ l. c ∷ l) (append_none cs)
 
 pub looking_last : (a b : State) (bs : List Bool) (all : Tys) (fs : List Found) → Looking a b bs all NoTys fs → AreLooked a b bs all fs
 looking_last a b bs all fs l = record { extends = l.0; found = subst (λ gs. AreFound a b bs all gs) (append_none fs) (l.1 b (extends_self b) [] tt) }

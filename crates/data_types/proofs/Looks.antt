@@ -9,6 +9,7 @@ use Rattle.fip_trees.specs.declared.decls.FieldType.{FieldType}
 use Rattle.fip_trees.specs.declared.decls.FieldType.TheOpen as O
 use Rattle.fip_trees.specs.declared.decls.FieldType.TheVariants as V
 use Rattle.fip_trees.specs.declared.decls.FieldType.TheFolds.{fold-roll-FieldType}
+pub use Rattle.fip_language.proofs.Facts.{drop_at_next as drop_read, drop_end as drop_all, drop_next, get_at as read, get_map as map_at, get_map_past as map_past, map_length}
 
 pub bit_some : (bs : List Bool) (k : ℕ) (b : Bool) → slice_get bs k ≡ Some b → b ≡ bit bs k
 bit_some [] k b e = cc
@@ -30,31 +31,6 @@ constructors_past [] n h = refl
 constructors_past (x ∷ ds) zero h = absurd (omega (arith, h))
 constructors_past (x ∷ ds) (suc n) h = constructors_past ds n (omega (arith, h))
 
-pub map_at : {A B : Type 0} (f : A → B) (xs : List A) (i : ℕ) (x : A) → slice_get xs i ≡ Some x → slice_get (map f xs) i ≡ Some (f x)
-map_at f [] i x e = cc
-map_at f (y ∷ xs) zero x e = let g : y ≡ x = cc in ap (λ z. Some (f z)) g
-map_at f (y ∷ xs) (suc i) x e = map_at f xs i x e
-
-pub map_past : {A B : Type 0} (f : A → B) (xs : List A) (i : ℕ) → length xs ≤ i → slice_get (map f xs) i ≡ None
-map_past f [] i h = refl
-map_past f (y ∷ xs) zero h = absurd (omega (arith, h))
-map_past f (y ∷ xs) (suc i) h = map_past f xs i (omega (arith, h))
-
-pub map_length : {A B : Type 0} (f : A → B) (xs : List A) → length (map f xs) ≡ length xs
-map_length f [] = refl
-map_length f (x ∷ xs) = ap suc (map_length f xs)
-
--- the element that a loop reads
-pub read : {A : Type 0} (xs : List A) (i : ℕ) (x : A) → i < length xs → x ≡ get_or xs i x → slice_get xs i ≡ Some x
-read [] i x h e = absurd (omega (arith, h))
-read (y ∷ xs) zero x h e = ap Some (sym e)
-read (y ∷ xs) (suc i) x h e = read xs i x (omega (arith, h)) e
-
-pub drop_read : {A : Type 0} (xs : List A) (i : ℕ) (x : A) → slice_get xs i ≡ Some x → drop i xs ≡ x ∷ drop (suc i) xs
-drop_read [] i x e = cc
-drop_read (y ∷ xs) zero x e = let f : y ≡ x = cc in ap (λ z. z ∷ xs) f
-drop_read (y ∷ xs) (suc i) x e = drop_read xs i x e
-
 pub tys_read : (xs : List FieldType) (i : ℕ) (x : FieldType) → i < length xs → x ≡ get_or xs i x → v.tys (drop i xs) ≡ t.MoreTys (v.ty x) (v.tys (drop (i + 1) xs))
 tys_read xs i x h e = ap v.tys (drop_read xs i x (read xs i x h e)) ∙ ap (λ j. t.MoreTys (v.ty x) (v.tys (drop j xs))) (sym (add-one i))
 
@@ -64,12 +40,3 @@ ty_applied n ts = ap v.ty (sym (V.rolls-Applied n ts)) ∙ fold-roll-FieldType t
 
 pub ty_int : v.ty V.Int ≡ t.Given
 ty_int = ap v.ty (sym V.rolls-Int) ∙ fold-roll-FieldType t.Ty v.ty_step O.Int
-
-pub drop_all : {A : Type 0} (xs : List A) (i : ℕ) → length xs ≤ i → drop i xs ≡ []
-drop_all [] zero h = refl
-drop_all [] (suc i) h = refl
-drop_all (y ∷ xs) zero h = absurd (omega (arith, h))
-drop_all (y ∷ xs) (suc i) h = drop_all xs i (omega (arith, h))
-
-pub drop_next : {A : Type 0} (xs : List A) (i : ℕ) (d : A) → i < length xs → drop i xs ≡ get_or xs i d ∷ drop (i + 1) xs
-drop_next xs i d h = drop_read xs i (get_or xs i d) (slice_get-get_or xs i d h) ∙ ap (λ j. get_or xs i d ∷ drop j xs) (sym (add-one i))

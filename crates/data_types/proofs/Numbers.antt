@@ -12,16 +12,13 @@ use Rattle.fip_trees.specs.declared.decls.FieldType.{FieldType}
 use Rattle.fip_trees.specs.declared.decls.TypeHead.{TypeHead}
 use Rattle.data_types.specs.Declarations.{type_meanings, declared_names}
 use Rattle.data_types.specs.Numbered.{all_true, numbered_step, is_numbered, are_numbered, HasNumbers}
+use Rattle.fip_language.proofs.Facts.{both_true}
 
 pub int_numbered : is_numbered FV.Int ≡ true
 int_numbered = ap is_numbered (sym FV.rolls-Int) ∙ fold-roll-FieldType Bool numbered_step F.Int
 
 pub parameter_numbered : (k : ℕ) → is_numbered (FV.Parameter k) ≡ true
 parameter_numbered k = ap is_numbered (sym (FV.rolls-Parameter k)) ∙ fold-roll-FieldType Bool numbered_step (F.Parameter k)
-
-both_true : (a b : Bool) → a ≡ true → b ≡ true → (a && b) ≡ true
-both_true true b e f = f
-both_true false b e f = absurd (cc)
 
 above_zero : (n : ℕ) → 0 < n → nat_lt 0 n ≡ true
 above_zero n h = grind (arith, nat_tests)

@@ -12,13 +12,11 @@ use Rattle.fip_trees.specs.Names.{names, is_among, with_meaning, with_meanings}
 use Rattle.fip_trees.proofs.Leasts.{after-append}
 use Rattle.data_types.specs.Declarations.{row_meanings, static_meanings}
 use Rattle.data_types.specs.Faults.{broken, when, repeats, row_mentions}
+use Rattle.fip_language.proofs.Facts.{append_nil as append_none}
+pub use Rattle.fip_language.proofs.Facts.{drop_item}
 
 abbrev pub head : ℕ → ℕ → TypeHead
 head n k = record { number = n; arity = k }
-
--- a list from an item on
-pub drop_item : {A : Type 0} (xs : List A) (i : ℕ) (x : A) → i < length xs → x ≡ get_or xs i x → drop i xs ≡ x ∷ drop (i + 1) xs
-drop_item xs i x h e = drop-cons xs i x h ∙ ap (λ y. y ∷ drop (suc i) xs) (sym e) ∙ ap (λ n. x ∷ drop n xs) (sym (add-one i))
 
 -- one item of a walk that notes the violations of each item of a list
 pub walk_step : {A : Type 0} (one : A → List Violation) (all : List A → List Violation) → ((x : A) (xs : List A) → all (x ∷ xs) ≡ one x ++ all xs) → (xs : List A) (i : ℕ) (x : A) (l m : Option Violation) → i < length xs → x ≡ get_or xs i x → m ≡ after l (one x) → after m (all (drop (i + 1) xs)) ≡ after l (all (drop i xs))
@@ -115,10 +113,6 @@ repeats_row d ks rest es fs l m added noted =
 none_here : (c : Bool) (v : Violation) (xs ys : List Violation) → (if c then v ∷ xs else ys) ≡ [] → (c ≡ false) × (ys ≡ [])
 none_here true v xs ys h = absurd (cc)
 none_here false v xs ys h = (refl, h)
-
-append_none : {A : Type 0} (xs : List A) → xs ++ [] ≡ xs
-append_none [] = refl
-append_none (x ∷ xs) = ap (λ l. x ∷ l) (append_none xs)
 
 abbrev pub mention_names : List Mention → List Name
 mention_names ms = map (λ (m : Mention). m.name) ms

@@ -7,6 +7,7 @@ use Rattle.data_types.specs.Steps.{Goes, HasRoots, Tells, TellsValued}
 use Rattle.data_types.specs.View as v
 use Rattle.fip_trees.specs.declared.decls.DeclaredType.{DeclaredType}
 use Rattle.data_types.proofs.Values.{past, root_has, root_lacks}
+use Rattle.fip_language.proofs.Facts.{less_or_last}
 
 pub arity_at : (ds : List DeclaredType) (n : ℕ) (d : DeclaredType) → slice_get ds n ≡ Some d → t.arity (v.declarations ds) n ≡ d.arity
 arity_at [] n d e = cc
@@ -19,12 +20,6 @@ trues_last (suc n) = ap (λ bs. true ∷ bs) (trues_last n)
 
 pub trues_more : (n : ℕ) → trues n ++ true ∷ [] ≡ trues (n + 1)
 trues_more n = trues_last n ∙ ap trues (sym (add-one n))
-
-less_or_last : (c n : ℕ) → c < n + 1 → (c < n) ⊎ (c ≡ n)
-less_or_last zero zero h = inr refl
-less_or_last zero (suc n) h = inl (omega arith)
-less_or_last (suc c) zero h = absurd (omega (arith, h))
-less_or_last (suc c) (suc n) h = elim (less_or_last c n (omega (arith, h))) as (λ _. (suc c < suc n) ⊎ (suc c ≡ suc n)) [ inl l ↦ inl (omega (arith, l)) | inr e ↦ inr (ap suc e) ]
 
 -- ---- the claims
 

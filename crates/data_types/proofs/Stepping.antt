@@ -8,6 +8,7 @@ use Rattle.data_types.specs.declared.claims.Asked.{Asked}
 use Rattle.data_types.specs.declared.found.Found.{Found}
 use Rattle.data_types.proofs.Values.{past, claim_holds}
 use Rattle.data_types.proofs.Extending.{extends_sound}
+use Rattle.fip_language.proofs.Facts.{less_or_last, same_some as some_is}
 
 pub goes_self : (ds : Declarations) (s : State) → Goes ds s s
 goes_self ds s = record { sound = λ h. h; kept = λ i t bs l. l; room = omega arith; left = omega arith }
@@ -89,9 +90,6 @@ one_marked (c ∷ cs) zero t u bs as' e = by (ap marked_of e)
     by : c.marked ≡ false → 0 + unmarked cs + 1 ≡ (if c.marked then 0 else 1) + unmarked cs
     by f = let g = ap {B = ℕ} (λ (b : Bool). if b then 0 else 1) f in omega (arith, g)
 one_marked (c ∷ cs) (suc i) t u bs as' e = let r = one_marked cs i t u bs as' e in omega (arith, r)
-
-some_is : {A : Type 0} (x y : A) → Some x ≡ Some y → x ≡ y
-some_is x y e = cc
 
 mark_sound : (ds : Declarations) (s : State) (i t : ℕ) (cs : List Bool) → Holds ds t cs → IsSound ds s → IsSound ds (with_mark s i t cs)
 mark_sound ds s i t cs holds sound j u bs h = by (get_set s.claims i j (known t cs) (known u bs) h)
@@ -191,12 +189,6 @@ Visiting ds a b x i n = IsStep ds a b x × (x ≡ false → (c : ℕ) → c < n 
 
 pub visiting_first : (ds : Declarations) (s : State) (i : ℕ) → Visiting ds s s false i 0
 visiting_first ds s i = (step_self ds s, λ e c lt. absurd (omega (arith, lt)))
-
-less_or_last : (c n : ℕ) → c < n + 1 → (c < n) ⊎ (c ≡ n)
-less_or_last zero zero h = inr refl
-less_or_last zero (suc n) h = inl (omega arith)
-less_or_last (suc c) zero h = absurd (omega (arith, h))
-less_or_last (suc c) (suc n) h = elim (less_or_last c n (omega (arith, h))) as (λ _. (suc c < suc n) ⊎ (suc c ≡ suc n)) [ inl l ↦ inl (omega (arith, l)) | inr e ↦ inr (ap suc e) ]
 
 pub visiting_next : (ds : Declarations) (a b d : State) (x y : Bool) (i n : ℕ) → Visiting ds a b x i n → IsStep ds b d y → (y ≡ false → IsDone ds d i n) → Visiting ds a d (x || y) i (n + 1)
 visiting_next ds a b d true y i n v g done = (step_then ds a b d true y v.0 g, λ e. absurd (true≢false e))

@@ -4,6 +4,7 @@ use Rattle.data_types.specs.Types.{Ty, Tys, Given, Parameter, Applied, NoTys, Mo
 use Rattle.data_types.specs.Marks.{State, asked, known, bit, Below, IsAsked, Lacks, AllLack, IsBlocked, BlockedAt, IsDone, AllDone, Agrees, Holds, IsSound, AllHave, Suffice, AllSuffice, HasAll, trues, root}
 use Rattle.data_types.specs.Steps.{AreFound, has_values, gathered}
 use Rattle.data_types.specs.declared.found.Found.{Found}
+pub use Rattle.fip_language.proofs.Facts.{get_within as past}
 
 -- ---- what suffices
 
@@ -87,11 +88,6 @@ not_blocked ds s n refutes bs as' covers NoTys b vs lt h = b
 not_blocked ds s n refutes bs as' covers (MoreTys f fs) b End lt h = h
 not_blocked ds s n refutes bs as' covers (MoreTys f fs) (inl b) (More v vs) lt h = refutes bs as' covers f b v (omega (arith, lt)) h.0
 not_blocked ds s n refutes bs as' covers (MoreTys f fs) (inr b) (More v vs) lt h = not_blocked ds s n refutes bs as' covers fs b vs (omega (arith, lt)) h.1
-
-pub past : {A : Type 0} (xs : List A) (i : ℕ) (x : A) → slice_get xs i ≡ Some x → i < length xs
-past [] i x e = cc
-past (y ∷ xs) zero x e = omega arith
-past (y ∷ xs) (suc i) x e = let r = past xs i x e in omega (arith, r)
 
 not_asked : (ds : Declarations) (s : State) → AllDone ds s → (n : ℕ) → Refutes ds s n → (t : ℕ) (cs : List Bool) (as' : Tys) → Covers ds n cs as' → IsAsked s t cs → (c : ℕ) (vs : Trees) → sizes vs ≤ n → HasType ds (Applied t as') (Node c vs) → ⊥
 not_asked ds s done n refutes t cs as' covers ask c vs lt h =

@@ -19,13 +19,11 @@ use Rattle.derivation_making.specs.derivation_check.Scopes.{Known, Scope, known,
 use Rattle.derivation_making.specs.derivation_check.Calculus as P
 use Rattle.derivation_agreement.proofs.Sharing.{count_of, env, env_sum, env_none, env_fits, env_paid, env_charge, nothing, under_fits, fits_same}
 use Rattle.derivation_agreement.proofs.Scoping.{Sees, seen_as, one_same, one_other, one_false, either, same_number}
+use Rattle.tail_groups.proofs.fip_language.Facts.{same_some_implicit as some_same}
 
 -- what an occurrence is
 pub variable_is : (w : World) (s : Scope) (c d : ℕ) (ms : List Mark) (sc : Scalars) (B : ℕ → Bool) (y : ℕ) (v : Known) (b : Bool) → Sees w s c d ms sc B → known s.variables y ≡ Some v → w.scalar v.ty ≡ b → variable sc (seen ms (Some y)) ≡ (if b then T.Scalar else T.Named y)
 variable_is w s c d ms sc B y v b h k e = ap (variable sc) (h.marks y ∙ ap (seen_as y) k) ∙ ap (λ (q : Bool). if q then T.Scalar else T.Named y) (h.scalars y v k ∙ e)
-
-some_same : {A : Type 0} {u v : A} → Some u ≡ Some v → u ≡ v
-some_same e = cc
 
 -- one variable, and nothing else
 pub env_only : (w : World) (s : Scope) (c d : ℕ) (ms : List Mark) (sc : Scalars) (B : ℕ → Bool) (y : ℕ) (v : Known) → Sees w s c d ms sc B → known s.variables y ≡ Some v → (i : Item) → env s.variables (only v.number) i ≡ only y i

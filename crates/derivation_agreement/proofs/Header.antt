@@ -18,6 +18,7 @@ use Rattle.derivation_making.specs.derivation_check.Scopes.{Known, Scope, known,
 use Rattle.derivation_making.specs.derivation_check.Accepted as A
 use Rattle.derivation_agreement.proofs.Sharing.{count_of, env, fits_same}
 use Rattle.derivation_agreement.proofs.Scoping.{Sees, seen_as, same_number, number_test, other_test, one_same, one_other, either, end_same, end_other, has_none, chosen, passed_over}
+use Rattle.tail_groups.proofs.fip_language.Facts.{or_false_first as or_rest, or_first, same_some_implicit as some_same, unequal_apart as is_not}
 
 -- whether a parameter is owned and not scalar, and whether it is borrowed
 abbrev is_own : Bool → Bool → Bool
@@ -45,14 +46,6 @@ pub record IsNone (w : World) (n : ℕ) (ps : List Param) (bs : List Binder) (sc
   pub borrowed : has (borrowed_parameters w n ps bs) y ≡ false
   pub counted : given y (A.owned_parameters w n ps) ≡ 0
   pub marked : S.known (within (record { marks = ms; next = n }) (S.parameters w ps bs)).marks y ≡ S.known ms y
-
-or_rest : (a b : Bool) → a ≡ false → (a || b) ≡ b
-or_rest true b e = absurd (cc)
-or_rest false b e = refl
-
-or_first : (a b : Bool) → a ≡ true → (a || b) ≡ true
-or_first true b e = refl
-or_first false b e = absurd (cc)
 
 own_skip : (s l : Bool) (n y : ℕ) (ys : List ℕ) → (n ≡ y → ⊥) → has (if s then ys else (if l then ys else n ∷ ys)) y ≡ has ys y
 own_skip true l n y ys e = refl
@@ -99,9 +92,6 @@ entered_skip sc n y s e = passed_over (n == y) s (sc y) (other_test n y e)
 twice : (b : Bool) → not (not b) ≡ b
 twice true = refl
 twice false = refl
-
-is_not : (n y : ℕ) → (n == y) ≡ false → n ≡ y → ⊥
-is_not n y f e = let t = number_test n y e in absurd (cc)
 
 pub where_is : (w : World) (n : ℕ) (ps : List Param) (bs : List Binder) (sc : Scalars) (ms : List Mark) (y : ℕ) → length bs ≡ length ps → AreNumbered n n bs → IsParameter w n ps bs sc ms y ⊎ IsNone w n ps bs sc ms y
 where_is w n [] [] sc ms y e h = inr record { is_known = refl; scalar = refl; own = refl; borrowed = refl; counted = refl; marked = refl }
@@ -163,9 +153,6 @@ where_is w n (p ∷ ps) (b ∷ bs) sc ms y e h =
           counted = counted_skip (w.scalar p.ty) p.lent n y (A.owned_parameters w (n + 1) ps) u ∙ given_next ∙ r.counted;
           marked = r.marked ∙ end_other ms (mark n b) y v;
         }
-
-some_same : {A : Type 0} {u v : A} → Some u ≡ Some v → u ≡ v
-some_same e = cc
 
 -- what a function's variables are
 pub sees_header : (w : World) (ps : List Param) (bs : List Binder) (c : ℕ) → length bs ≡ length ps → AreNumbered 0 0 bs → length ps ≤ c → Sees w (record { variables = parameters 0 ps; lent = λ x. false }) c (length ps) (within (record { marks = []; next = 0 }) (S.parameters w ps bs)).marks (entering_parameters w 0 no_variables ps bs) (setting (owned_parameters w 0 ps bs) false (has (borrowed_parameters w 0 ps bs)))

@@ -20,6 +20,7 @@ use Rattle.derivation_walk.specs.Walked as W
 use Rattle.derivation_walk.specs.Walked.{Owned, credits_from}
 use Rattle.derivation_walk.proofs.credit_check.Amounts.{Long}
 use Rattle.derivation_agreement.proofs.Sited.{Sited, AllSited}
+use Rattle.tail_groups.proofs.fip_language.Facts.{suc_same as suc_test}
 
 -- ---- credits
 
@@ -84,9 +85,6 @@ fewer h (u ∷ us) = by (h u.binder) (fewer h us)
     by : (b : Bool) → length (numbers (those h us)) ≤ length (numbers us) → length (numbers (if b then u ∷ those h us else those h us)) ≤ suc (length (numbers us))
     by true l = omega (arith, l)
     by false l = omega (arith, l)
-
-suc_test : (m n : ℕ) → (suc m == suc n) ≡ (m == n)
-suc_test m n = grind (arith, nat_tests)
 
 less_test : (m n : ℕ) → m ≤ n → (m == suc n) ≡ false
 less_test m n l = ne_eqb m (suc n) (λ e. absurd (omega (arith, e, l)))

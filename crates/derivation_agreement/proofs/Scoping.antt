@@ -17,25 +17,10 @@ use Rattle.derivation_making.specs.derivation_check.Owned.{owned, root, Rising, 
 use Rattle.derivation_making.specs.derivation_check.Scopes.{Known, Scope, known, named, binding, lending, AreNumbered}
 use Rattle.derivation_making.specs.derivation_check.Calculus.{numbers, own_variables}
 use Rattle.derivation_agreement.proofs.Sharing.{count_of, env, fits_same}
+use Rattle.tail_groups.proofs.fip_language.Facts.{and_not_true as and_false, and_true_back as and_true, or_false_first as or_rest, or_first, same_some_implicit as some_same, unequal_apart as not_same}
+pub use Rattle.tail_groups.proofs.fip_language.Facts.{equal_true as number_test, if_false as passed_over, if_true as chosen, same_number, true_or_false as either, unequal_false as other_test}
 
 -- ---- numbers
-
-pub same_number : (x y : ℕ) → (x == y) ≡ true → x ≡ y
-same_number x y h = grind (arith, nat_tests)
-
-pub number_test : (x y : ℕ) → x ≡ y → (x == y) ≡ true
-number_test x y h = grind (arith, nat_tests)
-
-pub other_test : (x y : ℕ) → (x ≡ y → ⊥) → (x == y) ≡ false
-other_test x y h = grind (arith, nat_tests)
-
-pub chosen : {A : Type 0} (b : Bool) (u v : A) → b ≡ true → (if b then u else v) ≡ u
-chosen true u v e = refl
-chosen false u v e = absurd (cc)
-
-pub passed_over : {A : Type 0} (b : Bool) (u v : A) → b ≡ false → (if b then u else v) ≡ v
-passed_over true u v e = absurd (cc)
-passed_over false u v e = refl
 
 pub one_true : (x y : ℕ) → (x == y) ≡ true → one x y ≡ 1
 one_true x y e = chosen (x == y) 1 0 e
@@ -83,14 +68,6 @@ given_below n d x xs h e = by (nat_lt x d) refl
     by true f = grind (arith, nat_tests)
     by false f = let l : d ≤ x = grind (arith, nat_tests) in let g = given_past n d x xs h l in absurd (omega arith)
 
-or_first : (a b : Bool) → a ≡ true → (a || b) ≡ true
-or_first true b e = refl
-or_first false b e = absurd (cc)
-
-or_rest : (a b : Bool) → a ≡ false → (a || b) ≡ b
-or_rest true b e = absurd (cc)
-or_rest false b e = refl
-
 some_given : (m n : ℕ) → nat_lt 0 n ≡ nat_lt 0 (0 + n)
 some_given m n = let e : n ≡ 0 + n = omega arith in ap (nat_lt 0) e
 
@@ -114,15 +91,6 @@ has_none n xs e = has_given n xs ∙ ap (nat_lt 0) e
 
 positive : (n : ℕ) → nat_lt 0 (suc n) ≡ true
 positive n = let l : 0 < suc n = omega arith in grind (arith, nat_tests)
-
-and_true : (b : Bool) → b ≡ (b && true)
-and_true true = refl
-and_true false = refl
-
-and_false : (a b : Bool) → b ≡ true → (a && not b) ≡ false
-and_false true true e = refl
-and_false true false e = absurd (cc)
-and_false false b e = refl
 
 left_one : (a b : ℕ) → a ≤ 1 → b ≤ a → nat_lt 0 (a - b) ≡ (nat_lt 0 a && not (nat_lt 0 b))
 left_one zero b l m = let f : zero - b ≡ 0 = omega arith in ap (nat_lt 0) f
@@ -198,18 +166,11 @@ known_skip b d own vs y n = passed_over (b.number == y) (Some record { binder = 
 known_here : (b : Binder) (d : ℕ) (own : Bool) (vs : List Known) (y : ℕ) → b.number ≡ y → known (record { binder = b.number; number = d; ty = b.ty; owned = own } ∷ vs) y ≡ Some record { binder = b.number; number = d; ty = b.ty; owned = own }
 known_here b d own vs y n = chosen (b.number == y) (Some record { binder = b.number; number = d; ty = b.ty; owned = own }) (known vs y) (number_test b.number y n)
 
-pub either : (b : Bool) → (b ≡ true) ⊎ (b ≡ false)
-either true = inl refl
-either false = inr refl
-
 entered_here : (sc : Scalars) (c y : ℕ) (s : Bool) → c ≡ y → (if c == y then s else sc y) ≡ s
 entered_here sc c y s e = chosen (c == y) s (sc y) (number_test c y e)
 
 entered_skip : (sc : Scalars) (c y : ℕ) (s : Bool) → (c ≡ y → ⊥) → (if c == y then s else sc y) ≡ sc y
 entered_skip sc c y s e = passed_over (c == y) s (sc y) (other_test c y e)
-
-not_same : (c y : ℕ) → (c == y) ≡ false → c ≡ y → ⊥
-not_same c y f e = let t = number_test c y e in absurd (cc)
 
 pub where_is : (w : World) (own : Bool) (c : Names) (d : ℕ) (bs : List Binder) (vs : List Known) (sc : Scalars) (y : ℕ) → AreNumbered c.next d bs → IsNew w own c d bs vs sc y ⊎ IsOld w own c d bs vs sc y
 where_is w own c d [] vs sc y h = inr record { is_known = refl; listed = refl; scalar = refl; marked = refl }
@@ -341,9 +302,6 @@ set_here ys b B y e = chosen (has ys y) b (B y) e
 
 set_skip : (ys : List ℕ) (b : Bool) (B : ℕ → Bool) (y : ℕ) → has ys y ≡ false → setting ys b B y ≡ B y
 set_skip ys b B y e = passed_over (has ys y) b (B y) e
-
-some_same : {A : Type 0} {u v : A} → Some u ≡ Some v → u ≡ v
-some_same e = cc
 
 pub sees_open : (w : World) (own : Bool) (s : Scope) (b : ℕ) (c : Names) (d e f : ℕ) (bs : List Binder) (sc : Scalars) (B : ℕ → Bool) → Sees w s b d c.marks sc B → b ≤ c.next → AreNumbered c.next d bs → c.next + length bs ≤ e → d + length bs ≤ f → Sees w (binding d own bs s) e f (inside w own c bs).marks (entering w c.next sc bs) (setting (variables w c.next bs) (not own) B)
 sees_open w own s b c d e f bs sc B h l a m n = record {

@@ -15,6 +15,7 @@ use Rattle.derivation_walk.specs.Tables.{zeros, numbers_from, numbers_of}
 use Rattle.derivation_walk.specs.Lookups.{number_at, variable_at}
 use Rattle.derivation_making.specs.Numbered.{Numbered, NumberedBlock, NumberedClauses, IsNumbered}
 use Rattle.derivation_agreement.proofs.Seeing.{slots, slots_in, slots_parts, slots_clauses, parameter_slots}
+use Rattle.tail_groups.proofs.fip_language.Facts.{get_seam, set_length}
 
 -- ---- parts of lists
 
@@ -34,10 +35,6 @@ piece_second whole xs ys i j e h = record {
   is = h.is ∙ ap (λ z. h.before ++ z) (append_assoc xs ys h.behind) ∙ sym (append_assoc h.before xs (ys ++ h.behind));
   at = let l = length-append h.before xs in let a = h.at in omega (arith, l, a, e);
 }
-
-get_seam : {A : Type 0} (xs : List A) (y : A) (ys : List A) → slice_get (xs ++ y ∷ ys) (length xs) ≡ Some y
-get_seam [] y ys = refl
-get_seam (x ∷ xs) y ys = get_seam xs y ys
 
 pub piece_get : {A : Type 0} (whole ys : List A) (y : A) (i : ℕ) → Piece whole (y ∷ ys) i → slice_get whole i ≡ Some y
 piece_get whole ys y i h = ap (λ k. slice_get whole k) (sym h.at) ∙ ap (λ z. slice_get z (length h.before)) h.is ∙ get_seam h.before y (ys ++ h.behind)
@@ -262,11 +259,6 @@ set_other (x ∷ xs) zero zero n h = absurd (h refl)
 set_other (x ∷ xs) zero (suc j) n h = refl
 set_other (x ∷ xs) (suc i) zero n h = refl
 set_other (x ∷ xs) (suc i) (suc j) n h = set_other xs i j n (λ e. h (ap suc e))
-
-set_length : (xs : List ℕ) (i n : ℕ) → length (set xs i n) ≡ length xs
-set_length [] i n = refl
-set_length (x ∷ xs) zero n = refl
-set_length (x ∷ xs) (suc i) n = ap suc (set_length xs i n)
 
 number_later : (x n : ℕ) (ns : List ℕ) (vs : List Bound) → Apart x vs → get_or (numbers_from ns n vs) x 0 ≡ get_or ns x 0
 number_later x n ns [] h = refl

@@ -30,6 +30,7 @@ use Rattle.derivation_check.proofs.Inside.{split_bound, within_bound, taking_mat
 use Rattle.derivation_check.proofs.Weakened.{variables_same, credits_same, parts_same}
 use Rattle.derivation_check.proofs.Numbers.{drop_item, drop_end, rising_more}
 use Rattle.derivation_check.proofs.Rows.{row_first, row_none}
+use Rattle.fip_base.proofs.fip_language.Facts.{map_append as map_more, take_past}
 
 -- ---- one binding more
 
@@ -40,10 +41,6 @@ take_more {A} xs i x z l e = let s : suc i ≡ i + 1 = omega arith in sym (ap (�
     of [] i l e = absurd (omega arith)
     of (y ∷ ys) zero l e = ap (λ (v : A). v ∷ []) (sym e)
     of (y ∷ ys) (suc i) l e = ap (λ (zs : List A). y ∷ zs) (of ys i (omega arith) e)
-
-map_more : {A B : Type 0} (f : A → B) (xs ys : List A) → map f (xs ++ ys) ≡ map f xs ++ map f ys
-map_more f [] ys = refl
-map_more {A} {B} f (x ∷ xs) ys = ap (λ (zs : List B). f x ∷ zs) (map_more f xs ys)
 
 -- how many binders stand in some bindings
 abbrev pub total : List BoundPart → ℕ
@@ -122,12 +119,6 @@ block_step w s t c d ns first bs last count place i more next b h l e q m r z a 
       up = λ g. h.up (subst (λ xs. DerivesBlock w (bindings d (map V.binding (take i bs)) s) (c + count) (d + count) (at ns place) (block_of (map V.binding xs) last)) (sym (drop_item bs i b b l e)) (subst (λ u. DerivesBlock w u (c + count) (d + count) (at ns place) (T.Let (V.binding b).binders (V.binding b).bound (block_of (map V.binding (drop (i + 1) bs)) last))) q (f (block_of (map V.binding (drop (i + 1) bs)) last) (subst (λ u. DerivesBlock w (binding (d + count) true (V.binding b).binders u) (c + count + more) (d + count + more) (at ns next) (block_of (map V.binding (drop (i + 1) bs)) last)) (sym q) (subst (λ u. DerivesBlock w u (c + count + more) (d + count + more) (at ns next) (block_of (map V.binding (drop (i + 1) bs)) last)) (ap (λ xs. bindings d xs s) k ∙ bindings_more d count (map V.binding (take i bs)) (V.binding b) s h.counted) (subst (λ n. DerivesBlock w (bindings d (map V.binding (take (i + 1) bs)) s) n (d + count + more) (at ns next) (block_of (map V.binding (drop (i + 1) bs)) last)) (sym y) (subst (λ n. DerivesBlock w (bindings d (map V.binding (take (i + 1) bs)) s) (c + (count + more)) n (at ns next) (block_of (map V.binding (drop (i + 1) bs)) last)) (sym x) g)))))));
       down = λ g. subst (λ n. DerivesBlock w (bindings d (map V.binding (take (i + 1) bs)) s) (c + (count + more)) n (at ns next) (block_of (map V.binding (drop (i + 1) bs)) last)) x (subst (λ n. DerivesBlock w (bindings d (map V.binding (take (i + 1) bs)) s) n (d + count + more) (at ns next) (block_of (map V.binding (drop (i + 1) bs)) last)) y (subst (λ u. DerivesBlock w u (c + count + more) (d + count + more) (at ns next) (block_of (map V.binding (drop (i + 1) bs)) last)) (sym (ap (λ xs. bindings d xs s) k ∙ bindings_more d count (map V.binding (take i bs)) (V.binding b) s h.counted)) (subst (λ u. DerivesBlock w (binding (d + count) true (V.binding b).binders u) (c + count + more) (d + count + more) (at ns next) (block_of (map V.binding (drop (i + 1) bs)) last)) q (j (block_of (map V.binding (drop (i + 1) bs)) last) (block_here w s t c d ns first bs last count place i b h l e q g)))));
     }
-
-take_past : {A : Type 0} (xs : List A) (i : ℕ) → length xs ≤ i → take i xs ≡ xs
-take_past [] zero l = refl
-take_past [] (suc i) l = refl
-take_past (x ∷ xs) zero l = absurd (omega arith)
-take_past {A} (x ∷ xs) (suc i) l = ap (λ (ys : List A). x ∷ ys) (take_past xs i (omega arith))
 
 pub block_end : (w : World) (s t : Scope) (c d : ℕ) (ns : List Node) (first : ℕ) (bs : List N.Binding) (last : T.Expression) (count place i more : ℕ) (k : T.Block) → BlockAt w s c d ns first bs last count place i → length bs ≤ i → t ≡ bindings d (map V.binding bs) s → k ≡ block_of (map V.binding bs) last → more ≡ within last → DerivesBlock w t (c + count) (d + count) (at ns place) (T.Last last) → (count + more ≡ within_block k) × DerivesBlock w s c d (at ns first) k
 block_end w s t c d ns first bs last count place i more k h l q e m g = (

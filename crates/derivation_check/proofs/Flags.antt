@@ -3,6 +3,7 @@ use Rattle.std.proofs.Common.{◌≡◌, ℕ, zero, suc, ◌<◌, ◌≤◌, ◌
 use Rattle.std.proofs.lemmas.List.{get_or-set_same}
 use Rattle.std.specs.Prelude.{slice_get}
 use Rattle.fip_trees.specs.fip_language.Table.{Table, shapes, is_scalar, all_bare}
+use Rattle.fip_base.proofs.fip_language.Facts.{less_or_last as upto}
 
 none_there : (tb : Table) (t : ℕ) → length tb ≤ t → shapes tb t ≡ []
 none_there [] t h = refl
@@ -12,12 +13,6 @@ none_there (r ∷ rs) (suc t) h = none_there rs t (omega arith)
 pub past_scalar : (tb : Table) (t : ℕ) → length tb < t → is_scalar tb t ≡ true
 past_scalar tb zero h = absurd (omega arith)
 past_scalar tb (suc t) h = ap all_bare (none_there tb t (omega arith))
-
-upto : (t n : ℕ) → t < n + 1 → (t < n) ⊎ (t ≡ n)
-upto zero zero h = inr refl
-upto zero (suc n) h = inl (omega arith)
-upto (suc t) zero h = absurd (omega arith)
-upto (suc t) (suc n) h = elim (upto t n (omega arith)) [ inl g ↦ inl (omega arith) | inr g ↦ inr (ap suc g) ]
 
 set_below : (xs : List Bool) (i t : ℕ) (b : Bool) → t < i → get_or (set xs i b) t true ≡ get_or xs t true
 set_below [] i t b l = refl

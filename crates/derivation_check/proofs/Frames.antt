@@ -20,6 +20,7 @@ use Rattle.derivation_check.proofs.Numbers.{given_here, given_other, drop_item}
 use Rattle.derivation_check.specs.Places.{IsRising}
 use Rattle.derivation_check.specs.Scopes.{Known, Scope, known, named, parameters, binding, AreNumbered, within}
 use Rattle.derivation_check.specs.ScopeView.{Frame, HeaderFrame, ClauseFrame, BindingsFrame, BoundFrame, frames, frames_step, bindings, scope_of, AreBindings, Fits, first, known_as, start}
+use Rattle.fip_base.proofs.fip_language.Facts.{get_there as get_some, map_length as length_map, or_last as or_true, same_some_implicit as some_one}
 
 -- ---- frames at each form
 
@@ -177,20 +178,8 @@ get_same f (y ∷ ys) (suc i) x z l e = get_same f ys i x z (omega arith) e
 pub binding_there : (bs : List N.Binding) (j : ℕ) (n : N.Binding) → j < length bs → n ≡ get_or bs j n → slice_get (map V.binding bs) j ≡ Some (V.binding n)
 binding_there bs j n l e = get_same V.binding bs j n n l e
 
-some_one : {A : Type 0} {u v : A} → Some u ≡ Some v → u ≡ v
-some_one e = cc
-
 pub binders_there : (bs : List N.Binding) (j : ℕ) (n : N.Binding) (b : BoundPart) → j < length bs → n ≡ get_or bs j n → slice_get (map V.binding bs) j ≡ Some b → b.binders ≡ (N.out-Binding n).binders.items
 binders_there bs j n b l e g = ap (λ (v : BoundPart). v.binders) (some_one (sym g ∙ binding_there bs j n l e) ∙ binding_is n)
-
-get_some : {A : Type 0} (xs : List A) (i : ℕ) → i < length xs → (x : A) × (slice_get xs i ≡ Some x)
-get_some [] i l = absurd (omega arith)
-get_some (x ∷ xs) zero l = (x, refl)
-get_some (x ∷ xs) (suc i) l = get_some xs i (omega arith)
-
-length_map : {A B : Type 0} (f : A → B) (xs : List A) → length (map f xs) ≡ length xs
-length_map f [] = refl
-length_map f (x ∷ xs) = ap suc (length_map f xs)
 
 pub some_binding : (bs : List N.Binding) (j : ℕ) → j < length bs → (b : BoundPart) × (slice_get (map V.binding bs) j ≡ Some b)
 some_binding bs j l = get_some (map V.binding bs) j (let e = length_map V.binding bs in omega arith)
@@ -277,10 +266,6 @@ lent_clause t s q taken c d x e = ap (λ fs. (scope_of fs).lent x) (ap frames e 
 
 pub lent_bindings : (t : D.Scope) (s : Bor D.Scope) (bs : Bor (List N.Binding)) (c d x : ℕ) → t ≡ SV.Bindings s bs c d → (scope_of (frames t)).lent x ≡ (scope_of (frames s.now)).lent x
 lent_bindings t s bs c d x e = ap (λ fs. (scope_of fs).lent x) (ap frames e ∙ frames_bindings s bs c d) ∙ bindings_lend d (map V.binding bs.now) (scope_of (frames s.now)) x
-
-or_true : (a b : Bool) → b ≡ true → (a || b) ≡ true
-or_true true b e = refl
-or_true false b e = e
 
 or_false : (a b : Bool) → b ≡ false → (a || b) ≡ a
 or_false true b e = refl

@@ -20,6 +20,7 @@ use Rattle.derivation_check.specs.Calculus.{Choice, DerivesBlock}
 use Rattle.derivation_check.specs.Accepted.{owned_parameters, starting, DerivesInstance, FirstEntry, AreDerived}
 use Rattle.derivation_check.proofs.Frames.{frames_header}
 use Rattle.derivation_check.proofs.Numbers.{drop_item, drop_end, drop_one, drop_nothing, same_rising}
+use Rattle.fip_base.proofs.fip_language.Facts.{or_false_false as or_none, or_last as or_lent}
 
 pub fits_header : (ps : Bor (List Param)) → Fits (frames (SV.Header ps))
 fits_header ps = subst Fits (sym (frames_header ps)) _
@@ -29,14 +30,6 @@ scope_header ps = ap scope_of (frames_header ps)
 
 pub parameter_left : (w : World) (n : ℕ) (p : Param) (ps : List Param) (ys : List ℕ) → w.scalar p.ty ≡ true → ys ≡ owned_parameters w (n + 1) ps → ys ≡ owned_parameters w n (p ∷ ps)
 parameter_left w n p ps ys e h = cc
-
-or_lent : (a b : Bool) → b ≡ true → (a || b) ≡ true
-or_lent true b e = refl
-or_lent false b e = e
-
-or_none : (a b : Bool) → a ≡ false → b ≡ false → (a || b) ≡ false
-or_none true b e f = absurd (cc)
-or_none false b e f = f
 
 pub parameter_lent : (w : World) (n : ℕ) (p : Param) (ps : List Param) (ys : List ℕ) → p.lent ≡ true → ys ≡ owned_parameters w (n + 1) ps → ys ≡ owned_parameters w n (p ∷ ps)
 parameter_lent w n p ps ys e h = let f = or_lent (w.scalar p.ty) p.lent e in cc

@@ -5,6 +5,7 @@ use Rattle.std.specs.Prelude.{slice_get, if◌then◌else◌, ◌==◌}
 use Rattle.ownership_calculus.specs.Terms.{one, given}
 use Rattle.derivation_trees.specs.declared.derivation.Credit.{Credit}
 use Rattle.derivation_check.specs.Owned.{Rising, RisingSizes, amount}
+pub use Rattle.fip_base.proofs.fip_language.Facts.{drop_end}
 
 -- ---- lists from a place on
 
@@ -15,12 +16,6 @@ drop_suc (y ∷ ys) (suc i) x z l e = drop_suc ys i x z (omega arith) e
 
 pub drop_item : {A : Type 0} (xs : List A) (i : ℕ) (x z : A) → i < length xs → x ≡ get_or xs i z → drop i xs ≡ x ∷ drop (i + 1) xs
 drop_item xs i x z l e = let s : suc i ≡ i + 1 = omega arith in drop_suc xs i x z l e ∙ ap (λ k. x ∷ drop k xs) s
-
-pub drop_end : {A : Type 0} (xs : List A) (i : ℕ) → length xs ≤ i → drop i xs ≡ []
-drop_end [] zero l = refl
-drop_end [] (suc i) l = refl
-drop_end (x ∷ xs) zero l = absurd (omega arith)
-drop_end (x ∷ xs) (suc i) l = drop_end xs i (omega arith)
 
 drop_more : {A : Type 0} (i : ℕ) (xs : List A) → drop 1 (drop i xs) ≡ drop (suc i) xs
 drop_more zero xs = refl

@@ -18,6 +18,7 @@ use Rattle.derivation_check.specs.Scopes.{AreNumbered}
 use Rattle.derivation_check.specs.Calculus.{numbers}
 use Rattle.derivation_check.specs.Owned.{Rising}
 use Rattle.derivation_check.proofs.Numbers.{drop_item, drop_end, drop_one, drop_nothing, drop_rising, given_before, given_past, rising_take, same_rising}
+use Rattle.fip_base.proofs.fip_language.Facts.{append_associates as append_assoc, append_nil, length_append as length_more}
 
 pub constructor_binders : (a : P.Pattern) (t d c : ℕ) (n : Name) (q : Place) (v : Vec P.Pattern Global) → a ≡ PV.Constructor t d c n q v → binders (V.pattern a) ≡ binders_all (V.patterns v.items)
 constructor_binders a t d c n q v e = ap (λ b. binders (V.pattern b)) e ∙ ap binders (pattern_constructor t d c n q v)
@@ -45,10 +46,6 @@ patterns_binders ps i p l e = ap (λ qs. binders_all (V.patterns qs)) (drop_item
 
 pub patterns_none : (ps : List P.Pattern) (i : ℕ) → length ps ≤ i → binders_all (V.patterns (drop i ps)) ≡ []
 patterns_none ps i l = ap (λ qs. binders_all (V.patterns qs)) (drop_end ps i l)
-
-length_more : {A : Type 0} (us vs : List A) → length (us ++ vs) ≡ length us + length vs
-length_more [] vs = omega arith
-length_more (u ∷ us) vs = let h = length_more us vs in omega arith
 
 -- where a walk through the patterns of a constructor stands
 pub record NumberedAt (c d k : ℕ) (ps : List P.Pattern) (i : ℕ) : Type 0 where
@@ -118,10 +115,6 @@ next_owns w d i b bs ys e h = drop_rest i d ys (numbers w (d + 1) bs) (h ∙ num
 pub none_owns : (w : World) (d i : ℕ) (b : Binder) (bs : List Binder) (ys : List ℕ) → w.scalar b.ty ≡ false → (drop i ys ≡ d ∷ drop (i + 1) ys → ⊥) → drop i ys ≡ numbers w d (b ∷ bs) → ⊥
 none_owns w d i b bs ys e n h = n (h ∙ numbers_next w d b bs e ∙ ap (λ (xs : List ℕ). d ∷ xs) (sym (next_owns w d i b bs ys e h)))
 
-append_assoc : {A : Type 0} (us vs ws : List A) → us ++ (vs ++ ws) ≡ (us ++ vs) ++ ws
-append_assoc [] vs ws = refl
-append_assoc {A} (u ∷ us) vs ws = ap (λ (xs : List A). u ∷ xs) (append_assoc us vs ws)
-
 pub record OwnsAt (w : World) (owned : List ℕ) (ps : List P.Pattern) (d q e p i : ℕ) : Type 0 where
   pub next : e + length (binders_all (V.patterns (drop i ps))) ≡ d + length (binders_all (V.patterns ps))
   pub up : (bs : List Binder) → drop p owned ≡ numbers w e (binders_all (V.patterns (drop i ps)) ++ bs) → drop q owned ≡ numbers w d (binders_all (V.patterns ps) ++ bs)
@@ -189,10 +182,6 @@ take_rest {A} zero (x ∷ xs) = take_whole (length (x ∷ xs) - 0) (x ∷ xs) (o
     take_whole zero (y ∷ ys) e = absurd (omega arith)
     take_whole (suc n) (y ∷ ys) e = ap (λ (zs : List A). y ∷ zs) (take_whole n ys (omega arith))
 take_rest (suc k) (x ∷ xs) = let e : length (x ∷ xs) - suc k ≡ length xs - k = omega arith in ap (λ n. take n (drop k xs)) e ∙ take_rest k xs
-
-append_nil : {A : Type 0} (xs : List A) → xs ++ [] ≡ xs
-append_nil [] = refl
-append_nil {A} (x ∷ xs) = ap (λ (ys : List A). x ∷ ys) (append_nil xs)
 
 pub takes_end : (w : World) (high : List ℕ) (p d e : ℕ) (qs : List Binder) → p ≡ length high → ((bs : List Binder) → drop p high ≡ numbers w e bs → drop 0 high ≡ numbers w d (qs ++ bs)) → high ≡ numbers w d qs
 takes_end w high p d e qs l f = drop_zero high ∙ f [] (drop_end high p (omega arith)) ∙ ap (numbers w d) (append_nil qs)

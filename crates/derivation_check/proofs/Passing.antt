@@ -16,6 +16,8 @@ use Rattle.derivation_check.specs.Scopes.{Known, Scope}
 use Rattle.derivation_check.specs.Calculus.{Choice, Plain, Lends, FirstOf, DerivesValue, DerivesPassed}
 use Rattle.derivation_check.proofs.Numbers.{drop_item, drop_end, drop_nothing}
 use Rattle.derivation_check.proofs.Rows.{row_first, row_none}
+use Rattle.fip_base.proofs.fip_language.Facts.{drop_at_next as drop_get, drop_of_none as get_past}
+pub use Rattle.fip_base.proofs.fip_language.Facts.{left_at as drop_got}
 
 pub passed_scalar : (w : World) (s : Scope) (d : ℕ) (p : Param) (a : T.Argument) (ps : List Param) (as' : T.Arguments) (ts : Trees) → w.scalar p.ty ≡ true → Plain w s.variables a → DerivesPassed w s d ps as' ts → DerivesPassed w s d (p ∷ ps) (T.MoreArguments a as') ts
 passed_scalar w s d p a ps as' ts e h g = subst (λ b. Choice b (Plain w s.variables a × DerivesPassed w s d ps as' ts) (Choice p.lent (Lends w s a × DerivesPassed w s d ps as' ts) (FirstOf ts (λ t us. DerivesValue w s.variables d t a × DerivesPassed w s d ps as' us)))) (sym e) (h, g)
@@ -57,17 +59,6 @@ given_passed w s d p a ps as' ts e l h =
     let f = first_of ts (λ t us. DerivesValue w s.variables d t a × DerivesPassed w s d ps as' us) (choice_false p.lent (Lends w s a × DerivesPassed w s d ps as' ts) (FirstOf ts (λ t us. DerivesValue w s.variables d t a × DerivesPassed w s d ps as' us)) l (choice_false (w.scalar p.ty) (Plain w s.variables a × DerivesPassed w s d ps as' ts) (Choice p.lent (Lends w s a × DerivesPassed w s d ps as' ts) (FirstOf ts (λ t us. DerivesValue w s.variables d t a × DerivesPassed w s d ps as' us))) e h)) in
     (f.0, f.1, f.2, f.3.0, f.3.1)
 
-drop_get : {A : Type 0} (xs : List A) (i : ℕ) (x : A) → slice_get xs i ≡ Some x → drop i xs ≡ x ∷ drop (suc i) xs
-drop_get [] i x e = absurd (cc)
-drop_get {A} (y ∷ ys) zero x e = let f : y ≡ x = some_one e in ap (λ (v : A). v ∷ ys) f
-  where
-    some_one : {u v : A} → Some u ≡ Some v → u ≡ v
-    some_one e = cc
-drop_get (y ∷ ys) (suc i) x e = drop_get ys i x e
-
-pub drop_got : {A : Type 0} (xs : List A) (i : ℕ) (x : A) → slice_get xs i ≡ Some x → drop i xs ≡ x ∷ drop (i + 1) xs
-drop_got xs i x e = let q : suc i ≡ i + 1 = omega arith in drop_get xs i x e ∙ ap (λ m. x ∷ drop m xs) q
-
 -- one parameter and argument more
 pub passed_up : (w : World) (s : Scope) (d i j : ℕ) (ps : List Param) (p : Param) (as' : List A.Argument) (a : A.Argument) (ts us : Trees) → j ≡ i → slice_get ps j ≡ Some p → i < length as' → a ≡ get_or as' i a → ((qs : List Param) (bs : T.Arguments) → DerivesPassed w s d qs bs us → DerivesPassed w s d (p ∷ qs) (T.MoreArguments (V.argument a) bs) ts) → DerivesPassed w s d (drop (i + 1) ps) (V.arguments (drop (i + 1) as')) us → DerivesPassed w s d (drop i ps) (V.arguments (drop i as')) ts
 passed_up w s d i j ps p as' a ts us n e l f h g =
@@ -80,12 +71,6 @@ passed_down w s d i j ps p as' a ts n e l f h =
     let q : suc i ≡ i + 1 = omega arith in
     let k : drop i ps ≡ p ∷ drop (i + 1) ps = drop_get ps i p (ap (slice_get ps) (sym n) ∙ e) ∙ ap (λ m. p ∷ drop m ps) q in
     subst (λ bs. DerivesPassed w s d (p ∷ drop (i + 1) ps) (V.arguments bs) ts) (drop_item as' i a a l f) (subst (λ qs. DerivesPassed w s d qs (V.arguments (drop i as')) ts) k h)
-
-get_past : {A : Type 0} (xs : List A) (i : ℕ) → slice_get xs i ≡ None → drop i xs ≡ []
-get_past [] zero e = refl
-get_past [] (suc i) e = refl
-get_past (x ∷ xs) zero e = absurd (cc)
-get_past (x ∷ xs) (suc i) e = get_past xs i e
 
 pub passed_short : (w : World) (s : Scope) (d i j : ℕ) (ps : List Param) (as' : List A.Argument) (a : A.Argument) (ts : Trees) → j ≡ i → slice_get ps j ≡ None → i < length as' → a ≡ get_or as' i a → DerivesPassed w s d (drop i ps) (V.arguments (drop i as')) ts → ⊥
 passed_short w s d i j ps as' a ts n e l f h =

@@ -7,6 +7,7 @@ use Rattle.derivation_trees.proofs.Places.{tree_is, tree_missing}
 use Rattle.ownership_calculus.specs.Terms.{Item, Own, Credit, given}
 use Rattle.derivation_check.specs.Owned.{IsOwned, AreOwned, root, roots, amount}
 use Rattle.derivation_check.specs.Places.{at, parts, behind, branch}
+use Rattle.fip_base.proofs.fip_language.Facts.{get_none}
 
 head_some : (ns : List Node) (i : ℕ) (n : Node) → slice_get ns i ≡ Some n → slice_get (heads ns) i ≡ Some (head n)
 head_some [] i n e = absurd (cc)
@@ -31,11 +32,6 @@ behind_some ns i n e = ap (λ o. i + span_of o) (head_some ns i n e)
 
 pub behind_none : (ns : List Node) (i : ℕ) → slice_get ns i ≡ None → behind ns i ≡ i
 behind_none ns i e = let h : behind ns i ≡ i + 0 = ap (λ o. i + span_of o) (head_none ns i e) in omega arith
-
-get_none : {A : Type 0} (xs : List A) (i : ℕ) → length xs ≤ i → slice_get xs i ≡ None
-get_none [] i l = refl
-get_none (x ∷ xs) zero l = absurd (omega arith)
-get_none (x ∷ xs) (suc i) l = get_none xs i (omega arith)
 
 -- behind the list there is nothing
 pub past_tree : (ns : List Node) (i j : ℕ) → length ns ≤ i → length ns ≤ j → at ns i ≡ at ns j

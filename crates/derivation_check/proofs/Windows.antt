@@ -6,6 +6,7 @@ use Rattle.derivation_trees.specs.Trees.{Trees}
 use Rattle.derivation_check.specs.Owned.{Rising, roots}
 use Rattle.derivation_check.specs.Places.{IsRising, flag, Marked}
 use Rattle.derivation_check.proofs.Numbers.{given_before, given_here, given_other, take_next}
+use Rattle.fip_base.proofs.fip_language.Facts.{take_past as take_all}
 
 -- ---- places in lists that rise
 
@@ -131,12 +132,6 @@ seen_more xs i v x l e = let s : suc i ≡ i + 1 = omega arith in sym (ap (λ k.
 
 pub seen_room : (xs : List ℕ) (i v a b : ℕ) → i < length xs → v ≡ get_or xs i 0 → a + given v xs ≤ b → a + given v (take i xs) + 1 ≤ b
 seen_room xs i v a b l e h = let g = seen_more xs i v v l e in let o = one_same v in let t = take_few xs (i + 1) v in omega arith
-
-take_all : {A : Type 0} (xs : List A) (i : ℕ) → length xs ≤ i → take i xs ≡ xs
-take_all [] zero l = refl
-take_all [] (suc i) l = refl
-take_all (x ∷ xs) zero l = absurd (omega arith)
-take_all {A} (x ∷ xs) (suc i) l = ap (λ (ys : List A). x ∷ ys) (take_all xs i (omega arith))
 
 pub seen_all : (xs : List ℕ) (i x : ℕ) → length xs ≤ i → given x (take i xs) ≡ given x xs
 seen_all xs i x l = ap (given x) (take_all xs i l)

@@ -17,6 +17,7 @@ use Rattle.source_report.specs.tail_groups.Registers as R
 use Rattle.source_report.specs.cell_lower.Limits.{is_ruled, matches_wide, exceeds, registers, registers_of, BreaksFrom}
 use Rattle.source_report.specs.Report.{IsAccepted}
 use Rattle.fip_proof.specs.derivation_check.Scopes.{within, within_block, within_clauses}
+use Rattle.source_report.proofs.cell_lower.fip_language.Facts.{get_there as there}
 
 both_many : (xs ys : List Binder) → length (xs ++ ys) ≡ length xs + length ys
 both_many [] ys = omega arith
@@ -79,11 +80,6 @@ breaks_at tb ms i (x ∷ xs) (suc j) d at h =
     let e : suc i + j ≡ i + suc j = omega arith in
     inr (subst (λ k. BreaksFrom tb ms (suc i) xs (violation E60 d.place k 0 d.name)) e
     (breaks_at tb ms (suc i) xs j d at (subst (λ k. exceeds tb (registers ms k) d ≡ true) (sym e) h)))
-
-there : {A : Type 0} (xs : List A) (j : ℕ) → j < length xs → (x : A) × (slice_get xs j ≡ Some x)
-there [] j h = absurd (omega (arith, h))
-there (x ∷ xs) zero h = (x, refl)
-there (x ∷ xs) (suc j) h = there xs j (omega (arith, h))
 
 not_many : (n : ℕ) → (nat_lt MOST_REGISTERS n ≡ true → ⊥) → n < suc MOST_REGISTERS
 not_many n h = by (nat_lt MOST_REGISTERS n) refl

@@ -40,6 +40,7 @@ use Rattle.derivation_making.proofs.Passing.{Passes, plain_apart, passed_well}
 use Rattle.derivation_making.proofs.Standing.{Stands, Asks, all_asked, asked_few, asked_kept, asked_there, holding, enter, enter_asks}
 use Rattle.derivation_making.proofs.Lets.{bound_asks, rest_asks, bound_stands, rest_stands, let_derives}
 use Rattle.derivation_making.proofs.Matches.{Faces, OneFaces, face_last, face_first, face_rest, credits_fit, greater_left, greater_right, Goes, stands_sub, match_is, clause_is}
+use Rattle.type_check.proofs.fip_language.Facts.{and_not_false as no_scalar, not_true, or_false_false as neither, or_first, or_last}
 
 -- ---- what is there at the root
 
@@ -84,9 +85,6 @@ operand_made w vs (Variable x n p) k h = refl
 operand_made w vs (Literal i p) k h = refl
 operand_made w vs (Constructor t d c n p as') k h = absurd h
 
-neither : (a b : Bool) → a ≡ false → b ≡ false → (a || b) ≡ false
-neither a b e f = cc
-
 operation_is : (w : World) (sp : Scope) (c : Names) (sc : Scalars) (d : ℕ) (there : List Known) (t : Tree) (l r : Argument) → Holding w sp.variables c sc d there → Operand w sp.variables l → Operand w sp.variables r → Under (is_fip w.kind) d t (Branch R.Scalar (numbers (those (λ x. occurs_value x l || occurs_value x r) there)) (credits (λ k. made k l + made k r)) NoTrees) → Leaf (is_fip w.kind) d R.Scalar t
 operation_is w sp c sc d there t l r h f g u =
     let none : those (λ x. occurs_value x l || occurs_value x r) there ≡ [] =
@@ -102,10 +100,6 @@ operation_is w sp c sc d there t l r h f g u =
 call_there : (w : World) (vs : List Known) (o : Option Instance) (as' : Arguments) → FitsCall w vs o as' → (e : Instance) × (o ≡ Some e)
 call_there w vs None as' h = absurd h
 call_there w vs (Some e) as' h = (e, refl)
-
-not_true : (b : Bool) → not b ≡ true → b ≡ false
-not_true true h = absurd (cc)
-not_true false h = refl
 
 call_is : (p : Program) (f : FunKind) (sp : Scope) (c : Names) (sc : Scalars) (d : ℕ) (there : List Known) (have : ℕ → ℕ) (s : ℕ → Status) (g : ℕ) (n : List ℕ) (e : Instance) (as' : Arguments) (t : Tree) (needed : ℕ → ℕ) → Linked (world p f) sp.variables c sc → slice_get p.instances g ≡ Some e → FitPassed (world p f) sp.variables e.params as' → SizedArguments p as' → AreSizes e.credits → ((k : ℕ) → 0 < k → k < 17 → needed k ≡ made_all k as' + N.marked k e.credits) → Stands (world p f) sp d there s (λ x. occurs_values x as') → K.CleanPassed s (passed (world p f) sc c.marks g 0 as') → ((x : ℕ) → K.passed_used_up (passed (world p f) sc c.marks g 0 as') (Own x) ≤ tally x there) → is_weaker f e.kind ≡ false → Under (is_fip f) d t (Branch R.Call (numbers (those (λ x. occurs_values x as') there)) (credits needed) (made_passed (world p f) sp.variables there e.params as')) → Calls (world p f) sp d (Some e) as' t
 call_is p f sp c sc d there have s g n e as' t needed l is fit sized header amounts h clean asked weak u =
@@ -138,18 +132,6 @@ call_is p f sp c sc d there have s g n e as' t needed l is fit sized header amou
     )
 
 -- ---- matches
-
-no_scalar : (k b : Bool) → (k && not b) ≡ true → b ≡ false
-no_scalar true true h = absurd (cc)
-no_scalar true false h = refl
-no_scalar false b h = absurd (cc)
-
-or_first : (a b : Bool) → a ≡ true → (a || b) ≡ true
-or_first a b e = rw (e) refl
-
-or_last : (a b : Bool) → b ≡ true → (a || b) ≡ true
-or_last true b e = refl
-or_last false b e = e
 
 variable_free : (b : Bool) (p : Program) (f : FunKind) (sc : Scalars) (c : Names) (u k : ℕ) (vs : List Known) (a : Argument) (tc : C.Clauses) → FitsScrutinee (world p f) vs u a → asks (Credit k) (matched (world p f) sc c.marks b a tc) ≡ asks_of b k tc
 variable_free true p f sc c u k vs (Variable x n q) tc h = first (seen c.marks x)

@@ -7,6 +7,7 @@ use Rattle.ownership_agreement.proofs.Amounts.{IsOut}
 use Rattle.derivation_check.specs.Owned.{amount, RisingSizes}
 use Rattle.derivation_making.specs.Made.{counted, credits, same_from}
 use Rattle.derivation_making.proofs.Lists.{either, both_are, and_true, same_number}
+use Rattle.type_check.proofs.fip_language.Facts.{equal_true as same_test}
 
 below_or_not : (k : ℕ) → ((0 < k) × (k < 17)) ⊎ IsOut k
 below_or_not zero = inr (inl refl)
@@ -108,9 +109,6 @@ AreSame f g k (suc n) = (f k ≡ g k) × AreSame f g (suc k) n
 same_all : (f g : ℕ → ℕ) (k n : ℕ) → ((j : ℕ) → k ≤ j → j < k + n → f j ≡ g j) → AreSame f g k n
 same_all f g k zero h = tt
 same_all f g k (suc n) h = (h k (omega arith) (omega arith), same_all f g (suc k) n (λ j a b. h j (omega arith) (omega arith)))
-
-same_test : (x y : ℕ) → x ≡ y → (x == y) ≡ true
-same_test x y h = grind (arith, nat_tests)
 
 same_true : (f g : ℕ → ℕ) (k n : ℕ) → AreSame f g k n → same_from f g k n ≡ true
 same_true f g k zero h = refl

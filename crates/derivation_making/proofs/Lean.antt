@@ -24,12 +24,9 @@ use Rattle.derivation_making.proofs.Lists.{given_less}
 use Rattle.derivation_making.proofs.Credits.{amount_in}
 use Rattle.derivation_making.proofs.Arguments.{not_weaken}
 use Rattle.derivation_making.proofs.Matches.{greater_left, greater_right}
+use Rattle.type_check.proofs.fip_language.Facts.{and_either as and_false, unequal_apart as differ}
 
 -- ---- something is left out
-
-and_false : (a b : Bool) → (a && b) ≡ false → (a ≡ false) ⊎ (b ≡ false)
-and_false true b h = inr h
-and_false false b h = inl refl
 
 one_left : (b : Bool) (f : ℕ → Bool) (u : Known) (us : List Known) → f u.binder ≡ b → (b && all_those f us) ≡ false → (all_those f us ≡ false → (y : ℕ) × (C.given y (numbers (those f us)) < C.given y (numbers us))) → (y : ℕ) × (C.given y (numbers (if b then u ∷ those f us else those f us)) < C.given y (numbers (u ∷ us)))
 one_left true f u us e h r = let g = r h in (g.0, let l = g.1 in omega arith)
@@ -41,9 +38,6 @@ one_left false f u us e h r = (u.number, let l = given_less f us u.number in let
 variable_left : (f : ℕ → Bool) (us : List Known) → all_those f us ≡ false → (y : ℕ) × (C.given y (numbers (those f us)) < C.given y (numbers us))
 variable_left f [] h = absurd (cc)
 variable_left f (u ∷ us) h = one_left (f u.binder) f u us refl h (λ e. variable_left f us e)
-
-differ : (x y : ℕ) → (x == y) ≡ false → x ≡ y → ⊥
-differ x y h e = grind (arith, nat_tests)
 
 credit_left : (f g : ℕ → ℕ) (k n : ℕ) → same_from f g k n ≡ false → (j : ℕ) × (k ≤ j) × (j < k + n) × (f j ≡ g j → ⊥)
 credit_left f g k zero h = absurd (cc)

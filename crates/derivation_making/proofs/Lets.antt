@@ -23,6 +23,7 @@ use Rattle.derivation_making.proofs.Credits.{by_size, amount_in, amount_out}
 use Rattle.derivation_making.proofs.Nodes.{Has, has_root, has_variables, has_owned, owned_less}
 use Rattle.derivation_making.proofs.Linking.{Linked, there_before, added_rising, added_numbers}
 use Rattle.derivation_making.proofs.Standing.{Stands, Asks, fewest_le, outside_mono, enter_asks}
+use Rattle.type_check.proofs.fip_language.Facts.{or_first as or_left, or_last as or_right}
 
 -- ---- pointwise
 
@@ -120,13 +121,6 @@ or_later : (a b c d : Bool) → c ≡ true → d ≡ false → (a || (b || (c &&
 or_later true b c d e f = refl
 or_later false true c d e f = refl
 or_later false false c d e f = cc
-
-or_left : (a b : Bool) → a ≡ true → (a || b) ≡ true
-or_left a b e = rw (e) refl
-
-or_right : (a b : Bool) → b ≡ true → (a || b) ≡ true
-or_right true b e = refl
-or_right false b e = e
 
 -- the variables that a bound expression doesn't use up are lent to it
 not_among : (w : World) (vs : List Known) (d : ℕ) (have : List Known) (u : ℕ → Bool) (x : ℕ) (v : Known) → AreKnown w vs have → Rising 0 d (numbers have) → known vs x ≡ Some v → u x ≡ false → 1 ≤ tally x have → has (numbers (those u have)) v.number ≡ false

@@ -16,6 +16,8 @@ use Rattle.derivation_check.specs.Scopes.{Known, known, named, AreNumbered}
 use Rattle.derivation_check.specs.Calculus as C
 use Rattle.derivation_making.specs.Made.{unscalar, numbers, added}
 use Rattle.derivation_making.proofs.Lists.{tally, AreKnown, EachOf, same_number, number_self, one_true, one_false, either, rising_later}
+use Rattle.type_check.proofs.fip_language.Facts.{greater_unequal as above}
+pub use Rattle.type_check.proofs.fip_language.Facts.{greater_unequal_back as apart}
 
 abbrev pub LinkAt : World → Names → Scalars → ℕ → Known → Type 0
 LinkAt w c sc x v = (S.known c.marks x ≡ Some x) × (sc x ≡ w.scalar v.ty) × (x < c.next) × (v.binder ≡ x)
@@ -63,9 +65,6 @@ one_in c b = record { marks = c.marks ++ mark c.next b ∷ []; next = suc c.next
 
 abbrev one_scalar : World → ℕ → Scalars → Binder → Scalars
 one_scalar w n sc b y = if n == y then w.scalar b.ty else sc y
-
-pub apart : (x n : ℕ) → x < n → (n == x) ≡ false
-apart x n l = grind (arith, nat_tests)
 
 keep_one : (w : World) (c : Names) (sc : Scalars) (b : Binder) (x : ℕ) (v : Known) → b.number ≡ c.next → LinkAt w c sc x v → LinkAt w (one_in c b) (one_scalar w c.next sc b) x v
 keep_one w c sc b x v n h =
@@ -187,9 +186,6 @@ lift_known w k us (x ∷ xs) e h = (known_behind k us x.binder e.0 ∙ h.0, h.1,
 one_above : (s : Bool) (k : ℕ) (u : Known) (us : List Known) → (k == u.binder) ≡ false → EachOf (λ y. (k == y) ≡ false) us → EachOf (λ y. (k == y) ≡ false) (if s then us else u ∷ us)
 one_above true k u us e h = h
 one_above false k u us e h = (e, h)
-
-above : (k m : ℕ) → k < m → (k == m) ≡ false
-above k m l = grind (arith, nat_tests)
 
 added_above : (w : World) (k n d : ℕ) (bs : List Binder) → AreNumbered n d bs → k < n → EachOf (λ y. (k == y) ≡ false) (unscalar w (named d true bs))
 added_above w k n d [] h l = tt

@@ -7,6 +7,8 @@ use Rattle.ownership_agreement.specs.ownership_calculus.Terms.{one, given, has}
 use Rattle.derivation_check.specs.Owned.{Rising}
 use Rattle.derivation_check.specs.Scopes.{Known, known}
 use Rattle.derivation_making.specs.Made.{those, all_those, numbers}
+use Rattle.type_check.proofs.fip_language.Facts.{and_both as both_true, true_or_false}
+pub use Rattle.type_check.proofs.fip_language.Facts.{and_both as both_are, both_true as and_true, equal_itself as number_self, same_number, true_and_false as not_both, true_or_false as either, unequal_apart as other_number}
 
 abbrev pub flag : Bool → ℕ
 flag true = 1
@@ -28,15 +30,6 @@ EachOf P (u ∷ us) = P u.binder × EachOf P us
 
 -- ---- pointwise
 
-pub same_number : (x y : ℕ) → (x == y) ≡ true → x ≡ y
-same_number x y h = grind (arith, nat_tests)
-
-pub other_number : (x y : ℕ) → (x == y) ≡ false → x ≡ y → ⊥
-other_number x y h e = grind (arith, nat_tests)
-
-pub number_self : (x : ℕ) → (x == x) ≡ true
-number_self x = grind (arith, nat_tests)
-
 one_here : (x : ℕ) → one x x ≡ 1
 one_here x = grind (arith, nat_tests)
 
@@ -45,17 +38,6 @@ one_true x y h = rw (h) refl
 
 pub one_false : (x y : ℕ) → (x == y) ≡ false → one x y ≡ 0
 one_false x y h = rw (h) refl
-
-true_or_false : (b : Bool) → (b ≡ true) ⊎ (b ≡ false)
-true_or_false true = inl refl
-true_or_false false = inr refl
-
-pub either : (b : Bool) → (b ≡ true) ⊎ (b ≡ false)
-either b = true_or_false b
-
-pub not_both : (b : Bool) → b ≡ true → b ≡ false → ⊥
-not_both true h g = absurd (cc)
-not_both false h g = absurd (cc)
 
 -- ---- each
 
@@ -134,16 +116,6 @@ same_those f g (u ∷ us) h = one_same (f u.binder) (g u.binder) h.0 (same_those
   where
     one_same : (b c : Bool) → b ≡ c → those f us ≡ those g us → (if b then u ∷ those f us else those f us) ≡ (if c then u ∷ those g us else those g us)
     one_same b c e h = cc
-
-both_true : (a b : Bool) → (a && b) ≡ true → (a ≡ true) × (b ≡ true)
-both_true true b h = (refl, h)
-both_true false b h = absurd (cc)
-
-pub both_are : (a b : Bool) → (a && b) ≡ true → (a ≡ true) × (b ≡ true)
-both_are a b h = both_true a b h
-
-pub and_true : (a b : Bool) → a ≡ true → b ≡ true → (a && b) ≡ true
-and_true a b h g = cc
 
 pub all_are : (f : ℕ → Bool) (us : List Known) → all_those f us ≡ true → those f us ≡ us
 all_are f [] h = refl

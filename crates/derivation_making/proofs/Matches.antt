@@ -38,6 +38,7 @@ use Rattle.derivation_making.proofs.Arguments.{paid_none_out}
 use Rattle.derivation_making.proofs.Passing.{lends_derives}
 use Rattle.derivation_making.proofs.Standing.{Stands, Asks, stands_single}
 use Rattle.derivation_making.proofs.Lets.{after_used, seen_back}
+use Rattle.type_check.proofs.fip_language.Facts.{append_nil}
 
 -- ---- what clauses ask
 
@@ -160,10 +161,6 @@ goes_taken false None a have g = refl
 goes_taken false (Some x) a have g = absurd g
 goes_taken true None a have g = absurd g
 goes_taken true (Some x) a have g = refl
-
-append_nil : {A : Type 0} (xs : List A) → xs ++ [] ≡ xs
-append_nil [] = refl
-append_nil {A} (x ∷ xs) = ap (λ (ys : List A). x ∷ ys) (append_nil xs)
 
 lent_going : (w : World) (d : ℕ) (r : Pattern) (have : List Known) (needed : ℕ → ℕ) (i : Item) → owned (numbers (have ++ [])) (credits (λ k. needed k + 0)) i ≡ owned (numbers have) (credits needed) i
 lent_going w d r have needed (Own y) = ap (λ (us : List Known). given y (numbers us)) (append_nil have)

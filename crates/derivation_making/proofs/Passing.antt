@@ -29,6 +29,7 @@ use Rattle.derivation_making.proofs.Lists.{flag, tally, EachOf, each_of, given_s
 use Rattle.derivation_making.proofs.Linking.{Linked, there_before}
 use Rattle.derivation_making.proofs.Reading.{there_is, or_pos, value_pos, lent_variable}
 use Rattle.derivation_making.proofs.Arguments.{Holding, zero_none, value_own, value_in, value_out, value_owned, under_value, value_derives, flag_sum}
+use Rattle.type_check.proofs.fip_language.Facts.{or_first, or_last}
 
 -- ---- what a status lets do
 
@@ -59,10 +60,6 @@ well_at : (w : World) (vs : List Known) (c : Names) (sc : Scalars) (t : ℕ → 
 well_at w vs c sc t y v l k e h =
     let g = l y v k in
     lends_well (sc y) t y (g.1 ∙ e) (subst (λ (o : Option ℕ). K.LendsWell t (variable sc o)) g.0 h)
-
-or_last : (a b : Bool) → b ≡ true → (a || b) ≡ true
-or_last true b e = refl
-or_last false b e = e
 
 one_lends : (s : Bool) (w : World) (v : Known) (lent : ℕ → Bool) → w.scalar v.ty ≡ s → (s ≡ false → (not v.owned || lent v.number) ≡ true) → (w.scalar v.ty || (not v.owned || lent v.number)) ≡ true
 one_lends true w v lent e f = ap (λ b. b || (not v.owned || lent v.number)) e
@@ -196,9 +193,6 @@ behind_lent w sp c sc d have s t a as' gs h = record {
   back = h.back;
   asked = λ x. let e : lent_used_up (lent_value w sc c.marks a) (Own x) + passed_used_up gs (Own x) ≤ tally x have = h.asked x in omega arith;
 }
-
-or_first : (a b : Bool) → a ≡ true → (a || b) ≡ true
-or_first a b e = rw (e) refl
 
 used_both : (w : World) (sp : Scope) (c : Names) (sc : Scalars) (d : ℕ) (have : List Known) (a : Argument) (as' : Arguments) (gs : T.Passed) → Holding w sp.variables c sc d have → FitsValue sp.variables a → ((x : ℕ) → 1 ≤ tally x have → occurs_values x as' ≡ pos (passed_used_up gs (Own x))) → (x : ℕ) → 1 ≤ tally x have → (occurs_value x a || occurs_values x as') ≡ pos (passed_used_up (T.PassOwned (value sc c.marks a) gs) (Own x))
 used_both w sp c sc d have a as' gs h f u x m =

@@ -29,6 +29,7 @@ use Rattle.derivation_making.specs.Uses.{occurs_value, occurs_values, occurs, oc
 use Rattle.derivation_making.specs.Fitting.{IsThere, FitsValue, FitValues, FitPassed, FitsCall, IsScrutinised, FitsScrutinee, Fitting, FittingBlock, FittingClauses}
 use Rattle.derivation_making.proofs.Linking.{Linked, inside_linked, later_linked, next_inside}
 use Rattle.derivation_making.proofs.Lists.{either}
+use Rattle.type_check.proofs.fip_language.Facts.{or_false as or_none}
 
 -- ---- how many binders
 
@@ -213,10 +214,6 @@ passed_pos p f vs c sc x g j NoArguments l h z s = refl
 passed_pos p f vs c sc x g j (MoreArguments a as') l h z s =
     passed_one (lends (world p f) g j) (world p f) c sc x a (passed (world p f) sc c.marks g (suc j) as') (uses_passed (world p f) x g (suc j) as')
     (lent_pos p f vs c sc x a l h.0 z.0 s) (value_pos (world p f) vs c sc x a l h.0 s) (passed_pos p f vs c sc x g (suc j) as' l h.1 z.1 s)
-
-or_none : (b : Bool) → (b || false) ≡ b
-or_none true = refl
-or_none false = refl
 
 no_more : (m : ℕ) → pos (m + 0) ≡ pos m
 no_more m = pos_sum m 0 ∙ or_none (pos m)

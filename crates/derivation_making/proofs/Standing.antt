@@ -18,6 +18,7 @@ use Rattle.derivation_making.specs.Made.{those, all_those, numbers, added}
 use Rattle.derivation_making.proofs.Lists.{tally, AreKnown, each_of, each_all, known_append, tally_those, tally_less, tally_append, numbers_append, rising_append, not_both}
 use Rattle.derivation_making.proofs.Linking.{Linked, there_before, tally_added, named_known, added_known, base_known, added_rising}
 use Rattle.derivation_making.proofs.Arguments.{Holding}
+pub use Rattle.type_check.proofs.fip_language.Facts.{if_zero_mono as outside_mono}
 
 -- Of the variables that are there, s tells what each went through; a part asks for those that pass the test.
 pub record Stands (w : World) (sp : Scope) (d : ℕ) (there : List Known) (s : ℕ → Status) (asked : ℕ → Bool) : Type 0 where
@@ -35,10 +36,6 @@ pub record Asks (fip : Bool) (s : ℕ → Status) (t : Term) : Type 0 where
   pub even : fip ≡ true → Even t
 
 -- ---- in fip all that is there is asked for
-
-pub outside_mono : (b : Bool) (m n : ℕ) → m ≤ n → (if b then 0 else m) ≤ (if b then 0 else n)
-outside_mono true m n h = omega arith
-outside_mono false m n h = h
 
 mutual
   pub fewest_le : (e : Term) (x : ℕ) → fewest x e ≤ asks (Own x) e

@@ -24,6 +24,7 @@ use Rattle.derivation_making.specs.Fitting.{IsThere, FitsValue, FitValues, FitsL
 use Rattle.derivation_making.specs.Numbered.{Numbered, NumberedBlock, NumberedClauses, IsNumbered, AllNumbered}
 use Rattle.derivation_making.proofs.Lists.{either, not_both, same_number}
 use Rattle.derivation_making.proofs.Linking.{known_here, known_behind}
+use Rattle.type_check.proofs.fip_language.Facts.{some_some_same as some_type}
 
 -- what typing knows of a variable is what the derivation's scope knows; c binders stand before
 abbrev pub Alike : S.Scope → List Known → ℕ → Type 0
@@ -65,9 +66,6 @@ none_before n d x [] h l = refl
 none_before n d x (b ∷ bs) h l =
     else_last (look (filled_entries bs) x) (if b.number == x then Some (Some b.ty) else None) (none_before (n + 1) (d + 1) x bs h.2 (omega arith))
     ∙ ap (λ (c : Bool). if c then Some (Some b.ty) else None) (ap (λ m. m == x) h.0 ∙ apart n x l)
-
-some_type : (t u : ℕ) → Some (Some t) ≡ Some (Some u) → t ≡ u
-some_type t u h = cc
 
 alike_later : (s : S.Scope) (vs : List Known) (c e : ℕ) → c ≤ e → Alike s vs c → Alike s vs e
 alike_later s vs c e l h x t k = let g = h x t k in ((let a = g.0 in omega arith), g.1)

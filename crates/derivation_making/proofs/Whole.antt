@@ -35,6 +35,7 @@ use Rattle.derivation_making.proofs.Linking.{LinkAt, Linked, known_head, known_h
 use Rattle.derivation_making.proofs.Arguments.{each_item}
 use Rattle.derivation_making.proofs.Standing.{Stands, Asks}
 use Rattle.derivation_making.proofs.Bodies.{has_block, derive_block}
+use Rattle.type_check.proofs.fip_language.Facts.{greater_unequal as above}
 
 -- ---- the scope of the parameters
 
@@ -105,9 +106,6 @@ lift_known w k us (x ∷ xs) e h = (known_behind k us x.binder e.0 ∙ h.0, h.1,
 one_above : (s : Bool) (k : ℕ) (u : Known) (us : List Known) → (k == u.binder) ≡ false → EachOf (λ y. (k == y) ≡ false) us → EachOf (λ y. (k == y) ≡ false) (if s then us else u ∷ us)
 one_above true k u us e h = h
 one_above false k u us e h = (e, h)
-
-above : (k m : ℕ) → k < m → (k == m) ≡ false
-above k m l = grind (arith, nat_tests)
 
 owned_above : (w : World) (k n : ℕ) (ps : List Param) → k < n → EachOf (λ y. (k == y) ≡ false) (owned_ones w (parameters n ps))
 owned_above w k n [] l = tt

@@ -7,27 +7,9 @@ use Rattle.std.proofs.lemmas.Fmt.{decimal_by_steps, decimal_step, decimal_digit}
 use Rattle.fip_language.specs.Character.{is_digit}
 use Rattle.derivation_text.specs.ProofText.{GREATEST}
 use Rattle.derivation_text.specs.Machine.{reaches, begins}
+pub use Rattle.fip_language.proofs.Facts.{and_both as and_true, both_true as true_and, if_false as if_not, if_true as if_yes, true_or_false as either}
 
 -- ---- tests
-
-pub if_yes : {A : Type 0} (c : Bool) (a b : A) → c ≡ true → (if c then a else b) ≡ a
-if_yes true a b h = refl
-if_yes false a b h = cc
-
-pub if_not : {A : Type 0} (c : Bool) (a b : A) → c ≡ false → (if c then a else b) ≡ b
-if_not true a b h = cc
-if_not false a b h = refl
-
-pub and_true : (a b : Bool) → (a && b) ≡ true → (a ≡ true) × (b ≡ true)
-and_true true b h = (refl, h)
-and_true false b h = cc
-
-pub true_and : (a b : Bool) → a ≡ true → b ≡ true → (a && b) ≡ true
-true_and a b h k = ap₂ (λ a b. a && b) h k
-
-pub either : (b : Bool) → (b ≡ true) ⊎ (b ≡ false)
-either true = inl refl
-either false = inr refl
 
 pub digit_is : (d : ℕ) → d < 10 → is_digit (48 + d) ≡ true
 digit_is d h = true_and (nat_le 48 (48 + d)) (nat_le (48 + d) 57) (le-leb 48 (48 + d) (omega arith)) (le-leb (48 + d) 57 (omega arith))

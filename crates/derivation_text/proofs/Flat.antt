@@ -14,6 +14,7 @@ use Rattle.derivation_text.specs.declared.spot.Spot.TheVariants as S
 use Rattle.derivation_text.specs.ProofText.{GREATEST, DEEPEST}
 use Rattle.derivation_text.specs.Machine.{begins, flats, State, rule_at, is_match, going, pass_line, act_rule, act_name, pass_variable, pass_size, pass_count, to_parts, with_credit, act_node, act_head, act, step, start, final}
 use Rattle.derivation_text.proofs.Residual.{Zipper, Roots, Part, join, snoc, add, close, depth, open_head, front, zippers}
+use Rattle.fip_language.proofs.Facts.{take_last}
 
 -- ---- lists
 
@@ -27,13 +28,6 @@ get_last xs x = (let l = length-append xs (x ∷ []) in let e : length (xs ++ x 
     at : (xs : List ℕ) → slice_get (xs ++ x ∷ []) (length xs) ≡ Some x
     at [] = refl
     at (y ∷ xs) = at xs
-
-take_last : (xs : List ℕ) (x : ℕ) → take (length (xs ++ x ∷ []) - 1) (xs ++ x ∷ []) ≡ xs
-take_last xs x = (let l = length-append xs (x ∷ []) in let e : length (xs ++ x ∷ []) - 1 ≡ length xs = omega (arith, l) in ap (λ n. take n (xs ++ x ∷ [])) e) ∙ at xs
-  where
-    at : (xs : List ℕ) → take (length xs) (xs ++ x ∷ []) ≡ xs
-    at [] = refl
-    at (y ∷ xs) = ap (λ zs. y ∷ zs) (at xs)
 
 -- ---- trees in lists
 

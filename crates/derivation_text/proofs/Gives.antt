@@ -18,12 +18,9 @@ use Rattle.derivation_text.proofs.Numbers.{Follow, IsFollow, Going, want_gives, 
 use Rattle.derivation_text.proofs.Residual.{Zipper, Roots, Part, add, depth, zippers, mades, finished, Place, Finish, After, AfterHead, BeforeNode, HeadRest, CreditsFrom, VariablesFrom, Named, BehindLine, BehindVariable, BehindCount, BehindSize, at, Residual, Completes, Fit, Good}
 use Rattle.derivation_text.proofs.Parts.{line_follow, variable_follow, count_follow, size_follow, join_nothing, after_finish, want_variables, want_credits, want_lines}
 use Rattle.derivation_text.proofs.Takes.{inside, deeper}
+use Rattle.fip_language.proofs.Facts.{if_some_both as if_some}
 
 -- ---- tests
-
-if_some : {A : Type 0} (c : Bool) (a b : A) → (if c then Some a else None) ≡ Some b → (c ≡ true) × (a ≡ b)
-if_some true a b h = (refl, same_Some a b h)
-if_some false a b h = cc
 
 if_then : {A : Type 0} (c : Bool) (o : Option A) (b : A) → (if c then o else None) ≡ Some b → (c ≡ true) × (o ≡ Some b)
 if_then true o b h = (refl, h)

@@ -7,12 +7,7 @@ use Rattle.derivation_text.specs.declared.error.ByteError.{ByteError}
 use Rattle.derivation_text.specs.declared.error.ByteError.TheVariants as B
 use Rattle.derivation_text.specs.Machine.{Made, State, flats, step, final}
 use Rattle.derivation_text.specs.Reading.{Steps, runs}
-
-drop_all : (bs : List ℕ) (i : ℕ) → length bs ≤ i → drop i bs ≡ []
-drop_all [] zero le = refl
-drop_all [] (suc i) le = refl
-drop_all (b ∷ bs) zero le = absurd (omega arith)
-drop_all (b ∷ bs) (suc i) le = drop_all bs i (omega arith)
+use Rattle.fip_language.proofs.Facts.{drop_past as drop_all}
 
 module _ (bs : List ℕ) (s s' : State Built) (at : ℕ) (o : Outcome (List Made)) where
   -- the byte there, and what the machine does with it

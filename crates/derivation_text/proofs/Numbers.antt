@@ -7,18 +7,10 @@ use Rattle.fip_language.specs.Character.{is_digit}
 use Rattle.derivation_text.specs.ProofText.{GREATEST}
 use Rattle.derivation_text.specs.Machine.{begins, Made}
 use Rattle.derivation_text.proofs.Digits.{Continues, IsBreak, number_digit, after_digit, number_break, after_break, digit_is, digit_range, decimal_digits, digits_decimal, continues_begins, begins_continues}
-
-pub cons_head : {A : Type 0} → (x y : A) (xs ys : List A) → x ∷ xs ≡ y ∷ ys → x ≡ y
-cons_head x y xs ys e = cc
-
-pub cons_tail : {A : Type 0} → (x y : A) (xs ys : List A) → x ∷ xs ≡ y ∷ ys → xs ≡ ys
-cons_tail x y xs ys e = cc
+pub use Rattle.fip_language.proofs.Facts.{cons_head, cons_tail, true_is_not_false as bits_differ}
 
 pub no_cons : {A : Type 0} → (y : A) (ys : List A) → [] ≡ y ∷ ys → ⊥
 no_cons y ys e = cc
-
-pub bits_differ : {A : Type 0} → (b : Bool) → b ≡ true → b ≡ false → A
-bits_differ b h k = cc
 
 -- what may stand behind a number of this value
 abbrev pub Follow : Type 1

@@ -13,12 +13,7 @@ use Rattle.derivation_text.specs.ProofText.{rule_text, more_variables, variables
 use Rattle.derivation_text.specs.Writing.{head_text, ends_text, behind_ends, nodes_text, turned}
 use Rattle.derivation_text.proofs.Digits.{if_yes, if_not}
 use Rattle.derivation_text.proofs.Written.{variables_on, credit_on, credits_on, nodes_leaf, nodes_parts, nodes_written, tree_on}
-
-drop_all : {A : Type 0} (xs : List A) (i : ℕ) → length xs ≤ i → drop i xs ≡ []
-drop_all [] zero le = refl
-drop_all [] (suc i) le = refl
-drop_all (x ∷ xs) zero le = absurd (omega arith)
-drop_all (x ∷ xs) (suc i) le = drop_all xs i (omega arith)
+use Rattle.fip_language.proofs.Facts.{drop_end as drop_all}
 
 -- ---- variables and credits
 

@@ -2,11 +2,7 @@
 use Rattle.std.proofs.Common.{◌≡◌, ℕ, zero, suc, ◌≤◌, ◌+◌, refl, sym, ap, ◌∙◌, List, [], ◌∷◌, length, Option, Some, None, arith}
 use Rattle.std.specs.Prelude.{slice_get}
 use Rattle.derivation_trees.specs.Trees.{Tree, Missing, Branch, Trees, MoreTrees, Head, span_of, row, rooted, cut_at, tree_at}
-
-get_none : {A : Type 0} (xs : List A) (i : ℕ) → length xs ≤ i → slice_get xs i ≡ None
-get_none [] i l = refl
-get_none (x ∷ xs) zero l = absurd (omega arith)
-get_none (x ∷ xs) (suc i) l = get_none xs i (omega arith)
+use Rattle.fip_base.proofs.fip_language.Facts.{get_none}
 
 more_same : {t u : Tree} {ts us : Trees} → t ≡ u → ts ≡ us → MoreTrees t ts ≡ MoreTrees u us
 more_same e f = cc

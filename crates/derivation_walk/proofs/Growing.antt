@@ -11,12 +11,9 @@ use Rattle.derivation_trees.proofs.Places.{tree_is}
 use Rattle.derivation_trees.specs.Building.{Built, alter, alter_at, innermost, with_part, with_span, opened, closed, closed_at, nothing_built}
 use Rattle.derivation_walk.specs.Growing.{grown, grown_all, closed_times, Awaits, AwaitsOne}
 use Rattle.derivation_walk.specs.Walked.{Owned, credits, same_from, weakened, node}
+use Rattle.fip_language.proofs.Facts.{append_associates as append_assoc, take_last as without_last}
 
 -- ---- lists
-
-append_assoc : {A : Type 0} (xs ys zs : List A) → xs ++ (ys ++ zs) ≡ (xs ++ ys) ++ zs
-append_assoc [] ys zs = refl
-append_assoc {A} (x ∷ xs) ys zs = ap (λ (ws : List A). x ∷ ws) (append_assoc xs ys zs)
 
 alter_seam : (f : Head → Head) (xs : List Head) (h : Head) (ys : List Head) (i : ℕ) → i ≡ length xs → alter f i (xs ++ h ∷ ys) ≡ xs ++ f h ∷ ys
 alter_seam f [] h ys zero e = refl
@@ -39,13 +36,6 @@ last_of xs y = let e : length (xs ++ y ∷ []) - 1 ≡ length xs = (let h = leng
     at : (zs : List ℕ) → slice_get (zs ++ y ∷ []) (length zs) ≡ Some y
     at [] = refl
     at (z ∷ zs) = at zs
-
-without_last : (xs : List ℕ) (y : ℕ) → take (length (xs ++ y ∷ []) - 1) (xs ++ y ∷ []) ≡ xs
-without_last xs y = let e : length (xs ++ y ∷ []) - 1 ≡ length xs = (let h = length-append xs (y ∷ []) in omega arith) in ap (λ n. take n (xs ++ y ∷ [])) e ∙ at xs
-  where
-    at : (zs : List ℕ) → take (length zs) (zs ++ y ∷ []) ≡ zs
-    at [] = refl
-    at (z ∷ zs) = ap (λ (ws : List ℕ). z ∷ ws) (at zs)
 
 mutual
   flat_length : (t : Tree) → length (flat t) ≡ size t

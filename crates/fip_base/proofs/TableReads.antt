@@ -4,6 +4,7 @@ use Rattle.std.proofs.lemmas.Option.{slice_get_within, get_or_from_slice_get}
 use Rattle.std.proofs.lemmas.Bool.{cases_lt}
 use Rattle.fip_language.specs.Table.{Shape, Table, constructors, shapes}
 use Rattle.fip_base.specs.TableView.{fields_at, IsNamed}
+use Rattle.fip_language.proofs.Facts.{below_next}
 
 pub shapes_read : (tb : Table) (t : ℕ) (d : List Shape) → t < length tb → shapes tb t ≡ get_or tb t d
 shapes_read [] t d h = absurd (omega (arith, h))
@@ -28,9 +29,6 @@ IsNamed_within ss name c (s, e, n) = slice_get_within ss c s e
 -- the constructor that was read at i has this name
 pub IsNamed_read : (ss : List Shape) (name : List ℕ) (i : ℕ) (s : Shape) → s ≡ get_or ss i s → IsNamed ss name i → s.name ≡ name
 IsNamed_read ss name i s e (t, f, n) = ap (λ r. r.name) (e ∙ get_or_from_slice_get ss i t s f) ∙ n
-
-below_next : (i d : ℕ) → d < i + 1 → (d < i) ⊎ (d ≡ i)
-below_next i d h = elim (cases_lt d i) [ inl l ↦ inl l | inr g ↦ inr (omega (arith, h, g)) ]
 
 -- one more constructor that hasn't this name
 pub IsNamed_none_more : (ss : List Shape) (name : List ℕ) (i : ℕ) (s : Shape) → s ≡ get_or ss i s → (s.name ≡ name → ⊥) → ((d : ℕ) → d < i → IsNamed ss name d → ⊥) → (d : ℕ) → d < i + 1 → IsNamed ss name d → ⊥

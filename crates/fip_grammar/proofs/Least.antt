@@ -19,12 +19,7 @@ use Rattle.fip_grammar.specs.Limits.{is_opening, Seen, nothing_seen, behind, see
 use Rattle.fip_grammar.proofs.Exact.{accepted_is_spelled, spelled_is_accepted, stopped_is_place}
 use Rattle.fip_grammar.proofs.Signs.{negates, Agrees, agrees_at_start, agrees_next, agrees_declared, literal_limit}
 use Rattle.fip_grammar.proofs.Unique.{cut_once, cut_or_bad, bad_once}
-
--- a token and what stands behind it
-rest_at : {A : Type 0} (ts : List A) (i : ℕ) (t : A) → slice_get ts i ≡ Some t → drop i ts ≡ t ∷ drop (suc i) ts
-rest_at [] i t e = cc
-rest_at (x ∷ xs) zero t e = let h : x ≡ t = cc in ap (λ z. z ∷ xs) h
-rest_at (x ∷ xs) (suc i) t e = rest_at xs i t e
+use Rattle.fip_language.proofs.Facts.{drop_at_next as rest_at, less_apart as not_taken, three_ways}
 
 -- what one token more is like
 seen_more : (ts : List Token) (i : ℕ) (b : Seen) (t : Token) → slice_get ts i ≡ Some t → seen_from b (take (suc i) ts) ≡ behind (seen_from b (take i ts)) t.word
@@ -52,15 +47,6 @@ place_stops_in ts u (Stopped v) e c = ap Stopped (IsPlace-unique Spells ts v u (
 
 place_stops : (ts : List Token) (u : ℕ) → IsPlace Spells ts u → run machine_step machine_end start ts 0 ≡ Stopped u
 place_stops ts u c = place_stops_in ts u (run machine_step machine_end start ts 0) refl c
-
-three_ways : (i u : ℕ) → (i < u) ⊎ ((i ≡ u) ⊎ (u < i))
-three_ways zero zero = inr (inl refl)
-three_ways zero (suc u) = inl (omega arith)
-three_ways (suc i) zero = inr (inr (omega arith))
-three_ways (suc i) (suc u) = elim (three_ways i u) as (λ _. (suc i < suc u) ⊎ ((suc i ≡ suc u) ⊎ (suc u < suc i))) [
-  | inl lt ↦ inl (omega arith)
-  | inr k ↦ elim k as (λ _. (suc i < suc u) ⊎ ((suc i ≡ suc u) ⊎ (suc u < suc i))) [ inl e ↦ inr (inl (ap suc e)) | inr gt ↦ inr (inr (omega arith)) ]
-]
 
 -- The machine stands in m behind the first i tokens, which are like b; no rule is broken at a token below i.
 pub record Reads (ts : List Token) (i : ℕ) (m : Machine) (b : Seen) : Type 0 where
@@ -117,9 +103,6 @@ reads_limit ts i m b h = literal_limit m.state b h.agrees
 -- the machine takes no such token
 pub reads_refused : (ts : List Token) (i : ℕ) (m : Machine) (b : Seen) (t : Token) → Reads ts i m b → slice_get ts i ≡ Some t → machine_step m t ≡ None → IsLeastBroken ts R.E02 i
 reads_refused ts i m b t h at none = least_place ts i m b h (stopped_is_place ts i (reads_here ts i m b t None h at none))
-
-not_taken : (i u : ℕ) → i < u → i ≡ u → ⊥
-not_taken i u lt e = omega arith
 
 three_at_least : (ts : List Token) (i u : ℕ) (r : Rule) → i ≡ u → (IsPlace Spells ts u → ⊥) → Breaks ts r u → (i < u) ⊎ ((i ≡ u) × (3 ≤ number r))
 three_at_least ts i u r e none (inl c) = absurd (none c.1)

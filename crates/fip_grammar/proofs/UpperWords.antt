@@ -10,6 +10,7 @@ use Rattle.fip_language.specs.Character.{is_letter, are_name_bytes, is_upper_nam
 use Rattle.fip_grammar.specs.declared.Sign.TheVariants as S
 use Rattle.fip_grammar.specs.Token.{Word, Lower, Upper, Number, Operate, Mark, Token}
 use Rattle.fip_grammar.specs.Cut.{is_lower, is_upper, is_digit, is_name, keyword_or_name, single_sign, double_sign, sign_of, lower_word, word_of, IsFirst, Piece, Blank, Comment, Cut, behind, Pieces, tokens_of, first_place, IsCut}
+use Rattle.fip_language.proofs.Facts.{or_exchange as name_byte}
 
 -- an upper word is an upper-case name
 abbrev pub Proper : Word → Type 0
@@ -86,13 +87,6 @@ proper_sign b (c ∷ d ∷ more) = tt
 proper_keyword : (names : Bool) (text : List ℕ) → ProperOption (lower_word names text)
 proper_keyword true text = proper_lower text
 proper_keyword false text = holds_if ProperOption (bytes_eq text (codes "match!")) (Some (Mark S.MatchBang)) None tt tt
-
--- the same bytes, named in another order
-name_byte : (l u d x : Bool) → (l || (u || (d || x))) ≡ true → (d || (u || l || x)) ≡ true
-name_byte l u true x e = refl
-name_byte l true false x e = refl
-name_byte true false false x e = refl
-name_byte false false false x e = e
 
 name_bytes : (bs : List ℕ) → list_all is_name bs ≡ true → are_name_bytes bs ≡ true
 name_bytes [] e = refl

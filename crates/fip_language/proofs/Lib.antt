@@ -10,3 +10,4 @@ pub mod Search
 pub mod Stacks
 pub mod Frames
 pub mod OnePlace
+pub mod Facts

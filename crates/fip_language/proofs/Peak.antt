@@ -11,6 +11,7 @@ use Rattle.fip_language.specs.Arithmetic.{Operated, Is, Fails, operate}
 use Rattle.fip_language.specs.Registers.{frame_words}
 use Rattle.fip_language.specs.Statics.{Closed, Closeds, ClosedInt, ClosedName, Instance, callee}
 use Rattle.fip_language.specs.Meaning.{Answer, Gives, Trap, Out, Deep, Stuck, Run, go_on, counted, in_frame, Environment, nothing_bound, bind_matched, bind_binders, bind_parameters, argument_value, argument_values, with_value, with_values, operated, operation, if_matches, Calls, eval, eval_block, eval_clauses, body_run, function_run, calls_of, meaning}
+use Rattle.fip_language.proofs.Facts.{max_within}
 
 -- a way to call that holds at most the free frames
 abbrev Within : Calls → Type 0
@@ -52,9 +53,6 @@ within_counted d (suc k) go h = h k
 within_matches : (d : ℕ) (o : Option (List Binding)) (go : List Binding → Run) (r : Run) → ((bs : List Binding) → (go bs).peak.frames ≤ d) → r.peak.frames ≤ d → (if_matches o go r).peak.frames ≤ d
 within_matches d None go r h g = g
 within_matches d (Some bs) go r h g = h bs
-
-max_within : (a b d : ℕ) → a ≤ d → b ≤ d → max a b ≤ d
-max_within a b d p q = omega arith
 
 mutual
   eval_within : (core : Core) (c : Calls) → Within c → (here : Instance) (e : Expression) (tail : Bool) (d : ℕ) (env : Environment) (k : ℕ) → (eval core c here e tail d env k).peak.frames ≤ d

@@ -4,11 +4,7 @@ use Rattle.std.specs.Prelude.{slice_get, nat_eq, bytes_eq}
 use Rattle.std.proofs.lemmas.Bool.{eqb-true, eqb-false}
 use Rattle.std.proofs.lemmas.Slice.Eq.{bytes_eq-Decides}
 use Rattle.fip_language.specs.Every.{Every, Among}
-
-pub le_or_less : (m n : ℕ) → (m ≤ n) ⊎ (n < m)
-le_or_less zero n = inl (omega arith)
-le_or_less (suc m) zero = inr (omega arith)
-le_or_less (suc m) (suc n) = elim (le_or_less m n) as (λ _. (suc m ≤ suc n) ⊎ (suc n < suc m)) [ inl h ↦ inl (omega arith) | inr h ↦ inr (omega arith) ]
+pub use Rattle.fip_language.proofs.Facts.{get_there as slice_get_there, le_or_less}
 
 same_by : (b : Bool) (m n : ℕ) → nat_eq m n ≡ b → (m ≢ n → ⊥) → m ≡ n
 same_by true m n e h = eqb-true m n e
@@ -20,11 +16,6 @@ same_unless m n h = same_by (nat_eq m n) m n refl h
 pub every_from : {A : Type 0} (P : A → Type 0) (xs : List A) → ((x : A) → Among x xs → P x) → Every P xs
 every_from P [] h = tt
 every_from P (x ∷ xs) h = (h x (inl refl), every_from P xs (λ y a. h y (inr a)))
-
-pub slice_get_there : {A : Type 0} (xs : List A) (n : ℕ) → n < length xs → (x : A) × (slice_get xs n ≡ Some x)
-slice_get_there [] n h = absurd (omega (arith, h))
-slice_get_there (x ∷ xs) zero h = (x, refl)
-slice_get_there (x ∷ xs) (suc n) h = slice_get_there xs n (omega (arith, h))
 
 -- other bytes aren't equal
 pub bytes_eq-other : (a b : List ℕ) → (b ≡ a → ⊥) → bytes_eq a b ≡ false

@@ -36,6 +36,7 @@ use Rattle.fip_machine.specs.Along.{Origin, at_step, UnlessStuck, seen_to, HasMo
 use Rattle.fip_machine.specs.Taped.{AlongWith, IfValue, RunWith, EnteredWith, DeepWith, CameWith}
 use Rattle.fip_machine.proofs.Mosts.{MostAre, after_later, always, going_state, over_state, stuck_on, most_next, most_stays, most_there, most_of}
 use Rattle.fip_machine.proofs.Tasked.{room_same}
+pub use Rattle.fip_language.proofs.Facts.{false_of_not as not_on}
 
 -- an instruction that is no call enters no function and asks no frame
 
@@ -350,10 +351,6 @@ has_ended_late o (S.Trap kind line col) u w n h = h
 has_ended_late o S.Deep u w n h = h refl
 
 -- whether a call is next
-
-pub not_on : (b : Bool) → true ≡ not b → b ≡ false
-not_on true e = absurd cc
-not_on false e = refl
 
 pub not_off : (b : Bool) → false ≡ not b → b ≡ true
 not_off true e = refl

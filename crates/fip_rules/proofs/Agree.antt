@@ -14,6 +14,8 @@ use Rattle.fip_rules.specs.Rules.{broken, owns, Uses, Lends, Again, Late, Misses
 use Rattle.fip_rules.specs.Notes.{has, look, Walked, nothing, entry, enter, deeper, uses, always, if_waits, waits, run, when, use_of, use_notes, lend_of, lend_notes, is_owned, In, exposed, missed, notes}
 use Rattle.fip_rules.proofs.Lists.{in_left, in_right, in_either}
 use Rattle.fip_rules.proofs.Lists.{along, turned, sum_is, mix, append_is, of_when, to_when, same, same_test, apart_test, apart_back, has_append, has_both, look_end}
+use Rattle.fip_base.proofs.fip_language.Facts.{and_either, and_false_first as and_none, and_false_last as and_zero, both_left as and_left, both_right as and_right, both_true as and_both, both_true as and_true, equal_itself as self_level, less_of_not as room, not_true, or_false, or_false_both as or_both, or_false_false as or_none, same_and, same_or}
+pub use Rattle.fip_base.proofs.fip_language.Facts.{or_cases as or_split, or_first as or_left, or_last as or_right}
 
 -- ---- a variable that occurs free
 
@@ -86,9 +88,6 @@ record Fine (s : Walked) (n : ℕ) : Type 0 where
   always : (x : ℕ) → n ≤ x → has s.always x ≡ false
   levels : (x : ℕ) (e : Entry) → look s.scope x ≡ Some e → e.level ≤ s.level
 
-room : (m n : ℕ) → (n ≤ m → ⊥) → m < n
-room m n h = grind arith
-
 below_level : (x n : ℕ) (e : Entry) (q : Option Entry) → (n ≤ x → q ≡ None) → q ≡ Some e → x < n
 below_level x n e q f h = room x n (λ l. let z = f l in absurd (cc))
 
@@ -105,9 +104,6 @@ next_le n (Either a b) h = let f = next_le n a h.0 in let g = next_le (next n a)
 next_le n (Bound a) h = next_le n a h
 next_le n (Scope k m a) h = let g = next_le (suc m.id) a h.1 in let f = h.0 in omega arith
 
-or_none : (a b : Bool) → a ≡ false → b ≡ false → (a || b) ≡ false
-or_none a b e f = rw (e, f) refl
-
 uses_below : (n x : ℕ) (e : Shape) → Ordered n e → next n e ≤ x → has (uses e) x ≡ false
 uses_below n x Skip h l = refl
 uses_below n x (Use m) h l = or_none (m.id == x) false (apart_test m.id x (omega arith)) refl
@@ -117,9 +113,6 @@ uses_below n x (Then a b) h l = has_append (uses a) (uses b) x ∙ (let g = next
 uses_below n x (Either a b) h l = has_append (uses a) (uses b) x ∙ (let g = next_le (next n a) b h.1 in or_none (has (uses a) x) (has (uses b) x) (uses_below n x a h.0 (omega arith)) (uses_below (next n a) x b h.1 l))
 uses_below n x (Bound a) h l = uses_below n x a h l
 uses_below n x (Scope k m a) h l = uses_below (suc m.id) x a h.1 l
-
-and_none : (a b : Bool) → a ≡ false → (a && b) ≡ false
-and_none a b e = rw e refl
 
 always_below : (n x : ℕ) (e : Shape) → Ordered n e → next n e ≤ x → has (always e) x ≡ false
 always_below n x Skip h l = refl
@@ -164,16 +157,6 @@ fine_enter s n k m f g = record {
 
 -- ---- statuses along the walk
 
-same_or : (a b c d : Bool) → a ≡ c → b ≡ d → (a || b) ≡ (c || d)
-same_or a b c d e f = cc
-
-same_and : (a b c d : Bool) → a ≡ c → b ≡ d → (a && b) ≡ (c && d)
-same_and a b c d e f = cc
-
-or_false : (b : Bool) → (b || false) ≡ b
-or_false true = refl
-or_false false = refl
-
 has_uses : (x : ℕ) (e : Shape) → has (uses e) x ≡ owns x e
 has_uses x Skip = refl
 has_uses x (Use m) = or_false (m.id == x)
@@ -213,17 +196,6 @@ status_deeper s n x f = entry_sunk (look s.scope x) (has s.used x) s.level (f.le
 then_bare : (h : Bool) (i : ℕ) (a b : Shape) (v : Breach) → Bare i h (Then a b) v ↔ (Bare i h a v ⊎ Bare i h b v)
 then_bare true i a b v = (λ h. h, λ h. h)
 then_bare false i a b v = (λ h. h, λ h. h)
-
-pub or_left : (a b : Bool) → a ≡ true → (a || b) ≡ true
-or_left a b e = rw e refl
-
-pub or_right : (a b : Bool) → b ≡ true → (a || b) ≡ true
-or_right true b e = refl
-or_right false b e = e
-
-pub or_split : (a b : Bool) → (a || b) ≡ true → (a ≡ true) ⊎ (b ≡ true)
-or_split true b h = inl refl
-or_split false b h = inr h
 
 -- earlier or before; used says whether x was used before
 module _ (u o : Bool) (A B U V : Type 0) where
@@ -406,17 +378,6 @@ seen_later es fs l n k f g = λ x e. (λ h. let t = (f x e).0 h in let lt : x < 
 owned_some : (o : Option Entry) → owned_entry o ≡ true → (e : Entry) × (o ≡ Some e)
 owned_some None h = absurd (cc)
 owned_some (Some e) h = (e, refl)
-
-and_left : (a b : Bool) → (a && b) ≡ true → a ≡ true
-and_left true b h = refl
-and_left false b h = absurd (cc)
-
-and_right : (a b : Bool) → (a && b) ≡ true → b ≡ true
-and_right true b h = h
-and_right false b h = absurd (cc)
-
-and_both : (a b : Bool) → a ≡ true → b ≡ true → (a && b) ≡ true
-and_both a b e f = rw (e, f) refl
 
 in_waits : (o c : Bool) (i : ℕ) (us : List ℕ) (m : Mark) (v : Breach) → In v (exposed i (if o && not c then m ∷ [] else []) us) → (o ≡ true) × (c ≡ false) × (has us m.id ≡ true) × (v ≡ broken E54 i m)
 in_waits false c i us m v h = absurd h
@@ -611,9 +572,6 @@ fresh_is i Owned a v = (
   ],
 )
 
-self_level : (l : ℕ) → (l == l) ≡ true
-self_level l = grind (arith, nat_tests)
-
 new_entry : (c : Bool) (e : Entry) (o : Option Entry) (u : Bool) (l : ℕ) → c ≡ true → u ≡ false → e.level ≡ l → of_entry (if c then Some e else o) u l ≡ fresh e.ownership
 new_entry true e o u l f g h = rw (g) (ap (of_kind e.ownership false) (same_test e.level l h))
 new_entry false e o u l f g h = absurd (cc)
@@ -647,18 +605,6 @@ in_scope s n i k m a v false f g e = (
   ],
 )
 
-or_both : (a b : Bool) → (a || b) ≡ false → (a ≡ false) × (b ≡ false)
-or_both true b h = absurd (cc)
-or_both false b h = (refl, h)
-
-and_either : (a b : Bool) → (a && b) ≡ false → (a ≡ false) ⊎ (b ≡ false)
-and_either true b h = inr h
-and_either false b h = inl refl
-
-and_zero : (a b : Bool) → b ≡ false → (a && b) ≡ false
-and_zero true b h = h
-and_zero false b h = refl
-
 pub misses : (x : ℕ) (e : Shape) → has (always e) x ≡ false → Misses x e
 misses x Skip h = tt
 misses x (Use m) h = (or_both (m.id == x) false h).0
@@ -679,13 +625,6 @@ missing x (Either a b) (inl h) = has_both (always b) (always a) x ∙ and_none (
 missing x (Either a b) (inr h) = has_both (always b) (always a) x ∙ and_zero (has (always a) x) (has (always b) x) (missing x b h)
 missing x (Bound a) h = missing x a h
 missing x (Scope k m a) h = missing x a h
-
-not_true : (b : Bool) → not b ≡ true → b ≡ false
-not_true true h = absurd (cc)
-not_true false h = refl
-
-and_true : (a b : Bool) → a ≡ true → b ≡ true → (a && b) ≡ true
-and_true a b e f = rw (e, f) refl
 
 missed_is : (i : ℕ) (fip : Bool) (k : Ownership) (m : Mark) (xs : List ℕ) (a : Shape) (v : Breach) → has xs m.id ≡ has (always a) m.id → In v (missed i fip k m xs) ↔ Unused i fip k m a v
 missed_is i fip Owned m xs a v e = (

@@ -15,6 +15,7 @@ use Rattle.fip_rules.specs.Shapes.{Names, Bind, mark, binds, within, behind, tak
 use Rattle.fip_rules.specs.Stands.{Stand, marks_of, marks, names, noted, go, entered, entered_all, missed_from, with_scope, left_to, deepened, with_level, surfaced, with_used, with_walked, aside, back, went, still, others}
 use Rattle.fip_rules.proofs.Lists.{distinct_both}
 use Rattle.fip_rules.proofs.Shared.{after_told}
+pub use Rattle.fip_base.proofs.fip_language.Facts.{take_seam}
 
 abbrev pub stands : Stand → Option Violation → Walked → List Mark → ℕ → Stand
 stands t o w q n = record { instance = t.instance; fip = t.fip; found = o; walked = w; waiting = q; next = n }
@@ -88,10 +89,6 @@ take_whole (x ∷ xs) = ap (λ q. x ∷ q) (take_whole xs)
 pub drop_seam : {A : Type 0} (xs ys : List A) → drop (length xs) (xs ++ ys) ≡ ys
 drop_seam [] ys = refl
 drop_seam (x ∷ xs) ys = drop_seam xs ys
-
-pub take_seam : {A : Type 0} (xs ys : List A) → take (length xs) (xs ++ ys) ≡ xs
-take_seam [] ys = refl
-take_seam (x ∷ xs) ys = ap (λ q. x ∷ q) (take_seam xs ys)
 
 -- ---- scopes
 

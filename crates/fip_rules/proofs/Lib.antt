@@ -9,3 +9,4 @@ pub mod Steps
 pub mod Waits
 pub mod Views
 pub mod Whole
+pub use Rattle.fip_base.proofs as fip_base

@@ -4,6 +4,8 @@ use Rattle.std.specs.Prelude.{◌==◌, ◌&&◌, ◌||◌, ◌↔◌, filter, i
 use Rattle.std.proofs.lemmas.Bool.Decides.{nat_tests}
 use Rattle.fip_rules.specs.Marks.{Entry, Breach}
 use Rattle.fip_rules.specs.Notes.{In, has, distinct, or_else, look, when}
+use Rattle.fip_base.proofs.fip_language.Facts.{and_false, and_false_first as and_none, or_assoc, sum_exchange as mixed}
+pub use Rattle.fip_base.proofs.fip_language.Facts.{equal_true as same_test, greater_unequal as apart_test, greater_unequal_back as apart_back, same_number as same, sum_exchanges as mix}
 
 pub along : (A B C : Type 0) → (A ↔ B) → (B ↔ C) → A ↔ C
 along A B C f g = (λ h. g.0 (f.0 h), λ h. f.1 (g.1 h))
@@ -16,15 +18,6 @@ sum_is A B C D f g = (
   λ h. elim h as (λ x. B ⊎ D) [ inl k ↦ inl (f.0 k) | inr k ↦ inr (g.0 k) ],
   λ h. elim h as (λ x. A ⊎ C) [ inl k ↦ inl (f.1 k) | inr k ↦ inr (g.1 k) ],
 )
-
-mixed : (A B C D : Type 0) → ((A ⊎ B) ⊎ (C ⊎ D)) → ((A ⊎ C) ⊎ (B ⊎ D))
-mixed A B C D (inl (inl h)) = inl (inl h)
-mixed A B C D (inl (inr h)) = inr (inl h)
-mixed A B C D (inr (inl h)) = inl (inr h)
-mixed A B C D (inr (inr h)) = inr (inr h)
-
-pub mix : (A B C D : Type 0) → ((A ⊎ B) ⊎ (C ⊎ D)) ↔ ((A ⊎ C) ⊎ (B ⊎ D))
-mix A B C D = (mixed A B C D, mixed A C B D)
 
 pub in_left : (v : Breach) (xs ys : List Breach) → In v xs → In v (xs ++ ys)
 in_left v [] ys h = absurd h
@@ -55,29 +48,9 @@ pub to_when : (b : Bool) (u v : Breach) → b ≡ true → v ≡ u → In v (whe
 to_when true u v e h = inl h
 to_when false u v e h = absurd (cc)
 
-pub same : (m n : ℕ) → (m == n) ≡ true → m ≡ n
-same m n h = grind (arith, nat_tests)
-
-pub same_test : (m n : ℕ) → m ≡ n → (m == n) ≡ true
-same_test m n h = grind (arith, nat_tests)
-
-pub apart_test : (m n : ℕ) → m < n → (m == n) ≡ false
-apart_test m n h = grind (arith, nat_tests)
-
-pub apart_back : (m n : ℕ) → m < n → (n == m) ≡ false
-apart_back m n h = grind (arith, nat_tests)
-
-or_assoc : (a b c : Bool) → (a || (b || c)) ≡ ((a || b) || c)
-or_assoc true b c = refl
-or_assoc false b c = refl
-
 pub has_append : (xs ys : List ℕ) (x : ℕ) → has (xs ++ ys) x ≡ (has xs x || has ys x)
 has_append [] ys x = refl
 has_append (z ∷ xs) ys x = ap (λ b. (z == x) || b) (has_append xs ys x) ∙ or_assoc (z == x) (has xs x) (has ys x)
-
-and_false : (r : Bool) → (r && false) ≡ false
-and_false true = refl
-and_false false = refl
 
 kept_same : (zs : List ℕ) (z x : ℕ) (b c r : Bool) → (z == x) ≡ b → has zs z ≡ c → (has (if c then z ∷ [] else []) x || (r && has zs x)) ≡ ((b || r) && has zs x)
 kept_same zs z x true true r e f = let g : z ≡ x = same z x e in rw (e) (let k : has zs x ≡ true = ap (has zs) (sym g) ∙ f in rw k refl)
@@ -123,9 +96,6 @@ once_more false x xs e h = (has_distinct xs x ∙ e, h)
 distinct_once : (xs : List ℕ) → Once (distinct xs)
 distinct_once [] = tt
 distinct_once (x ∷ xs) = once_more (has xs x) x xs refl (distinct_once xs)
-
-and_none : (a b : Bool) → a ≡ false → (a && b) ≡ false
-and_none a b e = rw e refl
 
 filter_more : (b : Bool) (zs : List ℕ) (x : ℕ) (xs : List ℕ) → has xs x ≡ false → Once (filter (λ y. has zs y) xs) → Once (if b then x ∷ filter (λ y. has zs y) xs else filter (λ y. has zs y) xs)
 filter_more true zs x xs e h = (has_filter zs xs x ∙ and_none (has xs x) (has zs x) e, h)

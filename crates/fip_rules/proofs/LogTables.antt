@@ -6,6 +6,7 @@ use Rattle.fip_rules.specs.Notes.{has}
 use Rattle.fip_rules.specs.Shapes.{or_later}
 use Rattle.fip_rules.specs.Logs.{last_from, last, is_from, step_number, IsTable, IsTrail}
 use Rattle.fip_rules.specs.declared.log.Step.{Step}
+use Rattle.fip_base.proofs.fip_language.Facts.{append_none as none_more, less_of_not as room, suc_same, suc_zero, zero_suc}
 
 ended : (c : Bool) (a : Option ℕ) (m n : ℕ) (l : Option ℕ) → m ≡ n → or_later a (if c then Some m else l) ≡ (if c then Some n else or_later a l)
 ended true a m n l e = ap Some e
@@ -59,15 +60,6 @@ some_from (Some l) = grind (arith, nat_tests)
 pub has_is : (xs : List ℕ) (x : ℕ) → is_some (last xs x) ≡ has xs x
 has_is xs x = some_from (last xs x) ∙ since_is 0 xs x
 
-suc_same : (a b : ℕ) → (suc a == suc b) ≡ (a == b)
-suc_same a b = grind (arith, nat_tests)
-
-zero_suc : (a : ℕ) → (0 == suc a) ≡ false
-zero_suc a = grind (arith, nat_tests)
-
-suc_zero : (a : ℕ) → (suc a == 0) ≡ false
-suc_zero a = grind (arith, nat_tests)
-
 pub get_set : (os : List (Option ℕ)) (x y : ℕ) (q : Option ℕ) → x < length os → get_or (set os x q) y None ≡ (if x == y then q else get_or os y None)
 get_set [] x y q h = absurd (omega arith)
 get_set (o ∷ os) zero zero q h = refl
@@ -98,15 +90,8 @@ picked es e = last_end es e e ∙ (let t : (e == e) ≡ true = grind (arith, nat
 has_room : (os : List (Option ℕ)) (es : List ℕ) (e : ℕ) → IsTable os (es ++ e ∷ []) → (length os ≤ e → ⊥)
 has_room os es e h l = let a = past os e l in let b = h e in let c = picked es e in absurd (cc)
 
-room : (m n : ℕ) → (n ≤ m → ⊥) → m < n
-room m n h = grind arith
-
 in_room : (os : List (Option ℕ)) (es : List ℕ) (e : ℕ) → IsTable os (es ++ e ∷ []) → e < length os
 in_room os es e h = room e (length os) (has_room os es e h)
-
-none_more : (es : List ℕ) → es ++ [] ≡ es
-none_more [] = refl
-none_more (e ∷ es) = ap (λ q. e ∷ q) (none_more es)
 
 one_by_one : (es : List ℕ) (r : Step) (ss : List Step) → (es ++ r.number ∷ []) ++ map step_number ss ≡ es ++ map step_number (r ∷ ss)
 one_by_one es r ss = append_assoc es (r.number ∷ []) (map step_number ss)

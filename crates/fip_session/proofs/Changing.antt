@@ -11,19 +11,11 @@ use Rattle.std.proofs.lemmas.Bool.{cases_Bool, cond-true, cond-false, false_from
 use Rattle.std.proofs.lemmas.Map.Text.{is_eq-slice_cmp}
 use Rattle.std.proofs.lemmas.Slice.Eq.{bytes_eq-Decides}
 use Rattle.fip_session.specs.declared.book.Held.{Held}
+use Rattle.fip_language.proofs.Facts.{apart_in_order}
 
 other_entries : {K X : Type 0} (eq : K → K → Bool) (test : K → Bool) (old new : List (K × X)) → KeepsOthers eq test old new → (other : K → Bool) → IsKeyTest eq other → AreApart test other → lookup other new ≡ lookup other old
 unfolding KeepsOthers
 other_entries eq test old new h = h
-
--- a key at the one name is not at the other
-apart_in_order : (x y k : List ℕ) → bytes_eq x y ≡ false → is_eq (slice_cmp nat_cmp x k) ≡ true → is_eq (slice_cmp nat_cmp y k) ≡ false
-apart_in_order x y k n h =
-    let same : x ≡ k = (bytes_eq-Decides x k).0 (sym (is_eq-slice_cmp x k) ∙ h) in
-    is_eq-slice_cmp y k
-    ∙ false_from_ne_true (bytes_eq y k) (λ t.
-    let e : bytes_eq x y ≡ true = (bytes_eq-Decides x y).1 (same ∙ sym ((bytes_eq-Decides y k).0 t)) in
-    cc)
 
 pub changed_at : (x : List ℕ) (m n : BTreeMap (Vec ℕ Global) Held) (w : Option Held) → UpdatesBy (λ a b. slice_cmp nat_cmp a.items b.items) (λ k. slice_cmp nat_cmp x k.items) m n w → (y : List ℕ) → get_by (λ k. slice_cmp nat_cmp y k.items) n ≡ update bytes_eq (λ z. get_by (λ k. slice_cmp nat_cmp z k.items) m) x w y
 changed_at x m n w h y =

@@ -30,13 +30,8 @@ use Rattle.fip_session.specs.Booked.{IsBook}
 use Rattle.fip_session.specs.declared.book.Book.{Book}
 use Rattle.fip_session.specs.declared.plan.Arguments.{Arguments}
 use Rattle.fip_session.specs.declared.plan.Plan.{Plan}
-
-same_or : (m n : ℕ) → (m ≡ n) ⊎ (m ≢ n)
-same_or m n = by (nat_eq m n) refl
-  where
-    by : (b : Bool) → nat_eq m n ≡ b → (m ≡ n) ⊎ (m ≢ n)
-    by true e = inl (eqb-true m n e)
-    by false e = inr (eqb-false m n e)
+use Rattle.fip_language.proofs.Facts.{same_or_not as same_or}
+pub use Rattle.fip_language.proofs.Facts.{none_of, reflected as is_right}
 
 module _ (o : Setting) (s : State) (b : Book) (ls : List Lodged) (book : IsBook o b ls) (held : s.held ≡ map holding_of ls) (results : List Name) (name : Name) (gs : List Written) where
   abbrev functions : List Function
@@ -140,10 +135,3 @@ can_take_all o b ls n f bytes book there line =
       known = subst (λ tb. AreTypes tb (types_of f.params)) same (book.served.readable.known n f there);
       line = line;
     }
-
-pub is_right : {P : Type 0} (b : Bool) → IsTrue b ↔ P → b ≡ true → P
-is_right b h e = h.0 e
-
-pub none_of : {A : Type 0} (o : Option A) → ((x : A) → o ≡ Some x → ⊥) → o ≡ None
-none_of None h = refl
-none_of (Some x) h = absurd (h x refl)

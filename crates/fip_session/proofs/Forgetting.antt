@@ -20,6 +20,7 @@ use Rattle.fip_session.specs.Named.{found}
 use Rattle.fip_session.specs.Planned.{Finds, held_by, names_used}
 use Rattle.fip_session.specs.declared.book.Held.{Held}
 use Rattle.fip_session.specs.declared.plan.Given.{Given}
+pub use Rattle.fip_language.proofs.Facts.{drop_end as none_left, left_at, length_of_none as past}
 
 -- ---- names
 
@@ -156,25 +157,6 @@ module _ (now next : BTreeMap (Vec ℕ Global) Held) (all : List Lodged) (n : Na
             words = words;
             are = append_assoc h.have (l ∷ []) (lodge_all ns ts ys) ∙ a;
           }
-
-pub left_at : {A : Type 0} (xs : List A) (i : ℕ) (x : A) → slice_get xs i ≡ Some x → drop i xs ≡ x ∷ drop (i + 1) xs
-left_at xs i x e = by xs i x e ∙ ap (λ n. x ∷ drop n xs) (let z : suc i ≡ i + 1 = omega arith in z)
-  where
-    by : {A : Type 0} (xs : List A) (i : ℕ) (x : A) → slice_get xs i ≡ Some x → drop i xs ≡ x ∷ drop (suc i) xs
-    by [] i x e = absurd (none-some x e)
-    by (y ∷ xs) zero x e = (let same : y ≡ x = same_Some y x e in ap (λ z. z ∷ drop zero xs) same)
-    by (y ∷ xs) (suc i) x e = by xs i x e
-
-pub past : {A : Type 0} (xs : List A) (i : ℕ) → slice_get xs i ≡ None → length xs ≤ i
-past [] i e = omega arith
-past (x ∷ xs) zero e = absurd (none-some x (sym e))
-past (x ∷ xs) (suc i) e = (let h = past xs i e in omega (arith, h))
-
-pub none_left : {A : Type 0} (xs : List A) (i : ℕ) → length xs ≤ i → drop i xs ≡ []
-none_left [] zero le = refl
-none_left [] (suc i) le = refl
-none_left (x ∷ xs) zero le = absurd (let z : ⊥ = omega (arith, le) in z)
-none_left (x ∷ xs) (suc i) le = none_left xs i (omega (arith, le))
 
 names_left : (ns : List (Bor (List ℕ))) (i : ℕ) → names_of (drop i ns) ≡ drop i (names_of ns)
 names_left ns zero = refl

@@ -27,10 +27,7 @@ use Rattle.fip_session.specs.Gone.{fresh_trees, AreStanding, IsAny, IsLent, all_
 use Rattle.fip_session.specs.Readied.{fresh_one, fresh_list}
 use Rattle.fip_session.specs.declared.ready.Fresh.{Fresh}
 use Rattle.fip_session.proofs.Stores.{same_cell}
-
-some_or : (n : ℕ) → (0 < n) ⊎ (n ≡ 0)
-some_or zero = inr refl
-some_or (suc n) = inl (omega arith)
+use Rattle.fip_language.proofs.Facts.{length_join, positive_or_zero as some_or}
 
 there_same : (s u : Store) (q : ℕ) → u.cells ≡ s.cells → there u q ≡ there s q
 there_same s u q e = ap (λ os. one_if_some (cell_in os q)) e
@@ -111,10 +108,6 @@ few_of s x h = few_in s (places x) (λ q. (let a = h q in let b = places_use x q
 count_join : (q : ℕ) (ps qs : List ℕ) → count q (ps ++ qs) ≡ count q ps + count q qs
 count_join q [] qs = omega arith
 count_join q (p ∷ ps) qs = (let h = count_join q ps qs in omega (arith, h))
-
-length_join : (ps qs : List ℕ) → length (ps ++ qs) ≡ length ps + length qs
-length_join [] qs = omega arith
-length_join (p ∷ ps) qs = (let h = length_join ps qs in omega (arith, h))
 
 length_places : (ts : List Tree) → length (places_of ts) ≡ length ts
 length_places [] = refl

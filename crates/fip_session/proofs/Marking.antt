@@ -14,13 +14,7 @@ use Rattle.store_trees.specs.GivenUp.{given_up}
 use Rattle.fip_session.specs.Swept.{IsMarked}
 use Rattle.fip_session.proofs.GivingUp.{up_none, up_places}
 use Rattle.fip_session.proofs.Sweeping.{Sweeping, sweeping_on, sweeping_store, behind_of, IsNextCell}
-
-same_place : (p q : ℕ) → (p ≡ q) ⊎ (p ≡ q → ⊥)
-same_place p q = by (nat_eq p q) refl
-  where
-    by : (b : Bool) → nat_eq p q ≡ b → (p ≡ q) ⊎ (p ≡ q → ⊥)
-    by true e = inl (grind (arith, nat_tests))
-    by false e = inr (λ k. grind (arith, nat_tests))
+use Rattle.fip_language.proofs.Facts.{replicate_length as length_replicate, same_or_apart as same_place}
 
 one_here : (p q : ℕ) → p ≡ q → one_at q p ≡ 1
 one_here p q e = grind (arith, nat_tests)
@@ -54,10 +48,6 @@ no_true : (n p : ℕ) → slice_get (replicate n false) p ≡ Some true → ⊥
 no_true zero p e = none-some true e
 no_true (suc n) zero e = (let z = same_Some false true e in absurd (cc))
 no_true (suc n) (suc p) e = no_true n p e
-
-length_replicate : (n : ℕ) → length (replicate n false) ≡ n
-length_replicate zero = refl
-length_replicate (suc n) = ap suc (length_replicate n)
 
 root_at : (ts : List Tree) (i : ℕ) (d : Tree) → i < length ts → drop i ts ≡ get_or ts i d ∷ drop (i + 1) ts
 root_at ts i d lt = by ts i lt ∙ ap (λ n. get_or ts i d ∷ drop n ts) (let z : suc i ≡ i + 1 = omega arith in z)

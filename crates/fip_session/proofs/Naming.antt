@@ -7,6 +7,7 @@ use Rattle.fip_language.specs.Every.{times, one_if_named}
 use Rattle.session_lines.specs.Said.{names_of}
 use Rattle.fip_session.specs.Planned.{names_given, names_used}
 use Rattle.fip_session.specs.declared.plan.Given.{Given}
+pub use Rattle.fip_language.proofs.Facts.{not_true}
 
 one_named : (m n : Name) (b : Bool) → same_name m n ≡ b → one_if_named m n ≡ (if b then 1 else 0)
 one_named m n b e = ap (λ (t : Bool). if t then 1 else 0) e
@@ -108,7 +109,3 @@ none_used m gs i le h = sym h ∙ by gs i le
     by [] (suc i) le = refl
     by (g ∷ gs) zero le = absurd (let z : ⊥ = omega (arith, le) in z)
     by (g ∷ gs) (suc i) le = by gs i (omega (arith, le))
-
-pub not_true : (b : Bool) → not b ≡ true → b ≡ false
-not_true true e = absurd (let z = e in cc)
-not_true false e = refl

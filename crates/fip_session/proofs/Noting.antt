@@ -25,6 +25,7 @@ use Rattle.fip_session.specs.declared.ready.Fresh.{Fresh}
 use Rattle.fip_session.proofs.Forgetting.{none_left}
 use Rattle.fip_session.proofs.GivingUp.{added_more, few_more}
 use Rattle.fip_session.proofs.Readying.{every_at, lodged_of}
+use Rattle.fip_language.proofs.Facts.{drop_next as item_at}
 
 pub record NotesValues (tb : Table) (cs : L.Cells) (xs : List Placed) (first now : List Tree) (fs' : List Fresh) : Type 0 where
   pub left : List Placed
@@ -107,14 +108,6 @@ pub kept_first : (ls : List Lodged) (g : Given) (gs : List Given) (q : ℕ) → 
 kept_first ls g gs q not = ap (λ (b : Bool). named_uses ls ((if b then g.name.now ∷ [] else []) ++ names_used gs) q) not
 
 -- ---- one after another
-
-item_at : {A : Type 0} (xs : List A) (i : ℕ) (d : A) → i < length xs → drop i xs ≡ get_or xs i d ∷ drop (i + 1) xs
-item_at xs i d lt = by xs i d lt ∙ ap (λ n. get_or xs i d ∷ drop n xs) (let z : suc i ≡ i + 1 = omega arith in z)
-  where
-    by : {A : Type 0} (xs : List A) (i : ℕ) (d : A) → i < length xs → drop i xs ≡ get_or xs i d ∷ drop (suc i) xs
-    by [] i d lt = absurd (let z : ⊥ = omega (arith, lt) in z)
-    by (x ∷ xs) zero d lt = refl
-    by (x ∷ xs) (suc i) d lt = by xs i d (omega (arith, lt))
 
 pub note_on : (ls : List Lodged) (gs : List Given) (i : ℕ) (d : Given) (q now new total : ℕ) → i < length gs → new ≡ now + named_uses ls (names_used (get_or gs i d ∷ [])) q → now + named_uses ls (names_used (drop i gs)) q ≡ total → new + named_uses ls (names_used (drop (i + 1) gs)) q ≡ total
 note_on ls gs i d q now new total lt one all =

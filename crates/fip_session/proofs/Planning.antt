@@ -32,6 +32,7 @@ use Rattle.fip_session.specs.declared.plan.Arguments.{Arguments}
 use Rattle.fip_session.specs.declared.plan.Given.{Given}
 use Rattle.value_text.specs.Single.{BeginsWith, IsPlaced, IsValueAt, AreCellsOf}
 use Rattle.value_text.specs.declared.counts.Counts.{Counts}
+use Rattle.fip_language.proofs.Facts.{le_or_less as within_or}
 
 -- ---- names that are noted
 
@@ -134,15 +135,6 @@ length_left : (n : ℕ) (bytes : List ℕ) → length (drop n bytes) ≡ length 
 length_left zero bytes = omega arith
 length_left (suc n) [] = omega arith
 length_left (suc n) (b ∷ bytes) = let h = length_left n bytes in omega (arith, h)
-
-within_or : (m n : ℕ) → (m ≤ n) ⊎ (n < m)
-within_or zero n = inl (omega arith)
-within_or (suc m) zero = inr (omega arith)
-within_or (suc m) (suc n) = by (within_or m n)
-  where
-    by : (m ≤ n) ⊎ (n < m) → (suc m ≤ suc n) ⊎ (suc n < suc m)
-    by (inl le) = inl (omega (arith, le))
-    by (inr lt) = inr (omega (arith, lt))
 
 module _ (tb : Table) (k : ℕ) (bytes : List ℕ) (can : CanTake tb k bytes) (start end : ℕ) (w : Text) (written' : WrittenText (symbols (drop start bytes)) w (symbols (drop end bytes))) where
   abbrev at_place : ℕ → List Symbol

@@ -40,11 +40,9 @@ use Rattle.value_text.specs.Standing as V
 use Rattle.fip_session.specs.Readied.{IsReady}
 use Rattle.fip_session.specs.declared.ready.Ready.{Ready}
 use Rattle.fip_session.proofs.Stores.{same_cell, live_there, stand_all, lie_there, spare, names}
+use Rattle.fip_language.proofs.Facts.{nat_lt_false as not_less}
 
 -- ---- a function has registers for what it is given
-
-not_less : (m n : ℕ) → nat_lt m n ≡ false → n ≤ m
-not_less m n e = grind (arith, nat_tests)
 
 pub room : (c : PlainCode) (f : PlainFunction) → is_formed c f ≡ true → length f.params + length f.credits ≤ f.registers
 room c f e =

@@ -37,6 +37,7 @@ use Rattle.fip_session.proofs.Forgetting.{same_or, unlike, but_same, but_other}
 use Rattle.fip_session.proofs.GivingUp.{added_more, few_more}
 use Rattle.fip_session.proofs.Readying.{every_at}
 use Rattle.fip_session.proofs.Stores.{same_cell}
+use Rattle.fip_language.proofs.Facts.{positive_or_zero as some_or, three_ways as place_or}
 
 abbrev pub Entries : Type 0
 Entries = List (Vec ℕ Global × Held)
@@ -158,21 +159,6 @@ past_or (Some a) q = less_or q a
 
 none_there : (s : Store) (q : ℕ) → L.cell_at s.cells q ≡ None → there s q ≡ 0
 none_there s q e = ap one_if_some (sym (same_cell s.cells q) ∙ e)
-
-some_or : (n : ℕ) → (0 < n) ⊎ (n ≡ 0)
-some_or zero = inr refl
-some_or (suc n) = inl (omega arith)
-
-place_or : (q p : ℕ) → (q < p) ⊎ ((q ≡ p) ⊎ (p < q))
-place_or zero zero = inr (inl refl)
-place_or zero (suc p) = inl (omega arith)
-place_or (suc q) zero = inr (inr (omega arith))
-place_or (suc q) (suc p) = by (place_or q p)
-  where
-    by : (q < p) ⊎ ((q ≡ p) ⊎ (p < q)) → (suc q < suc p) ⊎ ((suc q ≡ suc p) ⊎ (suc p < suc q))
-    by (inl h) = inl (omega (arith, h))
-    by (inr (inl e)) = inr (inl (ap suc e))
-    by (inr (inr h)) = inr (inr (omega (arith, h)))
 
 -- between a place and the next one, or behind it where there is none, no cell begins
 abbrev pub IsNextCell : Option ℕ → Option ℕ → L.Cells → Type 0

@@ -5,6 +5,7 @@ use Rattle.session_lines.specs.command_outcome.Texts.{line_end}
 use Rattle.session_lines.specs.session_semantics.Talk.{Setting, State, Talks, at_first}
 use Rattle.fip_session.specs.Opened.{IsSession, RepliesTo}
 use Rattle.fip_session.specs.declared.session.Session.{Session}
+pub use Rattle.fip_language.proofs.Facts.{drop_past as none_left}
 
 -- The session replied so to the lines before these.
 pub record Follows (o : Setting) (lines : List (List ℕ)) (out : List ℕ) (t : Session) (rest : List (List ℕ)) : Type 0 where
@@ -27,10 +28,3 @@ goes_on o lines out t u line reply rest f h =
 
 pub all_told : (o : Setting) (lines : List (List ℕ)) (out : List ℕ) (t : Session) → Follows o lines out t [] → Talks o at_first lines out
 all_told o lines out t f = subst (Talks o at_first lines) (append-nil out) (f.talks [] refl)
-
--- no byte is left behind the last
-pub none_left : (bytes : List ℕ) (i : ℕ) → length bytes ≤ i → drop i bytes ≡ []
-none_left [] zero le = refl
-none_left [] (suc i) le = refl
-none_left (b ∷ bytes) zero le = absurd (omega (arith, le))
-none_left (b ∷ bytes) (suc i) le = none_left bytes i (omega (arith, le))

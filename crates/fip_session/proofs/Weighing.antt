@@ -11,6 +11,7 @@ use Rattle.value_text.specs.Loaded.{words_up_to}
 use Rattle.value_text.specs.declared.counts.Counts.{Counts}
 use Rattle.value_text.proofs.Taken.{words_zero, words_suc}
 use Rattle.fip_session.specs.Planned.{IsWeighed}
+use Rattle.fip_language.proofs.Facts.{times_le as mul_le}
 
 pub credits_are : (k : ℕ) (cs : List ℕ) → credits_of k cs ≡ count k cs
 credits_are k [] = refl
@@ -26,14 +27,6 @@ one_few k c = by (nat_eq k c)
 count_few : (k : ℕ) (cs : List ℕ) → count k cs ≤ length cs
 count_few k [] = omega arith
 count_few k (c ∷ cs) = (let a = one_few k c in let r = count_few k cs in omega (arith, a, r))
-
-mul_le : (a b x : ℕ) → a ≤ b → a * x ≤ b * x
-mul_le a b zero le = (let p = mul-zero a in let q = mul-zero b in omega (arith, p, q))
-mul_le a b (suc x) le =
-    let r = mul_le a b x le in
-    let p = mul-suc a x in
-    let q = mul-suc b x in
-    omega (arith, le, r, p, q)
 
 mul_turned : (a b : ℕ) → a * b ≡ b * a
 mul_turned zero zero = refl

@@ -11,6 +11,8 @@ use Rattle.store_trees.specs.declared.trees.Tree.{Tree}
 use Rattle.store_trees.specs.Added.{places_of, Adds}
 use Rattle.fip_machine.specs.machine_cells.Counting.{freed_of, one_of}
 use Rattle.fip_tasks.specs.Gauged.{sized}
+use Rattle.fip_language.proofs.Facts.{head_same, nat_eq_same as same_at, tail_same}
+pub use Rattle.fip_language.proofs.Facts.{true_of_not_false as is_whole}
 
 pub sized_append : (k : ℕ) (cs : Cells) (ps qs : List ℕ) → sized k cs (ps ++ qs) ≡ sized k cs ps + sized k cs qs
 sized_append k cs [] qs = omega arith
@@ -29,9 +31,6 @@ record Without (p : ℕ) (k : ℕ) (cs : Cells) (ps : List ℕ) : Type 0 where
   rest : List ℕ
   counts : (q : ℕ) → count q ps ≡ one_at q p + count q rest
   sum : sized k cs ps ≡ one_of k (size_in (cell_at cs p)) + sized k cs rest
-
-same_at : (p q : ℕ) → nat_eq p q ≡ true → p ≡ q
-same_at p q e = grind (arith, nat_tests)
 
 without : (p k : ℕ) (cs : Cells) (ps : List ℕ) → 0 < count p ps → Without p k cs ps
 without p k cs [] h = absurd (omega (arith, h))
@@ -130,12 +129,6 @@ pub record FirstPart (tb : Table) (cs : Cells) (t : ℕ) (ts ws more : List ℕ)
   pub word : word_of first ≡ w
   pub words : us ≡ words_of others ++ more
 
-head_same : (x y : ℕ) (xs ys : List ℕ) → x ∷ xs ≡ y ∷ ys → x ≡ y
-head_same x y xs ys e = cc
-
-tail_same : (x y : ℕ) (xs ys : List ℕ) → x ∷ xs ≡ y ∷ ys → xs ≡ ys
-tail_same x y xs ys e = cc
-
 pub first_part : (tb : Table) (cs : Cells) (t : ℕ) (ts more : List ℕ) (w : ℕ) (us : List ℕ) (ys : Parts) → StandAll tb cs (t ∷ ts) ys → w ∷ us ≡ words_of ys ++ more → FirstPart tb cs t ts (w ∷ us) more w us ys
 first_part tb cs t ts more w us NoParts h e = absurd h
 first_part tb cs t ts more w us (MoreParts x xs) h e = record {
@@ -161,11 +154,6 @@ words_enough tb cs (t ∷ ts) ws more (MoreParts x xs) h e =
 pub none_left : (tb : Table) (cs : Cells) (k : ℕ) (ys : Parts) → StandAll tb cs [] ys → cells_of_all k (values_of ys) ≡ 0
 none_left tb cs k NoParts h = refl
 none_left tb cs k (MoreParts x xs) h = absurd h
-
--- an answer that can't be no
-pub is_whole : (b : Bool) → (b ≡ false → ⊥) → b ≡ true
-is_whole true h = refl
-is_whole false h = absurd (h refl)
 
 -- at first nothing is counted
 zeros : (n i : ℕ) → ◌≡◌ {A = ℕ} (get_or (replicate n 0) i 0) 0

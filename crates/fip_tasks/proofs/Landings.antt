@@ -26,6 +26,8 @@ use Rattle.fip_tasks.specs.Shown.{IsAt, HasEnded, StandsAt, CanGo, IsStarted}
 use Rattle.fip_tasks.specs.Turns.{Standing}
 use Rattle.fip_tasks.specs.declared.task.Start.{Start}
 use Rattle.fip_tasks.proofs.Called.{IsCalling, calling, out}
+use Rattle.fip_language.proofs.Facts.{true_is_not_false as not_both}
+pub use Rattle.fip_language.proofs.Facts.{none_of as not_some}
 
 -- ---- the cells of a run
 
@@ -91,9 +93,6 @@ landed_going v s t l k u cells e code going on left = subst (λ (q : State). IsL
 
 same_cells : (s : State) (u : Standing) (cells : Store) → state_with u.stack s.lent cells ≡ s → s.store ≡ cells
 same_cells s u cells e = sym (ap (λ (q : State). q.store) e)
-
-not_both : {A : Type 0} (b : Bool) → b ≡ true → b ≡ false → A
-not_both b e f = absurd cc
 
 came : (v : Checked) (s : State) (l k : ℕ) (call : Bool) (x : Next) (r : Stepped) (u : Standing) (cells : Store) → Comes s x r (state_with u.stack s.lent cells) u.stack.given → x ≢ Stuck → IsCalling call x → (l ≡ 0 → call ≡ false) → u.stack.code ≡ v → u.stack.ended ≡ ended_by r → Fits r l u → IsLanded v u cells (comes s l k x)
 came v s l k call (Went t) r u cells h known calls none code ends fits =
@@ -260,10 +259,6 @@ is_new v start t code going loads out some cells r h =
     by (suc n) out some state = record { code = code; state = state; going = going; on = (some n refl).0; left = (some n refl).1 }
 
 -- ---- for the answers of a task's steps
-
-pub not_some : {A : Type 0} (o : Option A) → ((x : A) → o ≡ Some x → ⊥) → o ≡ None
-not_some None h = refl
-not_some (Some x) h = absurd (h x refl)
 
 pub entered_fits : (l : ℕ) (u : Standing) → 0 < l → u.ended ≡ None → u.left ≡ l - 1 → Fits S.Entered l u
 entered_fits zero u some on left = tt

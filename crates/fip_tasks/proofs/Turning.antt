@@ -19,17 +19,9 @@ use Rattle.fip_tasks.specs.Turns.{Standing, Turns}
 use Rattle.fip_tasks.specs.Gauged.{HasCounted, HoldsAtStart}
 use Rattle.fip_tasks.proofs.Lists.{at_same, at_other, at_push, map_set, there}
 use Rattle.fip_tasks.proofs.Landings.{from_cells, cells_in, own_cells}
+use Rattle.fip_language.proofs.Facts.{same_or_not as same_place}
 
 -- ---- places
-
-same_place : (j k : ℕ) → (j ≡ k) ⊎ (j ≢ k)
-same_place zero zero = inl refl
-same_place zero (suc k) = inr (λ e. cc)
-same_place (suc j) zero = inr (λ e. cc)
-same_place (suc j) (suc k) = elim (same_place j k) [
-  | inl e ↦ inl (ap suc e)
-  | inr n ↦ inr (λ e. n (cc))
-]
 
 -- ---- turns of one task
 

@@ -4,6 +4,7 @@ use Rattle.std.specs.Prelude.{◌==◌, nat_lt, if◌then◌else◌}
 use Rattle.std.proofs.lemmas.Bool.Decides.{nat_tests}
 use Rattle.fip_trees.specs.declared.least.Violation.{Violation}
 use Rattle.fip_trees.specs.Least.{smaller, rank, comes_before, better, after, In, IsLeast}
+use Rattle.fip_base.proofs.fip_language.Facts.{false_of_not_true as is_false, nat_lt_true as is_less, same_number as same_yes, true_and_false as not_both, unequal_apart as same_no}
 
 pub after-append : (o : Option Violation) (xs ys : List Violation) → after o (xs ++ ys) ≡ after (after o xs) ys
 after-append o [] ys = refl
@@ -30,15 +31,6 @@ in_either v (x ∷ xs) ys (inr h) = elim (in_either v xs ys h) [ inl g ↦ inl (
 pub never_smaller : (xs : List ℕ) → smaller xs xs ≡ false
 never_smaller [] = refl
 never_smaller (x ∷ xs) = let r = never_smaller xs in grind (arith, nat_tests)
-
-same_yes : (m n : ℕ) → (m == n) ≡ true → m ≡ n
-same_yes m n h = grind (arith, nat_tests)
-
-same_no : (m n : ℕ) → (m == n) ≡ false → m ≡ n → ⊥
-same_no m n h e = grind (arith, nat_tests)
-
-is_less : (m n : ℕ) → nat_lt m n ≡ true → m < n
-is_less m n h = grind (arith, nat_tests)
 
 -- the first of two lists decides, or is the same
 abbrev Heads : ℕ → ℕ → Bool → Type 0
@@ -74,13 +66,6 @@ smaller_both (x ∷ xs) (y ∷ ys) (z ∷ zs) h g = elim (heads x y (smaller xs 
 ]
 
 -- ---- the least
-
-not_both : (b : Bool) → b ≡ true → b ≡ false → ⊥
-not_both b h g = absurd (let e = sym h ∙ g in cc)
-
-is_false : (b : Bool) → (b ≡ true → ⊥) → b ≡ false
-is_false true h = absurd (h refl)
-is_false false h = refl
 
 -- what doesn't come before one doesn't come before a lesser one
 lesser : (u w v : Violation) → comes_before u w ≡ false → comes_before v w ≡ true → comes_before u v ≡ false

@@ -6,3 +6,4 @@ pub mod SizeLists
 pub mod NeedsLists
 pub mod MeaningLists
 pub use Rattle.fip_base.proofs.fip_language as fip_language
+pub use Rattle.fip_base.proofs as fip_base

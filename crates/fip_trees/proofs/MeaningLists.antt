@@ -4,6 +4,7 @@ use Rattle.std.specs.Map.{lookup}
 use Rattle.fip_base.specs.fip_language.Core.{Name}
 use Rattle.fip_base.specs.fip_language.Declarations.{same_name}
 use Rattle.fip_trees.specs.Names.{meaning, names, is_among, with_meaning}
+pub use Rattle.fip_base.proofs.fip_language.Facts.{none_seen}
 
 abbrev pub seen_by : {K A : Type 0} → (K → Name) → List (K × A) → List (Name × A)
 seen_by f es = map (λ e. (f e.0, e.1)) es
@@ -19,10 +20,6 @@ some_either false a o = refl
 pub among_seen : {K A : Type 0} (f : K → Name) (n : Name) (es : List (K × A)) → is_some (lookup (λ k. same_name n (f k)) es) ≡ is_among n (names (seen_by f es))
 among_seen f n [] = refl
 among_seen f n (e ∷ es) = some_either (same_name n (f e.0)) e.1 (lookup (λ k. same_name n (f k)) es) ∙ ap (λ b. same_name n (f e.0) || b) (among_seen f n es)
-
-pub none_seen : {A : Type 0} (o : Option A) → is_some o ≡ false → o ≡ None
-none_seen None h = refl
-none_seen (Some a) h = absurd (cc)
 
 seen_append : {K A : Type 0} (f : K → Name) (es : List (K × A)) (k : K) (a : A) → seen_by f (es ++ (k, a) ∷ []) ≡ seen_by f es ++ (f k, a) ∷ []
 seen_append f [] k a = refl

@@ -1,6 +1,7 @@
 -- A flag for each type of a table.
 use Rattle.std.proofs.Common.{◌≡◌, ℕ, zero, suc, ◌<◌, ◌≤◌, ◌⊎◌, inl, inr, List, [], ◌∷◌, ◌++◌, length, get_or, Bool, true, refl, sym, ap, ◌∙◌, arith}
 use Rattle.fip_base.specs.fip_language.Table.{Table, shapes, is_scalar, all_bare}
+use Rattle.fip_base.proofs.fip_language.Facts.{less_or_not as within}
 
 -- what the list has is right
 abbrev pub Flags : Table → List Bool → Type 0
@@ -31,12 +32,6 @@ past (x ∷ xs) (suc t) h = past xs t (omega arith)
 past_scalar : (tb : Table) (t : ℕ) → length tb < t → is_scalar tb t ≡ true
 past_scalar tb zero h = absurd (omega arith)
 past_scalar tb (suc t) h = ap all_bare (none_there tb t (omega arith))
-
-within : (t n : ℕ) → (t < n) ⊎ (n ≤ t)
-within zero zero = inr (omega arith)
-within zero (suc n) = inl (omega arith)
-within (suc t) zero = inr (omega arith)
-within (suc t) (suc n) = elim (within t n) [ inl h ↦ inl (omega arith) | inr h ↦ inr (omega arith) ]
 
 -- and with all types in it, so is what it has for any number
 pub flags_all : (tb : Table) (xs : List Bool) → Flags tb xs → length tb < length xs → (t : ℕ) → get_or xs t true ≡ is_scalar tb t

@@ -3,6 +3,7 @@ use Rattle.std.proofs.Common.{◌≡◌, ℕ, zero, suc, ◌<◌, ◌≤◌, Lis
 use Rattle.std.specs.Prelude.{◌+◌, ◌==◌, if◌then◌else◌}
 use Rattle.std.proofs.lemmas.Bool.Decides.{nat_tests}
 use Rattle.fip_trees.specs.Sizes.{number, zeros, is_size, one_more, one_if, by_size}
+use Rattle.fip_base.proofs.fip_language.Facts.{set_length as set_long, suc_same, suc_zero, zero_suc}
 
 -- the first k places are done
 abbrev pub half : (ℕ → ℕ → ℕ) → ℕ → List ℕ → List ℕ → List ℕ
@@ -54,20 +55,6 @@ pub by_size_long : (f : ℕ → ℕ → ℕ) (xs ys : List ℕ) → length xs �
 by_size_long f [] ys e = refl
 by_size_long f (x ∷ xs) [] e = absurd (omega arith)
 by_size_long f (x ∷ xs) (y ∷ ys) e = ap suc (by_size_long f xs ys (omega arith))
-
-set_long : (xs : List ℕ) (k x : ℕ) → length (set xs k x) ≡ length xs
-set_long [] k x = refl
-set_long (y ∷ ys) zero x = refl
-set_long (y ∷ ys) (suc k) x = ap suc (set_long ys k x)
-
-suc_same : (a b : ℕ) → (suc a == suc b) ≡ (a == b)
-suc_same a b = grind (arith, nat_tests)
-
-zero_suc : (a : ℕ) → (0 == suc a) ≡ false
-zero_suc a = grind (arith, nat_tests)
-
-suc_zero : (a : ℕ) → (suc a == 0) ≡ false
-suc_zero a = grind (arith, nat_tests)
 
 set_at : (xs : List ℕ) (j k x : ℕ) → j < length xs → number (set xs j x) k ≡ (if j == k then x else number xs k)
 set_at [] j k x h = absurd (omega arith)

@@ -20,6 +20,7 @@ use Rattle.ownership_agreement.specs.Bodies.{Scalars, variables, entering, enter
 use Rattle.ownership_agreement.proofs.Basics.{not_owned}
 use Rattle.in_place_safety.specs.Counts.{Held, total, Once, Binds}
 use Rattle.in_place_safety.proofs.Tracking.{Tracks, held_with, held_new, held_old, one_more, tracks_one, scalar_cells}
+use Rattle.tail_groups.proofs.fip_language.Facts.{or_false_both as more_false}
 
 -- the types in the slots of binders
 abbrev pub slots : List Binder → List ℕ
@@ -69,10 +70,6 @@ module _ (tb : Table) (w : World) (is : w.scalar ≡ is_scalar tb) where
       subst (λ f. Tracks tb (within c (taking w taken bs)) f (s ++ slot_entries bs) (bind_binders env bs vs) (held_all (is_scalar tb) c.next bs vs held)) (entering_is c.next sc bs) (all_tracked taken c sc s env held bs vs h g)
 
 -- ---- which are counted
-
-more_false : (a b : Bool) → (a || b) ≡ false → (a ≡ false) × (b ≡ false)
-more_false true b e = cc
-more_false false b e = (refl, e)
 
 module _ (tb : Table) (w : World) (is : w.scalar ≡ is_scalar tb) where
   -- one binder before others: it is counted unless it is scalar

@@ -9,6 +9,7 @@ use Rattle.ownership_agreement.specs.ownership_calculus.ByCases.{Opens, DerivesV
 use Rattle.ownership_agreement.specs.ownership_calculus.Functions.{starting, Derived}
 use Rattle.ownership_agreement.proofs.ownership_calculus.Faithful.{by_cases}
 use Rattle.in_place_safety.specs.Counts.{Held, cells_of_value, cells_of_values, cells_passed, total, Once, Binds, Counts, CountsLent, CountsTaken}
+use Rattle.tail_groups.proofs.fip_language.Facts.{and_false, and_false_first as and_left_false, and_not_true as not_both, or_assoc, or_false_false as or_false, or_last as has_more, same_number}
 
 abbrev times : ℕ → ℕ → ℕ
 times zero c = 0
@@ -47,9 +48,6 @@ weight_same held (x ∷ dom) o p k h = let e = ap (λ n. times n (held x k)) (h 
 weight_zero : (held : Held) (dom : List ℕ) (o : ℕ → ℕ) (k : ℕ) → ((x : ℕ) → o x ≡ 0) → weight held dom o k ≡ 0
 weight_zero held [] o k h = refl
 weight_zero held (x ∷ dom) o k h = let e = ap (λ n. times n (held x k)) (h x) in let g = weight_zero held dom o k h in omega arith
-
-same_number : (x y : ℕ) → (x == y) ≡ true → x ≡ y
-same_number x y h = grind (arith, nat_tests)
 
 one_yes : (x y : ℕ) → (y == x) ≡ true → one x y ≡ 1
 one_yes x y h = grind (arith, nat_tests)
@@ -133,17 +131,9 @@ abbrev minus : List ℕ → List ℕ → List ℕ
 minus ys [] = []
 minus ys (x ∷ xs) = if has ys x then minus ys xs else x ∷ minus ys xs
 
-or_assoc : (a b c : Bool) → (a || (b || c)) ≡ ((a || b) || c)
-or_assoc true b c = refl
-or_assoc false b c = refl
-
 has_append : (xs ys : List ℕ) (x : ℕ) → has (xs ++ ys) x ≡ (has xs x || has ys x)
 has_append [] ys x = refl
 has_append (z ∷ xs) ys x = ap (λ b. (z == x) || b) (has_append xs ys x) ∙ or_assoc (z == x) (has xs x) (has ys x)
-
-and_false : (b : Bool) → (b && false) ≡ false
-and_false true = refl
-and_false false = refl
 
 minus_step : (ys xs : List ℕ) (z x : ℕ) (b c : Bool) → has ys z ≡ b → (z == x) ≡ c → has (minus ys xs) x ≡ (has xs x && not (has ys x)) → has (if b then minus ys xs else z ∷ minus ys xs) x ≡ ((c || has xs x) && not (has ys x))
 minus_step ys xs z x true true e f h = let s : z ≡ x = same_number z x f in let g : has ys x ≡ true = subst (λ q. has ys q ≡ true) s e in rw (h, g) (and_false (has xs x))
@@ -155,9 +145,6 @@ has_minus : (ys xs : List ℕ) (x : ℕ) → has (minus ys xs) x ≡ (has xs x &
 has_minus ys [] x = refl
 has_minus ys (z ∷ xs) x = minus_step ys xs z x (has ys z) (z == x) refl refl (has_minus ys xs x)
 
-and_left_false : (a b : Bool) → a ≡ false → (a && b) ≡ false
-and_left_false a b e = rw e refl
-
 once_kept : (ys xs : List ℕ) (z : ℕ) (b : Bool) → has (minus ys xs) z ≡ false → Once (minus ys xs) → Once (if b then minus ys xs else z ∷ minus ys xs)
 once_kept ys xs z true h o = o
 once_kept ys xs z false h o = (h, o)
@@ -166,22 +153,12 @@ once_minus : (ys xs : List ℕ) → Once xs → Once (minus ys xs)
 once_minus ys [] o = tt
 once_minus ys (z ∷ xs) o = once_kept ys xs z (has ys z) (has_minus ys xs z ∙ and_left_false (has xs z) (not (has ys z)) o.0) (once_minus ys xs o.1)
 
-or_false : (a b : Bool) → a ≡ false → b ≡ false → (a || b) ≡ false
-or_false a b e f = rw (e, f) refl
-
-has_more : (a b : Bool) → b ≡ true → (a || b) ≡ true
-has_more true b e = refl
-has_more false b e = e
-
 once_both : (zs ys : List ℕ) → Once zs → Once ys → ((x : ℕ) → has zs x ≡ true → has ys x ≡ false) → Once (zs ++ ys)
 once_both [] ys o q h = q
 once_both (z ∷ zs) ys o q h = (
   has_append zs ys z ∙ or_false (has zs z) (has ys z) o.0 (h z (let e : (z == z) ≡ true = grind (arith, nat_tests) in rw e refl)),
   once_both zs ys o.1 q (λ x e. h x (has_more (z == x) (has zs x) e)),
 )
-
-not_both : (a b : Bool) → b ≡ true → (a && not b) ≡ false
-not_both a b e = rw e (and_false a)
 
 abbrev domain : List ℕ → List ℕ → List ℕ
 domain ys dom = ys ++ minus ys dom

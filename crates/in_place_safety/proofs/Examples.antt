@@ -9,6 +9,7 @@ use Rattle.ownership_agreement.specs.ownership_calculus.Functions.{Accepted}
 use Rattle.ownership_agreement.proofs.ownership_calculus.Whole.{is_derived}
 use Rattle.ownership_agreement.specs.Agreement.{IsDerived}
 use Rattle.in_place_safety.specs.Conservation.{AreFipDerived}
+use Rattle.tail_groups.proofs.fip_language.Facts.{or_cases as either}
 
 -- rev as the calculus sees it
 abbrev rev_call : Term
@@ -16,10 +17,6 @@ rev_call = Call true (PassOwned (Named 3) (PassOwned (Built (MoreValues Scalar (
 
 abbrev rev_term : Term
 rev_term = Take (Named 0) (MoreClauses [] [] (Results (MoreValues (Named 1) NoValues)) (LastClause (3 ∷ []) (2 ∷ []) rev_call))
-
-either : (a b : Bool) → (a || b) ≡ true → (a ≡ true) ⊎ (b ≡ true)
-either true b e = inl refl
-either false b e = inr e
 
 none_used : (e : Term) → AllUsed true [] e
 none_used e x h = cc

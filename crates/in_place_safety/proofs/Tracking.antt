@@ -14,6 +14,7 @@ use Rattle.type_safety.proofs.Scopes.{EnvHas, look-append}
 use Rattle.ownership_agreement.specs.Bodies.{Scalars}
 use Rattle.ownership_agreement.proofs.Basics.{apart}
 use Rattle.in_place_safety.specs.Counts.{Held}
+use Rattle.tail_groups.proofs.fip_language.Facts.{equal_itself as itself}
 
 -- ---- scalar values
 
@@ -95,9 +96,6 @@ known-append [] rs x = sym (or_later-none (known rs x))
 known-append (m ∷ ms) rs x =
     ap (or_later (if m.number == x then Some m.id else None)) (known-append ms rs x)
     ∙ or_later-assoc (if m.number == x then Some m.id else None) (known ms x) (known rs x)
-
-itself : (n : ℕ) → (n == n) ≡ true
-itself n = grind (arith, nat_tests)
 
 abbrev pub one_more : Names → Binder → Names
 one_more c b = record { marks = c.marks ++ mark c.next b ∷ []; next = suc c.next }

@@ -19,6 +19,7 @@ use Rattle.type_safety.proofs.instance_semantics.Frames.{more_frames}
 use Rattle.in_place_safety.specs.Scrutinees.{IsVariable, MatchesVariables, BlockMatchesVariables, ClausesMatchVariables, AllMatchVariables}
 use Rattle.in_place_safety.specs.Bounds.{IsWithin, AreBounded}
 use Rattle.in_place_safety.proofs.Runs.{NotDeep, Fits, SiteFits, AllSites, IsFit, at_rest, block_fits, entered_fits, counted_within}
+use Rattle.tail_groups.proofs.fip_language.Facts.{get_map as in_map, if_some_true as is_framed}
 
 -- ---- registers are counted alike
 
@@ -111,15 +112,6 @@ framed_instance : (ds : List Instance) (i : ℕ) (w : ℕ) → slice_get (map fr
 framed_instance [] i w e = cc
 framed_instance (x ∷ ds) zero w e = (x, refl, cc)
 framed_instance (x ∷ ds) (suc i) w e = framed_instance ds i w e
-
-is_framed : (b : Bool) (n w : ℕ) → (if b then Some n else None) ≡ Some w → b ≡ true
-is_framed true n w e = refl
-is_framed false n w e = cc
-
-in_map : {A B : Type 0} (f : A → B) (xs : List A) (i : ℕ) (x : A) → slice_get xs i ≡ Some x → slice_get (map f xs) i ≡ Some (f x)
-in_map f [] i x e = cc
-in_map f (y ∷ xs) zero x e = let same : y ≡ x = cc in ap (λ z. Some (f z)) same
-in_map f (y ∷ xs) (suc i) x e = in_map f xs i x e
 
 -- ---- the sites of an instance
 

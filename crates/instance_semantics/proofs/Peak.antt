@@ -11,6 +11,7 @@ use Rattle.fip_trees.specs.Tree.{Expression, Give, Tuple, Operation, Call, Match
 use Rattle.instance_semantics.specs.Registers.{frame_words}
 use Rattle.instance_semantics.specs.Matching.{matching}
 use Rattle.instance_semantics.specs.Meaning.{argument_value, argument_values, Calls, eval, eval_block, eval_clauses, bind_binders, body_run, calls_of, flat_meaning}
+use Rattle.fip_trees.proofs.fip_base.fip_language.Facts.{max_within}
 
 -- a way to call that holds at most the free frames
 abbrev Within : Calls → Type 0
@@ -52,9 +53,6 @@ within_counted d (suc k) go h = h k
 within_matches : (d : ℕ) (o : Option (List Binding)) (go : List Binding → Run) (r : Run) → ((bs : List Binding) → (go bs).peak.frames ≤ d) → r.peak.frames ≤ d → (if_matches o go r).peak.frames ≤ d
 within_matches d None go r h g = g
 within_matches d (Some bs) go r h g = h bs
-
-max_within : (a b d : ℕ) → a ≤ d → b ≤ d → max a b ≤ d
-max_within a b d p q = omega arith
 
 module _ (c : Calls) (h : Within c) (w : ℕ) where
   mutual

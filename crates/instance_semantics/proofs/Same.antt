@@ -3,9 +3,7 @@ use Rattle.std.proofs.Common.{◌≡◌, ℕ, zero, suc, ◌+◌, List, Option, 
 use Rattle.fip_trees.specs.fip_language.Values.{Value, Values}
 use Rattle.fip_trees.specs.fip_language.Matching.{Binding, both}
 use Rattle.fip_trees.specs.fip_language.Meaning.{Run, more_of, then_with, counted}
-
-pub sum_same : (a b c d : ℕ) → a ≡ b → c ≡ d → a + c ≡ b + d
-sum_same a b c d p q = ap (λ n. n + c) p ∙ ap (λ n. b + n) q
+pub use Rattle.fip_trees.proofs.fip_base.fip_language.Facts.{sum_same}
 
 pub more_same : (a b : Option Value) (c d : Option Values) → a ≡ b → c ≡ d → more_of a c ≡ more_of b d
 more_same a b c d p q = ap (λ x. more_of x c) p ∙ ap (more_of b) q

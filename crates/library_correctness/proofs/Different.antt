@@ -7,11 +7,9 @@ use Rattle.library_correctness.specs.RedBlack.{IsAscending}
 use Rattle.library_correctness.specs.KeySets.{is_among, different}
 use Rattle.library_correctness.proofs.Orders.{every_append, every_first, every_last, ascending_last, ascending_below, among_first, among_append, not_below, not_above}
 use Rattle.library_correctness.proofs.RedBlackResults.{among_parts, among_more}
+use Rattle.fip_language.proofs.Facts.{true_and_false as not_both}
 
 -- ---- whether an item is among others
-
-not_both : (b : Bool) → b ≡ true → b ≡ false → ⊥
-not_both b e f = cc
 
 if_true : (b c : Bool) → (if b then true else c) ≡ true → (b ≡ true) ⊎ (c ≡ true)
 if_true true c e = inl refl

@@ -12,6 +12,7 @@ use Rattle.source_report.specs.fip_grammar.declared.Sign.TheVariants as S
 use Rattle.source_report.specs.fip_grammar.Cut.{is_lower, is_upper, is_digit, is_name, keyword_or_name, single_sign, IsFirst, is_blank, is_comment, is_gap, is_no_lf, Piece, Blank, Comment, Cut, piece_text, along, next_line, first_place, Pieces, tokens_of, behind_all, IsCut}
 use Rattle.source_report.specs.fip_grammar.Claims.{double_start, IsFront}
 use Rattle.source_report.proofs.fip_grammar.Fronts.{first_bang, first_lower, first_upper, first_digit, first_double, first_single, gap_lf, gap_blank, gap_comment, gap_none, cut_first}
+pub use Rattle.source_report.proofs.cell_lower.fip_language.Facts.{same_number as is_byte}
 
 pub none_held : false ≡ true → ⊥
 none_held e = cc
@@ -58,9 +59,6 @@ FirstPiece text = (x : Piece) × (next : Place) × IsFront text first_place x ne
 abbrev word_piece : (text : List ℕ) → is_gap text ≡ false → Option (FirstWord text) → Option (FirstPiece text)
 word_piece text g None = None
 word_piece text g (Some (n, w, f)) = Some (Cut (take n text) w, along first_place n, cut_first text n w first_place g f)
-
-pub is_byte : (b k : ℕ) → (b == k) ≡ true → b ≡ k
-is_byte b k e = grind (arith, nat_tests)
 
 pub slashes : (b c : ℕ) (more : List ℕ) → is_comment (b ∷ c ∷ more) ≡ true → b ∷ c ∷ more ≡ 47 ∷ 47 ∷ more
 slashes b c more e =

@@ -35,6 +35,7 @@ use Rattle.source_report.specs.Report.{IsParsed, IsTyped}
 use Rattle.source_report.proofs.Once.{numbers_once}
 use Rattle.library_texts.specs.ComesTo.{ComesTo}
 use Rattle.library_texts.proofs.Cutting.{all_pieces, tokens_in, is_cut}
+pub use Rattle.source_report.proofs.cell_lower.fip_language.Facts.{nat_le_true as at_most}
 
 -- ---- the tree
 
@@ -87,9 +88,6 @@ follows seen next (x ∷ xs) h =
 
 pub firsts_are : (ts xs : List Closed) → follow [] ts xs ≡ true → firsts same_closed xs ≡ ts
 firsts_are ts xs h = follows [] ts xs h
-
-pub at_most : (n m : ℕ) → nat_le n m ≡ true → n ≤ m
-at_most n m e = grind (arith, nat_tests)
 
 -- Each function is a root and calls roots alone, and the types are those that the functions name.
 pub record IsPlain (s : Source) (ts : List Closed) : Type 0 where

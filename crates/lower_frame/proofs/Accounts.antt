@@ -16,17 +16,8 @@ use Rattle.lowering_relation.specs.Credits.{of_size, LastGone}
 use Rattle.lower_frame.specs.Frames.{HasSize, Takes, TakesBare}
 use Rattle.lower_frame.specs.Registers.{IsFull, IsHeld}
 use Rattle.lower_frame.specs.Credits.{AllSolid, one_if, sized, counted, is_credit, is_credit_of, is_bare, is_held_of, NoneBetween, Accounted, FewerTrees, NoTrees}
-
-same_some : {A : Type 0} (x y : A) → Some x ≡ Some y → x ≡ y
-same_some x y e = cc
-
--- what stands where after a change
-pub get_other : {A : Type 0} (xs : List A) (i : ℕ) (x : A) (j : ℕ) → (j ≡ i → ⊥) → slice_get (slice_set xs i x) j ≡ slice_get xs j
-get_other [] i x j h = refl
-get_other (z ∷ zs) zero x zero h = absurd (h refl)
-get_other (z ∷ zs) zero x (suc j) h = refl
-get_other (z ∷ zs) (suc i) x zero h = refl
-get_other (z ∷ zs) (suc i) x (suc j) h = get_other zs i x j (λ e. h (ap suc e))
+use Rattle.fip_base.proofs.fip_language.Facts.{and_false, and_true, append_none_back as none_gone, equal_true as equal_is, same_some, unequal_false as unequal_is}
+pub use Rattle.fip_base.proofs.fip_language.Facts.{get_set_other as get_other}
 
 pub get_same : {A : Type 0} (P : Option A → Type 0) (xs : List A) (i : ℕ) (x : A) → P None → P (Some x) → P (slice_get (slice_set xs i x) i)
 get_same P [] i x p q = p
@@ -56,20 +47,6 @@ counted_taken cs n r rest m q t =
     let a = ap (counted m q) t.was in
     let d = ap (counted m q) t.left in
     omega (arith, a, counted_both m q t.before (c ∷ t.behind), d, counted_both m q t.before t.behind)
-
-equal_is : (i j : ℕ) → i ≡ j → (i == j) ≡ true
-equal_is i j e = grind (arith, nat_tests)
-
-unequal_is : (i j : ℕ) → (i ≡ j → ⊥) → (i == j) ≡ false
-unequal_is i j ne = grind (arith, nat_tests)
-
-and_false : (a : Bool) → (a && false) ≡ false
-and_false true = refl
-and_false false = refl
-
-and_true : (a : Bool) → (a && true) ≡ a
-and_true true = refl
-and_true false = refl
 
 cond_le : (a b : Bool) → one_if (a && b) ≤ one_if a
 cond_le true true = omega arith
@@ -268,10 +245,6 @@ other_size cs n r m rest t ne =
     let c : Credit = record { size = n; register = r } in
     let past : of_size m (c ∷ t.behind) ≡ of_size m t.behind = ap (λ b. if b then r ∷ of_size m t.behind else of_size m t.behind) (unequal_is n m ne) in
     ap (of_size m) t.was ∙ size_both m t.before (c ∷ t.behind) ∙ ap (λ xs. of_size m t.before ++ xs) past ∙ sym (ap (of_size m) t.left ∙ size_both m t.before t.behind)
-
-none_gone : (xs : List ℕ) → xs ≡ xs ++ []
-none_gone [] = refl
-none_gone (x ∷ xs) = ap (λ ys. x ∷ ys) (none_gone xs)
 
 pub last_same : (cs : List Credit) → LastGone cs cs
 last_same cs = λ n. ([], none_gone (of_size n cs))

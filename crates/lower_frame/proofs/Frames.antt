@@ -1,9 +1,8 @@
 -- Lists whose elements are changed one after another.
 use Rattle.std.proofs.Common.{◌≡◌, sym, ap, ◌∙◌, subst, ℕ, zero, suc, ◌<◌, List, [], ◌∷◌, ◌++◌, length, map, take, drop, slice_set, Some, slice_get, get_or}
 use Rattle.std.proofs.lemmas.Option.{slice_get-get_or}
-
-same_some : {A : Type 0} (x y : A) → Some x ≡ Some y → x ≡ y
-same_some x y e = cc
+use Rattle.fip_base.proofs.fip_language.Facts.{same_some}
+pub use Rattle.fip_base.proofs.fip_language.Facts.{get_at as item}
 
 -- those before place i are changed
 pub mapped_next : {A : Type 0} (f : A → A) (xs : List A) (i : ℕ) (x : A) → slice_get xs i ≡ Some x → take (suc i) (slice_set xs i (f x)) ++ map f (drop (suc i) (slice_set xs i (f x))) ≡ take i xs ++ map f (drop i xs)
@@ -15,8 +14,5 @@ pub mapped_on : {A : Type 0} (f : A → A) (xs zs : List A) (i n : ℕ) (x y : A
 mapped_on f xs zs i n x y there is next before =
     subst (λ m. take m (slice_set xs i y) ++ map f (drop m (slice_set xs i y)) ≡ zs) (sym next)
     (subst (λ z. take (suc i) (slice_set xs i z) ++ map f (drop (suc i) (slice_set xs i z)) ≡ zs) (sym is) (mapped_next f xs i x there ∙ before))
-
-pub item : {A : Type 0} (xs : List A) (i : ℕ) (x : A) → i < length xs → x ≡ get_or xs i x → slice_get xs i ≡ Some x
-item xs i x h e = slice_get-get_or xs i x h ∙ ap Some (sym e)
 
 pub ruleset mapping = (mapped_next)

@@ -17,9 +17,7 @@ use Rattle.lower_frame.specs.declared.spots.Spot.{Spot, out-Spot, roll-Spot}
 use Rattle.lower_frame.specs.declared.spots.Spot.TheFolds.{fold_out-Spot, fold-roll-Spot}
 use Rattle.lower_frame.specs.Registers.{HasRoom, registers}
 use Rattle.lower_frame.specs.Positions.{spot_of, spot_step, spots_of, RoomyAt, reaching}
-
-same_some : {A : Type 0} (x y : A) → Some x ≡ Some y → x ≡ y
-same_some x y e = cc
+use Rattle.fip_base.proofs.fip_language.Facts.{same_some}
 
 pushed : (ss : List Spot) (s : Spot) (r : ℕ) → spot_of s ≡ S.At r S.NoSpots → spots_of (ss ++ s ∷ []) ≡ with_spot (spots_of ss) r
 pushed [] s r e = ap (λ x. S.MoreSpots x S.NoSpots) e

@@ -14,9 +14,7 @@ use Rattle.lowering_relation.specs.Standing.{AreOpen, are_open}
 use Rattle.lowering_relation.specs.Written.{Extends}
 use Rattle.lowering_relation.proofs.Placing.{label_extends, put_extends, put_there, same_extends, added_to_extends}
 use Rattle.lower_frame.specs.Labels.{placed, stands_at, untold, telling, HaveMaps, Rising}
-
-same_some : {A : Type 0} (x y : A) → Some x ≡ Some y → x ≡ y
-same_some x y e = cc
+use Rattle.fip_base.proofs.fip_language.Facts.{equal_true as equal_is, same_some, unequal_false as unequal_is}
 
 pub one_label : (ps qs : List (Option ℕ)) → qs ≡ ps ++ None ∷ [] → length qs ≡ suc (length ps)
 one_label ps qs e = ap length e ∙ omega (arith, length-append ps (None ∷ []))
@@ -56,12 +54,6 @@ few_placed (Some p ∷ ps) = omega (arith, few_placed ps)
 
 pub placed_few : (ps : List (Option ℕ)) (n : ℕ) → n ≤ placed ps → n ≤ length ps
 placed_few ps n h = omega (arith, few_placed ps, h)
-
-equal_is : (i j : ℕ) → i ≡ j → (i == j) ≡ true
-equal_is i j e = grind (arith, nat_tests)
-
-unequal_is : (i j : ℕ) → (i ≡ j → ⊥) → (i == j) ≡ false
-unequal_is i j ne = grind (arith, nat_tests)
 
 -- what is told at places
 

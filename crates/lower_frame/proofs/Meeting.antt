@@ -16,9 +16,7 @@ use Rattle.lowering_relation.specs.Describing.{held_at}
 use Rattle.lowering_relation.specs.Joins.{Met, holds_credit, still_held}
 use Rattle.lower_frame.specs.Credits.{Accounted, one_if, counted, is_credit_of}
 use Rattle.lower_frame.specs.Frames.{IsBoth, HeldByBoth, NamedByBoth}
-
-same_some : {A : Type 0} (x y : A) → Some x ≡ Some y → x ≡ y
-same_some x y e = cc
+use Rattle.fip_base.proofs.fip_language.Facts.{same_some}
 
 -- what a register holds
 

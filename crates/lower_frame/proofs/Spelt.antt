@@ -19,9 +19,7 @@ use Rattle.code_file.proofs.Numbers.{one_fits, two_fits, four_fits, eight_fits, 
 use Rattle.code_file.proofs.InstrTexts.{const_is, atom_is, move_is, arith_is, test_is, test_int_is, peek_is, take_is, put_is, drop_is, free_is, call_is, tail_is, ret_is, jump_is}
 use Rattle.lower_frame.specs.Labels.{stands_at, untold, telling, Rising}
 use Rattle.lower_frame.specs.Spelled.{IsSpelt, AreKindsSpelt, AreMapsSpelt, AreInstrsSpelt, AreLabelsSpelt, IsFunctionSpelt, AreSpelt}
-
-same_some : {A : Type 0} (x y : A) → Some x ≡ Some y → x ≡ y
-same_some x y e = cc
+use Rattle.fip_base.proofs.fip_language.Facts.{length_set, same_some}
 
 there : (o : Option (List ℕ)) (t : List ℕ) → o ≡ Some t → IsSpelt o
 there o t e = ap is_some e
@@ -216,11 +214,6 @@ all_but_one P (z ∷ zs) zero y h p zero x e = subst P (same_some y x e) p
 all_but_one P (z ∷ zs) zero y h p (suc i) x e = h (suc i) x e
 all_but_one P (z ∷ zs) (suc n) y h p zero x e = h 0 x e
 all_but_one P (z ∷ zs) (suc n) y h p (suc i) x e = all_but_one P zs n y (λ j. h (suc j)) p i x e
-
-length_set : {A : Type 0} → (xs : List A) (n : ℕ) (y : A) → length (slice_set xs n y) ≡ length xs
-length_set [] n y = refl
-length_set (x ∷ xs) zero y = refl
-length_set (x ∷ xs) (suc n) y = ap suc (length_set xs n y)
 
 -- instructions of a function
 

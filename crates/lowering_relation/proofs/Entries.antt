@@ -23,12 +23,7 @@ use Rattle.lowering_relation.specs.Spots.{Spot, At, Spots, NoSpots, MoreSpots, r
 use Rattle.lowering_relation.specs.Opening.{is_named, Opened, AllOpened}
 use Rattle.lowering_relation.specs.Entering.{unnaming, variable_held, with_variable, with_cell, entering, entering_all, root_of, spent_if, entering_root, IsSo}
 use Rattle.lowering_relation.proofs.MatchLists.{among_left, among_right}
-
-same_some : {A : Type 0} (x y : A) → Some x ≡ Some y → x ≡ y
-same_some x y e = cc
-
-none_some : {A : Type 0} {x : A} → None ≡ Some x → ⊥
-none_some e = absurd (cc)
+use Rattle.match_knowledge.proofs.fip_base.fip_language.Facts.{none_some_implicit as none_some, same_some}
 
 -- bindings
 

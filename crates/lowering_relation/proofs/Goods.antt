@@ -30,6 +30,7 @@ use Rattle.lowering_relation.proofs.Running.{reaches_on, goes_one}
 use Rattle.lowering_relation.proofs.Knowing.{fits_known, last_asked, side_shaped}
 use Rattle.lowering_relation.proofs.Readings.{reading_runs, reading_extends, ReadTo}
 use Rattle.lowering_relation.proofs.Openings.{taking_runs, naming_runs, Taken, Names}
+use Rattle.match_knowledge.proofs.fip_base.fip_language.Facts.{same_both_ways as both_ways}
 
 lands_after : (s : Scene) (to : ℕ → ℕ) (code : List Instr) (p q : ℕ) (c0 cs ds : Contents) → Reaches code (place p cs) (place q ds) → Lands s to code q c0 ds → Lands s to code p c0 cs
 lands_after s to code p q c0 cs ds r l = record {
@@ -43,12 +44,6 @@ lands_after s to code p q c0 cs ds r l = record {
 }
 
 -- tests
-
-both_ways : (a b : Bool) → (a ≡ true → b ≡ true) → (b ≡ true → a ≡ true) → a ≡ b
-both_ways true true f g = refl
-both_ways true false f g = sym (f refl)
-both_ways false true f g = g refl
-both_ways false false f g = refl
 
 node_test : (c : ℕ) (v : Value) → is_node c v ≡ same_head (Tag c) (head v)
 node_test c (Int i) = refl

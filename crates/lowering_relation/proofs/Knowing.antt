@@ -13,6 +13,7 @@ use Rattle.match_knowledge.proofs.Split.{asks_is, both_asks, is_asking, to_side}
 use Rattle.match_knowledge.proofs.VerdictFacts.{fit}
 use Rattle.match_knowledge.proofs.Living.{last_none}
 use Rattle.lowering_relation.specs.Reading.{Shaped, AllShaped}
+use Rattle.match_knowledge.proofs.fip_base.fip_language.Facts.{true_or_false as either_bool}
 
 -- the heads that are out, counted
 abbrev mutual
@@ -45,10 +46,6 @@ mutual
 
 pub fits_known : (tb : Table) (t : ℕ) (p : Pattern) (k : Known) (v : Value) → IsPattern tb t p → HasType tb t v → Shaped k v → compare p k ≡ Fits → agrees k v ≡ true → fits p v ≡ true
 fits_known tb t p k v q h s e a = fit tb (outs k) t p k v q (alive tb (outs k) t k v (omega arith) s h a) h e a
-
-either_bool : (b : Bool) → (b ≡ true) ⊎ (b ≡ false)
-either_bool true = inl refl
-either_bool false = inr refl
 
 -- where the other side has no value, the value is on this one
 pub last_asked : (tb : Table) (t : ℕ) (p : Pattern) (k : Known) (v : Value) → IsPattern tb t p → HasType tb t v → Shaped k v → compare p k ≡ Asks → agrees k v ≡ true → is_last tb p k ≡ true → has_asked p k v ≡ true

@@ -9,9 +9,7 @@ use Rattle.lowering_relation.specs.declared.held.Held.{Held}
 use Rattle.lowering_relation.specs.declared.held.Held.TheVariants as H
 use Rattle.lowering_relation.specs.declared.held.Credit.{Credit}
 use Rattle.lowering_relation.specs.Known.{IsTaken, is_owned, lent_by, without, used_if, used, used_all}
-
-pub same_some : {A : Type 0} (x y : A) → Some x ≡ Some y → x ≡ y
-same_some x y e = cc
+pub use Rattle.match_knowledge.proofs.fip_base.fip_language.Facts.{same_some}
 
 -- what stands at j after a change at i
 pub set_get : {A : Type 0} (xs : List A) (i : ℕ) (x : A) (j : ℕ) (y : A) → slice_get (slice_set xs i x) j ≡ Some y → ((j ≡ i → ⊥) × (slice_get xs j ≡ Some y)) ⊎ ((j ≡ i) × (x ≡ y))

@@ -21,9 +21,7 @@ use Rattle.lowering_relation.specs.LoweredBodies.{GiveUp, handed}
 use Rattle.lowering_relation.specs.Values.{IsVariable, with_put}
 use Rattle.lowering_relation.specs.LoweredFunctions.{IsFunction}
 use Rattle.lowering_relation.specs.LoweredExample.{lists_setting, instrs, at_start, at_nil, at_cons}
-
-same_some : {A : Type 0} (x y : A) → Some x ≡ Some y → x ≡ y
-same_some x y e = cc
+use Rattle.match_knowledge.proofs.fip_base.fip_language.Facts.{same_some}
 
 no_children : (vs : Values) → HaveTypes lists.types [] vs → vs ≡ End
 no_children End h = refl

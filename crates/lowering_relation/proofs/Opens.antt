@@ -16,6 +16,7 @@ use Rattle.lowering_relation.specs.Opening.{is_named}
 use Rattle.lowering_relation.specs.Entering.{unnaming, variable_held, with_variable, with_cell, entering, entering_all, root_of, spent_if, entering_root}
 use Rattle.lowering_relation.proofs.MatchLists.{among_left, among_right}
 use Rattle.lowering_relation.proofs.Entries.{name_set, name_lost, variable_not}
+use Rattle.match_knowledge.proofs.fip_base.fip_language.Facts.{none_some_implicit as none_is}
 
 -- what is known grows by registers of zs
 pub record Enters (k l : Known) (zs : List ℕ) : Type 0 where
@@ -75,9 +76,6 @@ enters_named k x r h n = record {
 
     fixed : (q : ℕ) → (q < k.next) × NotIn q k.credits → Fixed l q
     fixed q f = record { used = f.0; kept = f.1 }
-
-none_is : {A : Type 0} {x : A} → None ≡ Some x → ⊥
-none_is e = absurd (cc)
 
 enters_unnamed : (k : Known) (x : ℕ) (zs : List ℕ) → Enters k (unnaming k x) zs
 enters_unnamed k x zs = record {

@@ -32,6 +32,7 @@ use Rattle.lowering_relation.specs.Leftover.{IsUnused, LeftoverGone}
 use Rattle.lowering_relation.specs.Joins.{ClauseEnds, Met}
 use Rattle.lowering_relation.specs.LaidFunctions.{FunctionLaid}
 use Rattle.lowering_relation.specs.LaidExample.{choosing_list, pick, picked_kinds, picked_met, picking, lists_code}
+use Rattle.match_knowledge.proofs.fip_base.fip_language.Facts.{less_apart as apart}
 
 abbrev root : Spot
 root = At 0 NoSpots
@@ -494,9 +495,6 @@ no_credits (suc zero) n e = absurd (cc)
 no_credits (suc (suc zero)) n e = absurd (cc)
 no_credits (suc (suc (suc zero))) n e = absurd (cc)
 no_credits (suc (suc (suc (suc r)))) n e = absurd (cc)
-
-apart : (r d : ℕ) → r < d → r ≡ d → ⊥
-apart r d low e = let z : ⊥ = omega (arith, low, e) in z
 
 pub pick_is_laid : FunctionLaid lists_code lists_setting false picking pick
 pick_is_laid = record {

@@ -9,9 +9,7 @@ use Rattle.code_rules.specs.Codes.{LabelMap, label_at}
 use Rattle.lowering_relation.specs.Known.{joined}
 use Rattle.lowering_relation.specs.LoweredBodies as B
 use Rattle.lowering_relation.specs.Written.{Written, size, settled, IsAt, Extends, HasFrom, added, or_zero, place_of, GivesUp}
-
-same_some : {A : Type 0} (x y : A) → Some x ≡ Some y → x ≡ y
-same_some x y e = cc
+use Rattle.match_knowledge.proofs.fip_base.fip_language.Facts.{get_more as kept_by, same_some}
 
 pub same_extends : (v : Written) → Extends v v
 same_extends v = record { grows = omega arith; same = λ p i h. h; placed = λ l p h. h; told = λ p h. refl }
@@ -23,11 +21,6 @@ extends_on v w z a b = record {
   placed = λ l p h. b.placed l p (a.placed l p h);
   told = λ p h. b.told p (let g = a.grows in omega (arith, g, h)) ∙ a.told p h;
 }
-
-kept_by : {A : Type 0} (xs ys : List A) (p : ℕ) (j : A) → slice_get xs p ≡ Some j → slice_get (xs ++ ys) p ≡ Some j
-kept_by [] ys p j h = absurd (cc)
-kept_by (x ∷ xs) ys zero j h = h
-kept_by (x ∷ xs) ys (suc p) j h = kept_by xs ys p j h
 
 stands_last : (xs : List Instr) (i : Instr) → slice_get (xs ++ i ∷ []) (length xs) ≡ Some i
 stands_last [] i = refl

@@ -14,6 +14,7 @@ use Rattle.lowering_relation.specs.Written.{Written, size, HasFrom, added}
 use Rattle.lowering_relation.specs.Reading.{Reading, read_if, read_one, contains}
 use Rattle.lowering_relation.proofs.Placing.{one_longer, stands}
 use Rattle.lowering_relation.proofs.MatchLists.{contains_among}
+use Rattle.match_knowledge.proofs.fip_base.fip_language.Facts.{suc_on}
 
 pub same_children : (v : Value) → C.children v ≡ children v
 same_children (Int i) = refl
@@ -24,9 +25,6 @@ reaches_same code p = record { steps = 0; is = refl }
 
 zero_on : (n : ℕ) → 0 + n ≡ n
 zero_on n = omega arith
-
-suc_on : (m n : ℕ) → suc m + n ≡ suc (m + n)
-suc_on m n = omega arith
 
 after_on : (code : List Instr) (m n : ℕ) (o : Option Place) (q r : Place) → option_and_then (λ p. after code m p) o ≡ Some q → after code n q ≡ Some r → option_and_then (λ p. after code (m + n) p) o ≡ Some r
 after_on code m n None q r a b = absurd (cc)

@@ -25,9 +25,7 @@ use Rattle.lowering_simulation.specs.RunEnds.{EndsIn}
 use Rattle.lowering_simulation.specs.Lowered.{all_instrs}
 use Rattle.lowering_simulation.specs.Guarded.{Takes, GuardedExpression, GuardedBlock, GuardedClauses, IsGuarded}
 use Rattle.lowering_simulation.proofs.Whole.{runs_end}
-
-same_some : {A : Type 0} (x y : A) → Some x ≡ Some y → x ≡ y
-same_some x y e = cc
+use Rattle.type_safety.proofs.type_check.fip_language.Facts.{same_some}
 
 -- the value that is held
 held_is : (tb : Table) (o : Option Value) (t : ℕ) (v : Value) → Held tb o t → o ≡ Some v → HasType tb t v

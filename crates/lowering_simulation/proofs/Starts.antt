@@ -23,11 +23,7 @@ use Rattle.lowering_simulation.proofs.Arguments.{World, world_on, kept_same}
 use Rattle.lowering_simulation.proofs.Naming.{Clear, Holds, world_named}
 use Rattle.lowering_simulation.proofs.Later.{reserved_fixed}
 use Rattle.lowering_simulation.proofs.Bodies.{Begins, fit_reserved}
-
-replicated : {A : Type 0} (n : ℕ) (a : A) (i : ℕ) (b : A) → slice_get (replicate n a) i ≡ Some b → b ≡ a
-replicated zero a i b e = absurd (cc)
-replicated (suc n) a zero b e = cc
-replicated (suc n) a (suc i) b e = replicated n a i b e
+use Rattle.type_safety.proofs.type_check.fip_language.Facts.{get_replicate as replicated}
 
 unnamed_joined : (o : Option (Option ℕ)) (r : ℕ) → ((x : Option ℕ) → o ≡ Some x → x ≡ None) → joined o ≡ Some r → ⊥
 unnamed_joined None r h e = absurd (cc)

@@ -39,18 +39,7 @@ use Rattle.lowering_soundness.proofs.Lets.{scope_later, entries_same, bind_slots
 use Rattle.lowering_soundness.proofs.Typed.{argument_type, expression_types}
 use Rattle.lowering_soundness.proofs.Openings.{slots}
 use Rattle.lowering_soundness.proofs.Clauses.{entries_slots, pattern_fields, slots_hold, bound_is}
-
-either : (a b : Bool) → (a || b) ≡ true → (a ≡ true) ⊎ (b ≡ true)
-either true b e = inl refl
-either false b e = inr e
-
-both_true : (a b : Bool) → (a && b) ≡ true → (a ≡ true) × (b ≡ true)
-both_true true b e = (refl, e)
-both_true false b e = absurd (true≢false (sym e))
-
-not_false : (b : Bool) → not b ≡ true → b ≡ false
-not_false true e = absurd (true≢false (sym e))
-not_false false e = refl
+use Rattle.tail_groups.proofs.fip_language.Facts.{and_both as both_true, not_true as not_false, or_cases as either, positive_unequal as no_zero}
 
 max_left : (m n a : ℕ) → a ≤ m → a ≤ max m n
 max_left m n a h = grind (arith, nat_tests)
@@ -62,9 +51,6 @@ max_both : (m n a b : ℕ) → a ≤ m → b ≤ n → greater a b ≤ max m n
 max_both m n a b h i = let z = max_greater a b in let y : max a b ≤ max m n = grind (arith, nat_tests) in omega (arith, y, z)
 
 -- ---- credits
-
-no_zero : (k : ℕ) → 0 < k → (0 == k) ≡ false
-no_zero k h = grind (arith, nat_tests)
 
 if_one : (b : Bool) → (if b then 1 else 0) ≡ Z.one_if b
 if_one true = refl

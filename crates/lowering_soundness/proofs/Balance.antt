@@ -14,6 +14,7 @@ use Rattle.lowering_soundness.specs.Giving.{is_scalar_of, is_owned_of, can_give}
 use Rattle.lowering_soundness.specs.Ties.{one_if, HoldsValue, AllHold, owe, owed, Balanced, Rooted, Stays}
 use Rattle.lowering_soundness.proofs.Covering.{using_none}
 use Rattle.lowering_soundness.proofs.Giving.{owned_tree, and_to}
+use Rattle.tail_groups.proofs.fip_language.Facts.{or_first as or_left, or_last as or_right}
 
 -- ---- sums that fit
 
@@ -229,14 +230,6 @@ values_using w g r (q ∷ rs) (t ∷ ts) none h =
       },
       values_using w g r rs ts parts.1 h.1,
     )
-
-or_right : (a b : Bool) → b ≡ true → (a || b) ≡ true
-or_right true b e = refl
-or_right false b e = e
-
-or_left : (a b : Bool) → a ≡ true → (a || b) ≡ true
-or_left true b e = refl
-or_left false b e = absurd (true≢false (sym e))
 
 scalar_itself : (t : ℕ) (h : Held) → h ≡ H.Scalar t → is_scalar_of t h ≡ true
 scalar_itself t h e = ap (is_scalar_of t) e ∙ itself t

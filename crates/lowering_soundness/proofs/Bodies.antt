@@ -77,6 +77,7 @@ use Rattle.lowering_soundness.proofs.Naming.{soles, length_named, name_all}
 use Rattle.lowering_soundness.proofs.Lets.{ties_within, lent_in, ties_lending, scope_later, entries_same, bind_many, bind_slots, opens_fits, unborrowed}
 use Rattle.lowering_soundness.proofs.Typed.{expression_types}
 use Rattle.lowering_soundness.proofs.Leaves.{values_done, give_into, give_ends, operator_into, operator_ends, called_into, called_ends}
+pub use Rattle.tail_groups.proofs.fip_language.Facts.{both_right as and_right, not_true}
 
 pub length_all_named : (names : List (Option ℕ)) (bs : List Binder) (rs : List ℕ) → length (all_named names bs rs) ≡ length names
 length_all_named names [] rs = refl
@@ -110,14 +111,6 @@ pub waiting_among : (k : Known) (ds : List ℕ) (r : ℕ) → Waiting k ds → A
 waiting_among k [] r w m = absurd m
 waiting_among k (d ∷ ds) r w (inl e) = (ap (held_at k.held) e ∙ w.0, (let z = w.1 in omega (arith, z, e)))
 waiting_among k (d ∷ ds) r w (inr m) = waiting_among k ds r w.3 m
-
-pub and_right : (a b : Bool) → (a && b) ≡ true → b ≡ true
-and_right true b e = e
-and_right false b e = absurd (true≢false (sym e))
-
-pub not_true : (b : Bool) → not b ≡ true → b ≡ false
-not_true true e = absurd (true≢false (sym e))
-not_true false e = refl
 
 module _ (c : PlainCode) (f : PlainFunction) (st : Setting) (wd : W.World) (w : R.World) (fip : Bool) (shares : Shares c st wd) (callees : Callees c st wd w) (N : ℕ) where
   -- ---- what a let binds is behind, and its variables come into scope

@@ -34,22 +34,13 @@ use Rattle.lowering_soundness.specs.Ties.{one_if, sized}
 use Rattle.lowering_soundness.proofs.Owners.{sized_both, sized_taken}
 use Rattle.lowering_soundness.proofs.Stacks.{take_lower, take_less, length_size, stack_less, stack_more}
 use Rattle.lowering_soundness.proofs.EntryNames.{root_credits}
+use Rattle.tail_groups.proofs.fip_language.Facts.{positive_unequal as no_zero, take_few as take_most, take_length}
 
 -- of the credits of size n that k has, all but the last m are the first ones of l
 abbrev pub Bottom : ℕ → ℕ → List D.Credit → List D.Credit → Type 0
 Bottom n m cs ds = take (length (of_size n cs) - m) (of_size n ds) ≡ take (length (of_size n cs) - m) (of_size n cs)
 
 -- ---- of lists
-
-take_length : (n : ℕ) (xs : List ℕ) → n ≤ length xs → length (take n xs) ≡ n
-take_length zero xs low = refl
-take_length (suc n) [] low = absurd (let z : ⊥ = omega (arith, low) in z)
-take_length (suc n) (x ∷ xs) low = ap suc (take_length n xs (omega (arith, low)))
-
-take_most : (n : ℕ) (xs : List ℕ) → length (take n xs) ≤ length xs
-take_most zero xs = omega arith
-take_most (suc n) [] = omega arith
-take_most (suc n) (x ∷ xs) = let z = take_most n xs in omega (arith, z)
 
 -- what stays is there
 pub bottom_length : (n m : ℕ) (cs ds : List D.Credit) → Bottom n m cs ds → length (of_size n cs) - m ≤ length (of_size n ds)
@@ -79,9 +70,6 @@ bottom_gone n a cs ds last few =
 same_ones : (b : Bool) → Z.one_if b ≡ one_if b
 same_ones true = refl
 same_ones false = refl
-
-no_zero : (k : ℕ) → 0 < k → (0 == k) ≡ false
-no_zero k h = grind (arith, nat_tests)
 
 pub great_left : (m n : ℕ) → m ≤ greater m n
 great_left m n = grind (arith, nat_tests)

@@ -24,6 +24,7 @@ use Rattle.lowering_soundness.proofs.Tying.{read_same, ties_on}
 use Rattle.lowering_soundness.proofs.Writing.{rooted_using_all, bares_using_all, credit_using_all, nothing_using_all}
 use Rattle.lowering_soundness.proofs.GivingUp.{NoTrees}
 use Rattle.lowering_soundness.proofs.Spending.{pass_given, held_handed, length_handed, take_all}
+pub use Rattle.tail_groups.proofs.fip_language.Facts.{length_join as length_both}
 
 -- ---- one list of arguments and credits
 
@@ -47,10 +48,6 @@ drop_front [] cs zero many = refl
 drop_front [] cs (suc n) many = absurd (omega (arith, many))
 drop_front (r ∷ rs) cs zero many = absurd (omega (arith, many))
 drop_front (r ∷ rs) cs (suc n) many = drop_front rs cs n (omega (arith, many))
-
-pub length_both : (rs cs : List ℕ) → length (rs ++ cs) ≡ length rs + length cs
-length_both [] cs = omega arith
-length_both (r ∷ rs) cs = let z = length_both rs cs in omega (arith, z)
 
 -- what is asked of a call, by its parameters and its credits
 pub record CanCallBy (w : Table) (tail : Bool) (g : Holding) (ps : List Param) (ks : List ℕ) (as' : List ℕ) : Type 0 where

@@ -28,6 +28,7 @@ use Rattle.lowering_soundness.proofs.Helds.{held_within, held_set_fn, length_set
 use Rattle.lowering_soundness.proofs.Writing.{is_idle, setting_other, setting_here, setting_stays, set_ties, Used, use_ties, credit_using_all, nothing_using_all}
 use Rattle.lowering_soundness.proofs.Arguments.{with_field, ties_owe}
 use Rattle.lowering_soundness.proofs.Values.{comes_there, setting_twice, value_no_credit}
+use Rattle.tail_groups.proofs.fip_language.Facts.{and_false}
 
 -- ---- a credit that is taken
 
@@ -50,10 +51,6 @@ pub taken_credit : (cs : List D.Credit) (n r : ℕ) (rest : List D.Credit) (g : 
 taken_credit cs n r rest g taken credits =
     credit_is n (g r) (one_true (is_credit_of n (g r)) (counted n r rest)
     (let a = counted_taken cs n r rest n r taken in let b = both_same n r in let d = credits n r in omega (arith, a, b, d)))
-
-and_false : (a : Bool) → (a && false) ≡ false
-and_false true = refl
-and_false false = refl
 
 -- how many are left in each register
 pub counted_left : (cs : List D.Credit) (n r : ℕ) (rest : List D.Credit) (g h : Holding) → IsTaken cs n r rest → ((m q : ℕ) → counted m q cs ≡ one_if (is_credit_of m (g q))) → ((m : ℕ) → is_credit_of m (h r) ≡ false) → ((m q : ℕ) → (q ≡ r → ⊥) → is_credit_of m (h q) ≡ is_credit_of m (g q)) → (m q : ℕ) → counted m q rest ≡ one_if (is_credit_of m (h q))

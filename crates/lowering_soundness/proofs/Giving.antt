@@ -21,6 +21,7 @@ use Rattle.lowering_relation.specs.Describing.{Holding, kind_of, kinds_of, setti
 use Rattle.lowering_soundness.specs.Covering.{Covers, Covered, using, using_all}
 use Rattle.lowering_soundness.specs.Giving.{is_scalar_of, is_owned_of, is_credit_of, can_give, can_pass_one, passing, can_pass, passing_all, can_hand, handing_all, can_lend_one, can_lend, can_receive, received, receiving_all, behind_call, CanCall}
 use Rattle.lowering_soundness.proofs.Covering.{covers_spare, covered_same, told_within, written_covered, used_covered, using_none}
+pub use Rattle.tail_groups.proofs.fip_language.Facts.{both_true as and_to}
 
 pub scalar_kind : (w : Table) (t : ℕ) (h : Held) (k : Kind) → is_scalar_of t h ≡ true → Covers (kind_of w h) k → S.is_scalar_of t k ≡ true
 scalar_kind w t H.Nothing k s e = absurd (true≢false (sym s))
@@ -141,10 +142,6 @@ or_to : (a b x y : Bool) → (x ≡ true → y ≡ true) → (a || (b || x)) ≡
 or_to true b x y f e = refl
 or_to false true x y f e = refl
 or_to false false x y f e = f e
-
-pub and_to : (a b : Bool) → a ≡ true → b ≡ true → (a && b) ≡ true
-and_to true b x y = y
-and_to false b x y = absurd (true≢false (sym x))
 
 pub lend_covered : (w : Table) (n : ℕ) (tail : Bool) (g : Holding) (ks : List Kind) (ps : List Param) (rs : List ℕ) → Covered n (kinds_of w g) ks → can_lend w tail g ps rs ≡ true → lend_all w tail ks ps rs ≡ true
 lend_covered w n tail g ks [] rs c e = refl

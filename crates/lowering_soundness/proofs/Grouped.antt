@@ -24,6 +24,7 @@ use Rattle.lowering_relation.specs.LoweredBodies.{has_function, one_more, if_fun
 use Rattle.lowering_soundness.specs.Origins.{gives_up, ComesFrom, HasOrigin}
 use Rattle.lowering_relation.specs.LaidFunctions.{IsLaid, AreLaid}
 use Rattle.lowering_soundness.proofs.Origins.{of_function}
+use Rattle.tail_groups.proofs.fip_language.Facts.{false_of_not as in_tail}
 
 -- ---- no two instances have one function
 
@@ -61,10 +62,6 @@ same_fip : (k : FunKind) → is_fip k ≡ T.is_fip k
 same_fip Fip = refl
 same_fip Fbip = refl
 same_fip Fun = refl
-
-in_tail : (b : Bool) → true ≡ not b → b ≡ false
-in_tail false e = refl
-in_tail true e = absurd (true≢false e)
 
 module _ (c : PlainCode) (st : Setting) (p : Program) (all : AreLaid c st p) where
   once : (i j n : ℕ) → joined (slice_get st.functions i) ≡ Some n → joined (slice_get st.functions j) ≡ Some n → i ≡ j

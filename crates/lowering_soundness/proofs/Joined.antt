@@ -31,17 +31,9 @@ use Rattle.lowering_soundness.proofs.Grouped.{waits_for_none, releases_nothing}
 use Rattle.lowering_soundness.proofs.Mapped.{maps_formed}
 use Rattle.lowering_soundness.proofs.Ranging.{ranged}
 use Rattle.lowering_soundness.proofs.Whole.{sound}
+use Rattle.tail_groups.proofs.fip_language.Facts.{not_below, positive_not_zero as some_there}
 
 -- ---- the form of a function
-
-not_below : (i j : ℕ) → j ≤ i → not (nat_lt i j) ≡ true
-not_below i j low = elim (or_not (nat_lt i j)) as (λ v. not (nat_lt i j) ≡ true) [
-  | inl e ↦ let z = below i j e in absurd (omega (arith, low, z))
-  | inr e ↦ ap not e
-]
-
-some_there : (n : ℕ) → 0 < n → not (n == 0) ≡ true
-some_there n low = ap not (unequal_is n 0 (λ e. (let z : ⊥ = omega (arith, low, e) in z)))
 
 params_there : (c : PlainCode) (ps : List Param) → ParamsTyped c ps → are_params c.types ps ≡ true
 params_there c [] h = refl

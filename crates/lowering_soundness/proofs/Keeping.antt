@@ -28,12 +28,9 @@ use Rattle.lowering_soundness.proofs.Naming.{register_old}
 use Rattle.lowering_soundness.proofs.EntryHeld.{held_wide}
 use Rattle.lowering_soundness.proofs.Cleared.{Kept, wide_owned, wide_read, wide_tree, wide_lies}
 use Rattle.lowering_soundness.proofs.Stacks.{take_lower, stack_less}
+use Rattle.tail_groups.proofs.fip_language.Facts.{if_zero_zero as zero_head}
 
 -- ---- registers by which something is owned
-
-zero_head : (b : Bool) (n : ℕ) → n ≡ 0 → (if b then n else 0) ≡ 0
-zero_head true n e = e
-zero_head false n e = refl
 
 head_gone : (a : Option ℕ) (n q : ℕ) → (1 ≤ n → a ≡ None) → (if is_register a q then n else 0) ≡ 0
 head_gone a zero q h = zero_head (is_register a q) 0 refl

@@ -30,6 +30,7 @@ use Rattle.lowering_soundness.proofs.Heirs.{has_among, not_among, scalar_gone}
 use Rattle.lowering_soundness.proofs.Lefts.{left_tag}
 use Rattle.lowering_soundness.proofs.Peeking.{OwnKind, own_part}
 use Rattle.lowering_soundness.proofs.Positions.{OnePart}
+use Rattle.tail_groups.proofs.fip_language.Facts.{get_none as get_past}
 
 abbrev pub RootIs : (ℕ → Kind) → Option ℕ → Type 0
 RootIs m None = Unit {0}
@@ -75,11 +76,6 @@ pub told_linked : (c : PlainCode) (k : Known) → Rooted (held_at k.held) → Li
 told_linked c k rooted = record { each = λ j. held_linked c.types (told c k) j (held_at k.held j) (λ t q e. tree_owned c.types (held_at k.held q) (rooted j t q e)) }
 
 -- ---- what is told while a clause is chosen
-
-get_past : {A : Type 0} (xs : List A) (n : ℕ) → length xs ≤ n → slice_get xs n ≡ None
-get_past [] n low = refl
-get_past (x ∷ xs) zero low = absurd (omega (arith, low))
-get_past (x ∷ xs) (suc n) low = get_past xs n (omega (arith, low))
 
 fields_past : (w : Table) (t n : ℕ) → count w t ≤ n → fields w t n ≡ []
 fields_past w t n low = ap fields_of (get_past (constructors w t) n low)

@@ -20,6 +20,7 @@ use Rattle.lowering_soundness.proofs.Owners.{owners_same, owners_sum, owners_onl
 use Rattle.lowering_soundness.proofs.Writing.{is_given, value_given}
 use Rattle.lowering_soundness.proofs.Arguments.{ties_owe, ties_worth}
 use Rattle.lowering_soundness.proofs.Scoping.{entries_of, new_or_old}
+use Rattle.tail_groups.proofs.fip_language.Facts.{if_zero_zero as cond_none}
 
 -- ---- names
 
@@ -39,10 +40,6 @@ pub length_named : (names : List (Option ℕ)) (x r : ℕ) → length (named nam
 length_named [] x r = refl
 length_named (o ∷ os) zero r = refl
 length_named (o ∷ os) (suc x) r = ap suc (length_named os x r)
-
-cond_none : (b : Bool) (n : ℕ) → n ≡ 0 → (if b then n else 0) ≡ 0
-cond_none true n e = e
-cond_none false n e = refl
 
 -- of a variable of which nothing is owned it doesn't matter which register it has
 pub owners_renamed : (names : List (Option ℕ)) (T : ℕ → ℕ) (x r q : ℕ) → T x ≡ 0 → owners (named names x r) T q ≡ owners names T q

@@ -16,6 +16,7 @@ use Rattle.separation.specs.code_rules.Codes.{PlainCode, PlainFunction, function
 use Rattle.separation.specs.code_rules.StackNumbers.{IsFip, FipCalls, words_of, words_at, IsStack, HasStack}
 use Rattle.lowering_relation.specs.LoweredBodies.{has_function, one_more, if_function, function_of}
 use Rattle.lowering_soundness.specs.Alike.{Alike}
+use Rattle.tail_groups.proofs.fip_language.Facts.{get_map as map_at, get_of_map as at_map, if_some_true as fip_frame}
 
 -- ---- the instance of a function
 
@@ -96,21 +97,6 @@ fip_has (x ∷ ds) (suc i) d e k =
     let z = fip_has ds i d e k in
     let y = one_or_more (has_function x.kind) z.0 in
     (y.0, ap (one_more (has_function x.kind)) z.1 ∙ y.1)
-
-map_at : {A B : Type 0} (f : A → B) (xs : List A) (i : ℕ) (x : A) → slice_get xs i ≡ Some x → slice_get (map f xs) i ≡ Some (f x)
-map_at f [] i x h = absurd (none-some x h)
-map_at {A} f (y ∷ xs) zero x h = ap (λ (z : A). Some (f z)) (same_Some y x h)
-map_at f (y ∷ xs) (suc i) x h = map_at f xs i x h
-
--- an entry of a mapped list comes of an entry
-at_map : {A B : Type 0} (f : A → B) (xs : List A) (i : ℕ) (y : B) → slice_get (map f xs) i ≡ Some y → (x : A) × (slice_get xs i ≡ Some x) × (y ≡ f x)
-at_map f [] i y h = absurd (none-some y h)
-at_map f (x ∷ xs) zero y h = (x, refl, sym (same_Some (f x) y h))
-at_map f (x ∷ xs) (suc i) y h = at_map f xs i y h
-
-fip_frame : (b : Bool) (n w : ℕ) → (if b then Some n else None) ≡ Some w → b ≡ true
-fip_frame true n w h = refl
-fip_frame false n w h = absurd (none-some w h)
 
 -- an instance with a frame is fip
 framed : (ds : List Instance) (i : ℕ) → HasFrame (map frame ds) i → (d : Instance) × (slice_get ds i ≡ Some d) × (T.is_fip d.kind ≡ true)

@@ -35,11 +35,7 @@ use Rattle.lowering_relation.specs.Leftover.{LeavesOver}
 use Rattle.lowering_relation.specs.LaidBodies.{ClausesMeet, GiveLaid, NamedLaid, ExpressionLaid, BlockLaid, ClausesLaid}
 use Rattle.lowering_relation.specs.LaidFunctions.{FunctionLaid}
 use Rattle.lowering_soundness.specs.Origins.{gives_up, HasOrigin, HaveOrigins}
-
-get_more : {A : Type 0} (xs ys : List A) (i : ℕ) (x : A) → slice_get xs i ≡ Some x → slice_get (xs ++ ys) i ≡ Some x
-get_more [] ys i x h = absurd (none-some x h)
-get_more (y ∷ xs) ys zero x h = h
-get_more (y ∷ xs) ys (suc i) x h = get_more xs ys i x h
+use Rattle.tail_groups.proofs.fip_language.Facts.{get_more}
 
 in_more : {A : Type 0} (xs ys : List A) (x : A) → In x xs → In x (xs ++ ys)
 in_more xs ys x h = (h.0, get_more xs ys h.0 x h.1)

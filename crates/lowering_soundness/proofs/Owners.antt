@@ -7,6 +7,7 @@ use Rattle.separation.proofs.separation_kinds.Basics.{chosen, refused, or_not, e
 use Rattle.lowering_relation.specs.declared.held.Credit.{Credit}
 use Rattle.lowering_relation.specs.Known.{register_of, IsTaken}
 use Rattle.lowering_soundness.specs.Ties.{one_if, is_register, owners, sized, counted}
+use Rattle.tail_groups.proofs.fip_language.Facts.{if_sum as cond_sum, if_zero_zero as cond_zero}
 
 pub owners_same : (names : List (Option ℕ)) (T X : ℕ → ℕ) (r : ℕ) → ((x : ℕ) → T x ≡ X x) → owners names T r ≡ owners names X r
 owners_same names T X r e = let z : T ≡ X = λ i x. e x i in ap (λ T. owners names T r) z
@@ -25,20 +26,12 @@ owners_fits fip (o ∷ os) T X r h =
 pub owners_less : (names : List (Option ℕ)) (T X : ℕ → ℕ) (r : ℕ) → ((x : ℕ) → X x ≤ T x) → owners names X r ≤ owners names T r
 owners_less names T X r h = owners_fits false names T X r h
 
-cond_sum : (b : Bool) (n m : ℕ) → (if b then n + m else 0) ≡ (if b then n else 0) + (if b then m else 0)
-cond_sum true n m = refl
-cond_sum false n m = omega arith
-
 pub owners_sum : (names : List (Option ℕ)) (T X : ℕ → ℕ) (r : ℕ) → owners names (λ x. T x + X x) r ≡ owners names T r + owners names X r
 owners_sum [] T X r = omega arith
 owners_sum (o ∷ os) T X r =
     let a = cond_sum (is_register o r) (T 0) (X 0) in
     let b = owners_sum os (λ x. T (suc x)) (λ x. X (suc x)) r in
     omega (arith, a, b)
-
-cond_zero : (b : Bool) (n : ℕ) → n ≡ 0 → (if b then n else 0) ≡ 0
-cond_zero true n e = e
-cond_zero false n e = refl
 
 pub owners_none : (names : List (Option ℕ)) (T : ℕ → ℕ) (r : ℕ) → ((x : ℕ) → T x ≡ 0) → owners names T r ≡ 0
 owners_none [] T r h = refl

@@ -47,12 +47,9 @@ use Rattle.lowering_relation.specs.LaidFunctions.{FunctionLaid}
 use Rattle.lowering_soundness.proofs.Giving.{and_to}
 use Rattle.lowering_soundness.proofs.Helds.{held_within, length_used, length_used_all, length_set}
 use Rattle.lowering_soundness.proofs.Known.{Under, CreditsUnder, Fits, names_by, are_under, both_under, left_under, right_under, all_under, for_under, register_under, named_under, still_under, fits_held, fits_next, fits_set, fits_paid, fits_taken, length_handed, length_received, fits_wide, fits_params, fits_credits, fits_root}
+use Rattle.tail_groups.proofs.fip_language.Facts.{and_both as and_parts}
 
 -- ---- labels are in the function
-
-and_parts : (a b : Bool) → (a && b) ≡ true → (a ≡ true) × (b ≡ true)
-and_parts true b h = (refl, h)
-and_parts false b h = absurd (true≢false (sym h))
 
 label_within : (w : Table) (f : PlainFunction) (low : ℕ) (ms : List LabelMap) (t : ℕ) → are_good_maps w f low ms ≡ true → is_some (label_at ms t) ≡ true → t < length f.instrs
 label_within w f low [] t good h = absurd (true≢false (sym h))

@@ -13,6 +13,7 @@ use Rattle.separation.specs.code_rules.Types.{is_type, is_scalar_type}
 use Rattle.separation.proofs.separation_kinds.Basics.{chosen, refused, or_not, equal, unequal}
 use Rattle.lowering_soundness.specs.Laid.{Scoped}
 use Rattle.lowering_soundness.specs.Placed.{Placed, InOrder}
+pub use Rattle.tail_groups.proofs.fip_language.Facts.{some_some_same as same_type}
 
 -- the variables of binders
 abbrev pub entries_of : List Binder → List ℕ → Scope
@@ -35,9 +36,6 @@ one_scalar w n sc b y = if n == y then w.scalar b.ty else sc y
 
 pub scoped_of : (c : PlainCode) (s : Scope) (sc : Scalars) (n : Names) → Placed c s sc n → Scoped c s sc n.marks
 scoped_of c s sc n p = record { seen = p.seen; scalar = p.scalar }
-
-pub same_type : (t u : ℕ) → Some (Some t) ≡ Some (Some u) → t ≡ u
-same_type t u e = cc
 
 -- what is in scope behind one more is this, or was before
 pub new_or_old : (s : Scope) (b : Binder) (t x u : ℕ) → of_binder (s ++ entry (Some t) b ∷ []) (Some x) ≡ Some (Some u) → ((b.number ≡ x) × (t ≡ u)) ⊎ ((b.number ≡ x → ⊥) × (of_binder s (Some x) ≡ Some (Some u)))

@@ -28,6 +28,7 @@ use Rattle.lowering_soundness.proofs.Formed.{IsFormed, Formed, at_formed}
 use Rattle.lowering_soundness.proofs.Giving.{and_to}
 use Rattle.lowering_soundness.proofs.Heirs.{has_among, not_among}
 use Rattle.lowering_soundness.proofs.Linked.{RootIs, FromIs, LinkIs, Linked, Seat, sight_seat}
+use Rattle.tail_groups.proofs.fip_language.Facts.{not_below, positive_not_zero as some_there}
 
 abbrev pub IsShaped : Table → Kind → Type 0
 IsShaped w K.Gone = Unit {0}
@@ -37,12 +38,6 @@ IsShaped w (K.Lent t s root from) = is_set w t s ≡ true
 IsShaped w (K.Credit n) = is_size n ≡ true
 
 -- ---- sets
-
-not_below : (i j : ℕ) → j ≤ i → not (nat_lt i j) ≡ true
-not_below i j low = elim (or_not (nat_lt i j)) as (λ v. not (nat_lt i j) ≡ true) [
-  | inl e ↦ (let z = Rattle.separation.proofs.separation_kinds.Basics.below i j e in absurd (omega (arith, low, z)))
-  | inr e ↦ ap not e
-]
 
 kept_rising : (p : ℕ → Bool) (n low i m : ℕ) → low ≤ i → i + m ≤ n → are_rising n low (kept p (numbers i m)) ≡ true
 kept_rising p n low i zero le room = refl
@@ -57,9 +52,6 @@ numbers_rising n low i zero le room = refl
 numbers_rising n low i (suc m) le room =
     and_to (not (nat_lt i low)) (nat_lt i n && are_rising n (suc i) (numbers (suc i) m)) (not_below i low le)
     (and_to (nat_lt i n) (are_rising n (suc i) (numbers (suc i) m)) (below_is i n (omega (arith, room))) (numbers_rising n (suc i) (suc i) m (omega arith) (omega (arith, room))))
-
-some_there : (n : ℕ) → 0 < n → not (n == 0) ≡ true
-some_there n low = ap not (unequal_is n 0 (λ e. (let z : ⊥ = omega (arith, low, e) in z)))
 
 all_set : (w : Table) (t : ℕ) → 0 < count w t → is_set w t (all w t) ≡ true
 all_set w t some =

@@ -27,6 +27,7 @@ use Rattle.lowering_relation.specs.LoweredBodies.{Into}
 use Rattle.lowering_relation.specs.GivenUp.{GivesOne, GivesUp}
 use Rattle.lowering_relation.specs.Moves.{MoveLaid, MovesLaid}
 use Rattle.lowering_relation.specs.Handed.{OperationLaid}
+use Rattle.tail_groups.proofs.fip_language.Facts.{some_of}
 
 -- Some kinds are known before instruction i.
 abbrev pub Reached : PlainCode → PlainFunction → ℕ → Type 0
@@ -52,10 +53,6 @@ goes_on (I.Ret rs) = false
 goes_on (I.Jump target) = false
 
 -- ---- one instruction
-
-some_of : {A : Type 0} (o : Option A) → is_some o ≡ true → (x : A) × (o ≡ Some x)
-some_of None e = absurd (true≢false (sym e))
-some_of (Some x) e = (x, refl)
 
 no_heir : (ks : List Kind) (n : ℕ) (o : Option From) (d : ℕ) → Chain ks (λ q. false) n o d → ⊥
 no_heir ks zero None d h = h

@@ -5,13 +5,9 @@ use Rattle.derivation_making.proofs.ownership_calculus.Fit.{fits_le}
 use Rattle.lowering_relation.specs.declared.held.Credit.{Credit}
 use Rattle.lowering_relation.specs.Credits.{of_size, LastGone}
 use Rattle.lowering_soundness.specs.Ties.{one_if, sized, counted}
+pub use Rattle.tail_groups.proofs.fip_language.Facts.{take_front}
 
 -- ---- the first of a list
-
-pub take_front : (n : ℕ) (xs ys : List ℕ) → n ≤ length xs → take n (xs ++ ys) ≡ take n xs
-take_front zero xs ys low = refl
-take_front (suc n) [] ys low = absurd (let z : ⊥ = omega (arith, low) in z)
-take_front (suc n) (x ∷ xs) ys low = ap (λ zs. x ∷ zs) (take_front n xs ys (omega (arith, low)))
 
 pub take_less : (m n : ℕ) (xs : List ℕ) → m ≤ n → take m (take n xs) ≡ take m xs
 take_less zero n xs low = refl

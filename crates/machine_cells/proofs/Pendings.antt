@@ -14,6 +14,7 @@ use Rattle.machine_cells.specs.Live.{number_live}
 use Rattle.machine_cells.specs.Small.{store_of}
 use Rattle.machine_cells.specs.Pending.{entry, in_list, field_entry, entries, Node, tree, word, words, all_places, AllStand, Pending, Held, HeldBut}
 use Rattle.machine_cells.proofs.Living.{one_less}
+use Rattle.fip_language.proofs.Facts.{if_false as choose_false, if_true as choose_true}
 
 pub place_within : (cs : Cells) (p : ℕ) → cell_at cs p ≢ None → p < length cs
 place_within [] p h = absurd (h refl)
@@ -122,14 +123,6 @@ nodes_of (t ∷ ts) NoParts = []
 nodes_of (t ∷ ts) (MoreParts (PlacedInt i) xs) = nodes_of ts xs
 nodes_of (t ∷ ts) (MoreParts (Bare c) xs) = nodes_of ts xs
 nodes_of (t ∷ ts) (MoreParts (At p c ys) xs) = record { type = t; place = p; tag = c; parts = ys } ∷ nodes_of ts xs
-
-choose_true : {A : Type 0} (b : Bool) (x y : A) → b ≡ true → (if b then x else y) ≡ x
-choose_true {A} true x y e = refl
-choose_true {A} false x y e = absurd cc
-
-choose_false : {A : Type 0} (b : Bool) (x y : A) → b ≡ false → (if b then x else y) ≡ y
-choose_false {A} true x y e = absurd cc
-choose_false {A} false x y e = refl
 
 no_int : (t w : ℕ) → entry (suc t) w ≡ (if nat_eq (w % 2) 0 then None else Some (suc t * 4294967296 + (w / 2) % 4294967296))
 no_int t w = choose_false (nat_eq (suc t) 0) None (if nat_eq (w % 2) 0 then None else Some (suc t * 4294967296 + (w / 2) % 4294967296)) (grind (arith, nat_tests))

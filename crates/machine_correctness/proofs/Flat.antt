@@ -29,6 +29,7 @@ use Rattle.machine_correctness.proofs.VerifiedEnds.{tells_just_run}
 use Rattle.machine_correctness.specs.Gauges.{IsFlat, cells_given}
 use Rattle.machine_correctness.specs.Starts.{IsSoundCode, Begins}
 use Rattle.machine_correctness.proofs.Starting.{read, starts, fip, cells_at_start}
+use Rattle.fip_machine.proofs.fip_language.Facts.{max_within as most}
 
 -- ---- each state
 
@@ -93,9 +94,6 @@ highest_flat size c (s ∷ t ∷ ss) some h =
     let rest = highest_flat size c (t ∷ ss) (omega arith) h.1 in
     let both : max c c ≡ c = omega arith in
     ap₂ max h.0 rest ∙ both
-
-most : (x y z : ℕ) → x ≤ z → y ≤ z → max x y ≤ z
-most x y z h k = omega (arith, h, k)
 
 frames_bounded : (c : ℕ) (ss : List State) → Every (λ (u : State). frames_held u ≤ c) ss → highest_frames (map seen_of ss) ≤ c
 frames_bounded c [] h = omega arith

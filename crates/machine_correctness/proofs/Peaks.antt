@@ -56,6 +56,7 @@ use Rattle.machine_correctness.proofs.EvaluatedEnds.{ends_as}
 use Rattle.machine_correctness.proofs.Entries.{plain_header, named}
 use Rattle.machine_correctness.proofs.Made.{IsMadeOf, made_of}
 use Rattle.machine_correctness.proofs.Starting.{starts, free_is}
+use Rattle.fip_machine.proofs.fip_language.Facts.{max_none}
 
 -- ---- the header of an instance's function
 
@@ -127,9 +128,6 @@ frames_same c code (suc n) (T.Over a t left m) = omega arith
 
 words_state : (c : _) (t : U.State) → tree_words c t ≡ (height (wide_at c) t).words
 words_state c t = ap (λ w. wide_at c t.running.function + w) (all_same c t.waiting)
-
-max_none : (a b : ℕ) → a ≡ b → max a 0 ≡ b
-max_none a b e = omega (arith, e)
 
 words_same : (c : _) (code : R.PlainCode) (n : ℕ) (r : T.Run) → tree_highest (tree_words c) code n r ≡ (highest code (wide_at c) n r).words
 words_same c code zero (T.Going t left m) = max_none (tree_words c t) _ (words_state c t)

@@ -12,6 +12,7 @@ use Rattle.machine_semantics.specs.Steps.{first_words}
 use Rattle.machine_frames.specs.Keeping.{Keeps, Clears}
 use Rattle.machine_frames.specs.Words.{words_from, put_words, laid_at}
 use Rattle.machine_frames.specs.View.{registers_of, frame_at, top_function, top_call, top_base, top_frame, waiting_in}
+use Rattle.fip_language.proofs.Facts.{nat_lt_of as lt_true}
 
 pub kept : (n : ℕ) (ws us : List ℕ) → n ≤ length ws → n ≤ length us → Keeps n ws us → take n us ≡ take n ws
 kept n ws us h l k =
@@ -50,9 +51,6 @@ frame_kept base n ws us h l k =
     ext_get_or 0 (frame_at base n us) (frame_at base n ws) (a ∙ sym b) (λ i m.
     let t : i < n = omega (arith, m, a) in
     frame_word base n i us t ∙ k (base + i) (omega (arith, t)) ∙ sym (frame_word base n i ws t))
-
-lt_true : (a b : ℕ) → a < b → nat_lt a b ≡ true
-lt_true a b h = grind (arith, nat_tests)
 
 pub write_one : (ws : List ℕ) (d v : ℕ) → d < length ws → write ws d v ≡ Some (slice_set ws d v)
 write_one ws d v h = ap (λ b. if b then Some (slice_set ws d v) else None) (lt_true d (length ws) h)

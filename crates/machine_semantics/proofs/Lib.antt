@@ -6,3 +6,4 @@ pub mod Falling
 pub mod Gauged
 pub mod Reading
 pub use Rattle.cell_code.proofs.fip_language as fip_language
+pub use Rattle.cell_code.proofs as cell_code

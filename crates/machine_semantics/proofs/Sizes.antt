@@ -10,6 +10,7 @@ use Rattle.machine_semantics.specs.States.{State, Next, Went, Entered}
 use Rattle.machine_semantics.specs.Steps.{Kinds, next, changes_of}
 use Rattle.machine_semantics.proofs.Followed.{Followed, followed}
 use Rattle.machine_semantics.specs.Kept.{Keeps}
+use Rattle.cell_code.proofs.fip_base.fip_language.Facts.{nat_eq_same as same_size}
 
 some_same : (s t : Store) → Some s ≡ Some t → s ≡ t
 some_same s t is = ap (λ o. unwrap_or o s) is
@@ -28,9 +29,6 @@ released_set (r ∷ rs) zero zero is = refl
 released_set (r ∷ rs) zero (suc q) is = is
 released_set (r ∷ rs) (suc p) zero is = is
 released_set (r ∷ rs) (suc p) (suc q) is = released_set rs p q is
-
-same_size : (m n : ℕ) → nat_eq m n ≡ true → m ≡ n
-same_size m n is = grind (arith, nat_tests)
 
 -- where the sizes were compared
 written_if : (s t : Store) (p : ℕ) (old new : Cell) (b : Bool) → nat_eq (size_of old) (size_of new) ≡ b → cell_at s p ≡ Some old → (if b then Some (record s { cells = slice_set s.cells p (Some new) }) else None) ≡ Some t → Keeps s t

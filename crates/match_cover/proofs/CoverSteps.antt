@@ -31,6 +31,7 @@ use Rattle.match_cover.specs.Gathered.{Gathers, AreMatches, AllMatches, NotesRow
 use Rattle.match_cover.proofs.Gather.{gathers_none, gathers_one, gathers_more, match_front, match_last, both_empty, no_one, none_gathered, least_gathered}
 use Rattle.match_cover.proofs.MatchSteps.{drop_first, drop_end}
 use Rattle.match_cover.proofs.OneMissing.{one}
+use Rattle.fip_language.proofs.Facts.{append_nil as append_none}
 
 -- ---- one clause
 
@@ -64,10 +65,6 @@ pub rows_next : (now now' z : List Pattern) (cs : List Clause) (n : ℕ) (c : Cl
 rows_next now now' z cs n c l g w e =
     let rest = map erased (map pattern_of (drop (n + 1) cs)) in
     ap (λ x. x ++ rest) w ∙ append_assoc now (erased (pattern_of c) ∷ []) rest ∙ ap (λ x. now ++ map erased (map pattern_of x)) (sym (drop_first cs n c l g)) ∙ e
-
-append_none : {X : Type 0} (xs : List X) → xs ++ [] ≡ xs
-append_none [] = refl
-append_none (x ∷ xs) = ap (λ z. x ∷ z) (append_none xs)
 
 pub rows_end : (now z : List Pattern) (cs : List Clause) (n : ℕ) → length cs ≤ n → now ++ map erased (map pattern_of (drop n cs)) ≡ z → now ≡ z
 rows_end now z cs n l e = sym (append_none now) ∙ ap (λ x. now ++ map erased (map pattern_of x)) (sym (drop_end cs n l)) ∙ e

@@ -19,6 +19,7 @@ use Rattle.match_knowledge.proofs.Living.{head_values}
 use Rattle.match_cover.specs.Missing.{open_fields, CanStand, Before, MayBe}
 use Rattle.match_cover.specs.MissingSearch.{full, IsPosition, Tried, NoNumber, LeastNumber, NoTag, LeastTag, FindsHead, head_fields}
 use Rattle.match_cover.proofs.Positions.{is_named, unnamed_weaker, agree_open, open_alive}
+use Rattle.fip_language.proofs.Facts.{less_or_last as below_or_at}
 
 named_heads : List Pattern → List Head
 named_heads [] = []
@@ -126,15 +127,6 @@ no_head tb root rows at zero here end m p l e f u = no_number tb root rows at he
 no_head tb root rows at (suc t) here end m p l e f u = let w = p.value (Open []) u in no_tag tb root rows at t here m p (f.tag (zero_not t)) w.0 w.1 w.3
 
 -- ---- the search, step by step
-
-below_or_at : (m n : ℕ) → m < n + 1 → (m < n) ⊎ (m ≡ n)
-below_or_at zero zero l = inr refl
-below_or_at zero (suc n) l = inl (omega arith)
-below_or_at (suc m) zero l = absurd (omega arith)
-below_or_at (suc m) (suc n) l = step (below_or_at m n (omega arith)) where
-  step : ((m < n) ⊎ (m ≡ n)) → (suc m < suc n) ⊎ (suc m ≡ suc n)
-  step (inl h) = inl (omega arith)
-  step (inr h) = inr (ap suc h)
 
 pub no_numbers : (tb : Table) (rows : List Pattern) (at : Known → Known) → NoNumber tb rows at 0
 no_numbers tb rows at m l = absurd (omega arith)

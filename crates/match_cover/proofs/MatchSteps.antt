@@ -24,6 +24,7 @@ use Rattle.match_cover.specs.FoundView.{found_match, found_matches, found_offset
 use Rattle.match_cover.specs.TreeView.{AnswersTree}
 use Rattle.match_cover.specs.PatternView.{joined, pattern_of, clause_patterns, match_patterns}
 use Rattle.match_cover.specs.Matches.{Match, NoneBefore, Ascend, IsDecisionOf, Arm, arm, arm_pattern, below_arms, expression_step, binding_step, block_step, clause_step, expression_matches, binding_matches, block_matches}
+pub use Rattle.fip_language.proofs.Facts.{drop_end, drop_item as drop_first}
 
 pub block_is : (b : Block) → block_matches b ≡ joined (map binding_matches (out-Block b).bindings.items) ++ expression_matches (out-Block b).last
 block_is b = fold_out-Block (List Match) (List Match) (List Match) Arm expression_step binding_step block_step clause_step b
@@ -50,17 +51,6 @@ match_is k u p a c cs =
 
 pub nested_is : (b : Box Block Global) → expression_matches (EV.Nested b) ≡ block_matches b.value
 nested_is b = ap expression_matches (sym (EV.rolls-Nested b)) ∙ fold-roll-Expression (List Match) (List Match) (List Match) Arm expression_step binding_step block_step clause_step (E.Nested b)
-
-pub drop_first : {X : Type 0} (xs : List X) (i : ℕ) (x : X) → i < length xs → x ≡ get_or xs i x → drop i xs ≡ x ∷ drop (i + 1) xs
-drop_first [] i x h e = absurd (omega arith)
-drop_first (y ∷ ys) zero x h e = ap (λ z. z ∷ ys) (sym e)
-drop_first (y ∷ ys) (suc i) x h e = drop_first ys i x (omega arith) e ∙ ap (λ z. x ∷ z) (let n : suc i + 1 ≡ suc (i + 1) = omega arith in sym (ap (λ z. drop z (y ∷ ys)) n))
-
-pub drop_end : {X : Type 0} (xs : List X) (n : ℕ) → length xs ≤ n → drop n xs ≡ []
-drop_end [] zero h = refl
-drop_end [] (suc n) h = refl
-drop_end (x ∷ xs) zero h = absurd (omega arith)
-drop_end (x ∷ xs) (suc n) h = drop_end xs n (omega arith)
 
 pub binding_step_is : (xs ys z : List Match) (bs : List Binding) (i : ℕ) (b : Binding) → i < length bs → b ≡ get_or bs i b → ys ≡ xs ++ expression_matches (out-Binding b).bound → xs ++ joined (map binding_matches (drop i bs)) ≡ z → ys ++ joined (map binding_matches (drop (i + 1) bs)) ≡ z
 binding_step_is xs ys z bs i b h g e v =

@@ -28,6 +28,7 @@ use Rattle.match_cover.proofs.MatchSteps.{drop_first, drop_end}
 use Rattle.match_cover.proofs.MissingValue.{is_left, is_pattern}
 use Rattle.match_cover.proofs.Positions.{root_position, node_fields, first_field, other_fields}
 use Rattle.match_cover.proofs.LeastHeads.{head_chosen, no_head}
+use Rattle.fip_language.proofs.Facts.{take_seam as front_taken}
 
 -- ---- a position
 
@@ -180,11 +181,6 @@ row_any = ap row (sym R.rolls-Any) ∙ fold-roll-Row Pattern row_step O.Any
 
 pub known_node : (h : Head) (ks : Vec Knowledge Global) → known (K.Is h ks) ≡ Is h (knowns ks.items)
 known_node h ks = ap known (sym (K.rolls-Is h ks)) ∙ fold-roll-Knowledge Known known_step (L.Is h ks)
-
-front_taken : {X : Type 0} (xs ys : List X) → take (length xs) (xs ++ ys) ≡ xs
-front_taken [] [] = refl
-front_taken [] (y ∷ ys) = refl
-front_taken (x ∷ xs) ys = ap (λ z. x ∷ z) (front_taken xs ys)
 
 pub count_more : {X : Type 0} (xs : List X) (x : X) → length (xs ++ x ∷ []) ≡ length xs + 1
 count_more [] x = refl

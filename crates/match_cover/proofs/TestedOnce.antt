@@ -15,6 +15,7 @@ use Rattle.match_knowledge.proofs.VerdictFacts.{if_asks}
 use Rattle.match_knowledge.proofs.Split.{asks_is, both_asks, is_asking}
 use Rattle.match_cover.specs.DecisionTree.{Position, Decision, Branch, below, position, positions, asked, asked_all, by_verdict, Next, Done, Split, first_live, tree_from, tree, same_position, was_tested, TestsOnce}
 use Rattle.match_cover.proofs.TreePicks.{is_deep, positions_deep}
+use Rattle.fip_language.proofs.Facts.{if_true_else as or_right}
 
 -- the test of q at a position is settled
 abbrev mutual
@@ -88,10 +89,6 @@ mutual
       (λ c. done_test d b p k (is_asking (compare p k) c))
       (λ c. positions_deep ps ks (both_asks (compare p k) (compare_all ps ks) e c))
       (λ c. done_tests d b ps ks (both_asks (compare p k) (compare_all ps ks) e c))
-
-or_right : (b x : Bool) → x ≡ true → (if b then true else x) ≡ true
-or_right true x e = refl
-or_right false x e = e
 
 settle_keeps : (b : Bool) (h : Head) (ps : Patterns) (out : List Head) (at : Position) (q : Head) → settled (Open out) at q ≡ true → settled (settle b h ps out) at q ≡ true
 settle_keeps true h ps out [] q e = refl

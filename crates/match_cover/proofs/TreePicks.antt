@@ -17,6 +17,7 @@ use Rattle.match_knowledge.proofs.Living.{last_none}
 use Rattle.match_knowledge.proofs.Fewer.{rows_fewer}
 use Rattle.match_knowledge.proofs.RowFacts.{side_room, row_typed}
 use Rattle.match_cover.specs.DecisionTree.{Position, Decision, Branch, chosen, below, position, positions, asked, asked_all, drop_children, first_child, stands, pick, by_verdict, Next, Done, Split, first_live, tree_from, tree}
+use Rattle.fip_language.proofs.Facts.{if_false_number as chosen_later, if_true_number as chosen_here}
 
 abbrev pub is_deep : Position → Bool
 is_deep [] = false
@@ -79,14 +80,6 @@ mutual
 abbrev Found : List Pattern → Known → ℕ → Value → Next → Type 0
 Found rows k i v (Done j) = chosen i rows v ≡ j
 Found rows k i v (Split p) = (n : ℕ) × (slice_get rows n ≡ Some p) × (compare p k ≡ Asks)
-
-chosen_here : (b : Bool) (i j : ℕ) → b ≡ true → (if b then i else j) ≡ i
-chosen_here true i j e = refl
-chosen_here false i j e = cc
-
-chosen_later : (b : Bool) (i j : ℕ) → b ≡ false → (if b then i else j) ≡ j
-chosen_later true i j e = cc
-chosen_later false i j e = refl
 
 later : (p : Pattern) (rows : List Pattern) (k : Known) (i : ℕ) (v : Value) (n : Next) → fits p v ≡ false → Found rows k (suc i) v n → Found (p ∷ rows) k i v n
 later p rows k i v (Done j) e f = chosen_later (fits p v) i (chosen (suc i) rows v) e ∙ f

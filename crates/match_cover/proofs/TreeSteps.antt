@@ -15,6 +15,7 @@ use Rattle.match_cover.specs.declared.trees.First.TheVariants as F
 use Rattle.match_cover.specs.DecisionTree.{below, position, positions, asked, asked_all, by_verdict, Done, Split, first_live}
 use Rattle.match_knowledge.specs.Known.{is_fits}
 use Rattle.match_cover.specs.TreeView.{asking, IsFirst, SameFirst}
+use Rattle.fip_language.proofs.Facts.{append_none_back as append_none}
 
 asking_end : (ps : Patterns) → asking ps NoKnowns ≡ 0
 asking_end NoPatterns = refl
@@ -99,10 +100,6 @@ first_none ps k i j l s = sym s ∙ ap (λ z. first_live i z k) (no_rows ps j l)
 
 pub pushed : (xs ys zs : List ℕ) (j : ℕ) (a b : List ℕ) → ys ≡ xs ++ j ∷ [] → b ≡ j ∷ a → zs ≡ ys ++ a → zs ≡ xs ++ b
 pushed xs ys zs j a b e f g = g ∙ ap (λ y. y ++ a) e ∙ append_assoc xs (j ∷ []) a ∙ ap (λ y. xs ++ y) (sym f)
-
-append_none : (xs : List ℕ) → xs ≡ xs ++ []
-append_none [] = refl
-append_none (x ∷ xs) = ap (λ z. x ∷ z) (append_none xs)
 
 pub none_pushed : (xs b : List ℕ) → b ≡ [] → xs ≡ xs ++ b
 none_pushed xs b e = append_none xs ∙ ap (λ y. xs ++ y) (sym e)

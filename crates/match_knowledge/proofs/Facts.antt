@@ -8,6 +8,7 @@ use Rattle.fip_base.specs.fip_language.Values.{Value, Int, Node, Values, End, Mo
 use Rattle.fip_base.specs.fip_language.Table.{Shape, Table, HasType, HaveTypes}
 use Rattle.fip_base.specs.fip_language.Matching.{same_int}
 use Rattle.match_knowledge.specs.ValueHeads.{head, children, same_head, IsHead}
+pub use Rattle.fip_base.proofs.fip_language.Facts.{and_both, both_true as both_and, not_of as true_not, not_true, true_and_false as not_both}
 
 pub same_int_is : (a b : ℤ) → same_int a b ≡ true → a ≡ b
 same_int_is (pos a) (pos b) e = ap pos (eqb-true a b e)
@@ -31,26 +32,6 @@ same_refl (Tag c) = eq-eqb c c refl
 
 pub is_same : (a b : Head) → a ≡ b → same_head a b ≡ true
 is_same a b e = subst (λ x. same_head a x ≡ true) e (same_refl a)
-
-pub and_both : (a b : Bool) → (a && b) ≡ true → (a ≡ true) × (b ≡ true)
-and_both true b e = (refl, e)
-and_both false b e = cc
-
-pub both_and : (a b : Bool) → a ≡ true → b ≡ true → (a && b) ≡ true
-both_and true b e f = f
-both_and false b e f = cc
-
-pub not_true : (b : Bool) → not b ≡ true → b ≡ false
-not_true true e = cc
-not_true false e = refl
-
-pub true_not : (b : Bool) → b ≡ false → not b ≡ true
-true_not true e = cc
-true_not false e = refl
-
-pub not_both : (b : Bool) → b ≡ true → b ≡ false → ⊥
-not_both true e f = cc
-not_both false e f = cc
 
 -- a value has a head of its type
 pub typed_head : (tb : Table) (t : ℕ) (v : Value) → HasType tb t v → (fs : List ℕ) × IsHead tb t (head v) fs × HaveTypes tb fs (children v)

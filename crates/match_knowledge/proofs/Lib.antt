@@ -8,3 +8,4 @@ pub mod RowFacts
 pub mod Steps
 pub mod Arms
 pub mod Matches
+pub use Rattle.fip_base.proofs as fip_base

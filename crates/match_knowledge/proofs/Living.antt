@@ -13,6 +13,7 @@ use Rattle.match_knowledge.specs.Known.{Known, Open, Is, Knowns, NoKnowns, MoreK
 use Rattle.match_knowledge.proofs.Facts.{same_is, is_same, and_both, both_and, not_true, true_not, not_both, typed_head, one_head, build}
 use Rattle.match_knowledge.proofs.Split.{asks_is, both_asks, is_asking}
 use Rattle.match_knowledge.proofs.Fresh.{fresh}
+use Rattle.fip_base.proofs.fip_language.Facts.{less_or_same as below_or_same}
 
 mutual
   pub witness : (tb : Table) (m t : ℕ) (k : Known) → Alive tb m t k → (v : Value) × HasType tb t v × (agrees k v ≡ true)
@@ -69,12 +70,6 @@ not_all_out (suc n) out e = out_step (is_in (Tag n) out) (all_out n out) n out r
 bump : (n c : ℕ) → ((c < n) ⊎ (c ≡ n)) → (suc c < suc n) ⊎ (suc c ≡ suc n)
 bump n c (inl h) = inl (omega arith)
 bump n c (inr h) = inr (ap suc h)
-
-below_or_same : (n c : ℕ) → c < suc n → (c < n) ⊎ (c ≡ n)
-below_or_same zero zero l = inr refl
-below_or_same zero (suc c) l = absurd (omega arith)
-below_or_same (suc n) zero l = inl (omega arith)
-below_or_same (suc n) (suc c) l = bump n c (below_or_same n c (omega arith))
 
 all_out_step : (n c : ℕ) (out : List Head) → is_in (Tag n) out ≡ true → (c < n → is_in (Tag c) out ≡ true) → ((c < n) ⊎ (c ≡ n)) → is_in (Tag c) out ≡ true
 all_out_step n c out q f (inl h) = f h

@@ -10,6 +10,7 @@ use Rattle.match_knowledge.specs.ValueHeads.{head, children, same_head, IsHead}
 use Rattle.match_knowledge.specs.Patterns.{Pattern, Any, Test, Patterns, NoPatterns, MorePatterns, fits, fit_all, IsPattern, ArePatterns}
 use Rattle.match_knowledge.specs.Known.{Known, Open, Is, Knowns, NoKnowns, MoreKnowns, is_in, agrees, agree_all, both, compare, compare_all, Alive, AllAlive}
 use Rattle.match_knowledge.proofs.Facts.{same_is, is_same, and_both, both_and, not_true, not_both, typed_head, one_head}
+use Rattle.fip_base.proofs.fip_language.Facts.{and_false_first as and_false_left, and_false_last as and_false}
 
 pub if_misses : (b : Bool) → (if b then Misses else Asks) ≡ Misses → b ≡ true
 if_misses true e = refl
@@ -22,14 +23,6 @@ if_asks false e = refl
 if_open_fits : (b : Bool) → (if b then Misses else Asks) ≡ Fits → ⊥
 if_open_fits true e = cc
 if_open_fits false e = cc
-
-and_false : (a b : Bool) → b ≡ false → (a && b) ≡ false
-and_false true b e = e
-and_false false b e = refl
-
-and_false_left : (a b : Bool) → a ≡ false → (a && b) ≡ false
-and_false_left true b e = cc
-and_false_left false b e = refl
 
 miss_open : (h g : Head) (out : List Head) (x : Bool) → is_in h out ≡ true → is_in g out ≡ false → (s : Bool) → same_head h g ≡ s → (s && x) ≡ false
 miss_open h g out x e a false q = refl

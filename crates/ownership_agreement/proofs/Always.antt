@@ -22,16 +22,13 @@ use Rattle.ownership_calculus.specs.Terms.{has, size, Own, Term, Passed, PassLen
 use Rattle.ownership_calculus.specs.Clean.{used_up, all_used_up, lent_used_up, passed_used_up, outside, fewest, fewest_of}
 use Rattle.ownership_agreement.specs.Bodies.{Scalars, variable, value, values, lent_value, passed, variables, entering, nodes, inside, matched, term, term_block, clauses}
 use Rattle.ownership_agreement.proofs.Basics.{pos, pos_sum, pos_min, and_assoc, same_or, same_and, paid_none, var_pos, past_inside, past_le, ordered_inside, not_owned, not_entered, done_ordered, binds_always}
+use Rattle.fip_rules.proofs.fip_base.fip_language.Facts.{if_zero_else as kept_out, or_false}
 
 abbrev pub got : ℕ → S.Shape → Bool
 got x e = N.has (always e) x
 
 both : (x : ℕ) (a b : S.Shape) (m n : ℕ) → got x a ≡ pos m → got x b ≡ pos n → got x (S.Then a b) ≡ pos (m + n)
 both x a b m n e f = has_append (always a) (always b) x ∙ same_or (got x a) (got x b) (pos m) (pos n) e f ∙ sym (pos_sum m n)
-
-or_false : (b : Bool) → (b || false) ≡ b
-or_false true = refl
-or_false false = refl
 
 nothing_more : (n : ℕ) → n ≡ n + 0
 nothing_more n = omega arith
@@ -84,10 +81,6 @@ called_got false x p n e = refl
 scrutinee_got : (w : World) (x : ℕ) (sc : Scalars) (ms : List Mark) (b : Bool) (c : S.Shape) (a : Argument) (cs : C.Clauses) → sc x ≡ false → got x c ≡ pos (fewest_of x cs) → got x (S.Then (passing w ms (not b) a) c) ≡ pos (fewest x (matched w sc ms b a cs))
 scrutinee_got w x sc ms true c a cs h e = both x (owning ms a) c (used_up (value sc ms a) (Own x)) (fewest_of x cs) (arg_got x sc ms a h) e
 scrutinee_got w x sc ms false c a cs h e = both x (lending w ms a) c (lent_used_up (lent_value w sc ms a) (Own x)) (fewest_of x cs) (lent_got w x sc ms a h) e
-
-kept_out : (b : Bool) (n : ℕ) → b ≡ false → n ≡ (if b then 0 else n)
-kept_out true n e = absurd (cc)
-kept_out false n e = refl
 
 -- a clause: e1 is the term of the body in its binders
 clause_got : (w : World) (taken : Bool) (c : Names) (x : ℕ) (bs : List Binder) (ks : List ℕ) (body : Block) (e1 : Term) → x < c.next → got x (shape_block w (inside w taken c bs) body) ≡ pos (fewest x e1) → got x (clause_shape c (taking w taken bs) (λ d. shape_block w d body)) ≡ pos (outside (variables w c.next bs) ks (Own x) (fewest x e1))

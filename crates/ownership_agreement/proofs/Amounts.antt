@@ -18,15 +18,13 @@ use Rattle.ownership_calculus.specs.Terms.{Credit, Item, Passed, PassLent, PassO
 use Rattle.ownership_calculus.specs.Clean.{used_up, all_used_up, lent_used_up, passed_used_up, asks, asks_lent, asks_taken}
 use Rattle.ownership_agreement.specs.Sized.{AreSizes, SizedHeader, IsVariable, SizedArgument, SizedArguments, SizedPattern, SizedPatterns, SizedExpression, SizedBlock, SizedClauses}
 use Rattle.ownership_agreement.specs.Bodies.{Scalars, seen, variable, value, values, lent_value, credits_of, passed, variables, entering, node, nodes, nodes_all, inside, past_clause, matched, term, term_block, clauses}
+use Rattle.fip_rules.proofs.fip_base.fip_language.Facts.{positive_unequal as no_zero}
 
 -- ---- sizes
 
 if_one : (b : Bool) → (if b then 1 else 0) ≡ one_if b
 if_one true = refl
 if_one false = refl
-
-no_zero : (k : ℕ) → 0 < k → (0 == k) ≡ false
-no_zero k h = grind (arith, nat_tests)
 
 paid_at : (n k : ℕ) → 0 < k → paid n (Credit k) ≡ one_if (n == k)
 paid_at zero k h = let e = no_zero k h in rw (e) refl

@@ -13,6 +13,8 @@ use Rattle.ownership_calculus.specs.Terms as C
 use Rattle.ownership_calculus.specs.Terms.{has, paid, Own}
 use Rattle.ownership_calculus.specs.Clean.{used_up, asks_lent, asks_taken}
 use Rattle.ownership_agreement.specs.Bodies.{Scalars, variables, entering, inside}
+use Rattle.fip_rules.proofs.fip_base.fip_language.Facts.{suc_on as more_sum}
+pub use Rattle.fip_rules.proofs.fip_base.fip_language.Facts.{and_assoc, greater_unequal as apart_back, greater_unequal_back as apart, same_and, same_number, same_or}
 
 abbrev pub pos : ℕ → Bool
 pos zero = false
@@ -20,9 +22,6 @@ pos (suc n) = true
 
 zero_sum : (b : ℕ) → zero + b ≡ b
 zero_sum b = omega arith
-
-more_sum : (a b : ℕ) → suc a + b ≡ suc (a + b)
-more_sum a b = omega arith
 
 pub pos_sum : (a b : ℕ) → pos (a + b) ≡ (pos a || pos b)
 pos_sum zero b = ap pos (zero_sum b)
@@ -63,25 +62,6 @@ if_pos false = refl
 pub or_assoc : (a b c : Bool) → ((a || b) || c) ≡ (a || (b || c))
 or_assoc true b c = refl
 or_assoc false b c = refl
-
-pub and_assoc : (a b c : Bool) → ((a && b) && c) ≡ (a && (b && c))
-and_assoc true b c = refl
-and_assoc false b c = refl
-
-pub same_or : (a b c d : Bool) → a ≡ c → b ≡ d → (a || b) ≡ (c || d)
-same_or a b c d e f = cc
-
-pub same_and : (a b c d : Bool) → a ≡ c → b ≡ d → (a && b) ≡ (c && d)
-same_and a b c d e f = cc
-
-pub same_number : (x y : ℕ) → (x == y) ≡ true → x ≡ y
-same_number x y h = grind (arith, nat_tests)
-
-pub apart : (x y : ℕ) → x < y → (y == x) ≡ false
-apart x y h = grind (arith, nat_tests)
-
-pub apart_back : (x y : ℕ) → x < y → (x == y) ≡ false
-apart_back x y h = grind (arith, nat_tests)
 
 pub paid_none : (n x m : ℕ) → m ≡ paid n (Own x) + m
 paid_none zero x m = omega arith

@@ -22,6 +22,7 @@ use Rattle.ownership_calculus.specs.Clean.{asks, Alike, Even, EvenLent, EvenTake
 use Rattle.ownership_agreement.specs.Sized.{AreSizes, SizedPattern, SizedExpression, SizedBlock, SizedClauses}
 use Rattle.ownership_agreement.specs.Bodies.{Scalars, variables, entering, nodes, inside, past_clause, matched, term, term_block, clauses}
 use Rattle.ownership_agreement.proofs.Amounts.{IsOut, header_given, header_out, gives, gives_given, gives_out, asks_of, asks_last, asks_more, block_need, block_out}
+use Rattle.fip_rules.proofs.fip_base.fip_language.Facts.{less_or_not as lt_or_le}
 
 -- ---- nothing says so
 
@@ -39,9 +40,6 @@ nothing_is = (λ h v k. k, λ h. tt)
 
 along : (A B X : Type 0) → (A ↔ B) → (B ↔ X) → A ↔ X
 along A B X f g = (λ h. g.0 (f.0 h), λ h. f.1 (g.1 h))
-
-lt_or_le : (m n : ℕ) → (m < n) ⊎ (n ≤ m)
-lt_or_le m n = grind arith
 
 -- f is nowhere less than g
 less_none : (r : Rule) (q : Place) (i : ℕ) (f g : ℕ → ℕ) → ((k : ℕ) → 0 < k → k < 17 → g k ≤ f k) ↔ None (Less r q i f g)

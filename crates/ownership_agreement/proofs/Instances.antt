@@ -26,6 +26,7 @@ use Rattle.ownership_agreement.proofs.Quiet.{good_is}
 use Rattle.ownership_agreement.proofs.Whole.{block_is}
 use Rattle.ownership_agreement.proofs.Evens.{credits_is}
 use Rattle.ownership_agreement.proofs.Parameters.{binds_good, parameter_states, used_is, past_within, all_past, owned_seen}
+use Rattle.fip_rules.proofs.fip_base.fip_language.Facts.{true_or_false as either}
 
 abbrev unknown : ℕ → C.Status
 unknown x = C.Owned true false
@@ -90,10 +91,6 @@ not_ruled : (p : Program) (i : ℕ) (d : Instance) (k : FunKind) (v : Violation)
 not_ruled p i d Fip v e h = absurd (cc)
 not_ruled p i d Fbip v e h = absurd (cc)
 not_ruled p i d Fun v e h = h
-
-either : (b : Bool) → (b ≡ true) ⊎ (b ≡ false)
-either true = inl refl
-either false = inr refl
 
 one_agrees : (p : Program) (i : ℕ) (d : Instance) → IsSized p d → BreaksNone p i d ↔ (is_ruled d.kind ≡ true → IsDerived p d)
 one_agrees p i d s = (

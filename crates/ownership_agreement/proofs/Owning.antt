@@ -19,6 +19,7 @@ use Rattle.ownership_calculus.specs.Terms.{has, size, Own, Term, Passed, PassLen
 use Rattle.ownership_calculus.specs.Clean.{used_up, all_used_up, lent_used_up, passed_used_up, outside, asks, asks_lent, asks_taken}
 use Rattle.ownership_agreement.specs.Bodies.{Scalars, variable, value, values, lent_value, passed, variables, entering, nodes, inside, matched, term, term_block, clauses}
 use Rattle.ownership_agreement.proofs.Basics.{pos, pos_sum, pos_max, or_assoc, same_or, paid_none, var_pos, past_inside, past_le, ordered_inside, not_owned, not_entered, done_ordered, binds_owns, lent_taken}
+use Rattle.fip_rules.proofs.fip_base.fip_language.Facts.{if_zero_else as kept_out}
 
 both : (a b : Bool) (m n : ℕ) → a ≡ pos m → b ≡ pos n → (a || b) ≡ pos (m + n)
 both a b m n e f = same_or a b (pos m) (pos n) e f ∙ sym (pos_sum m n)
@@ -74,10 +75,6 @@ called_owns false x p n = refl
 scrutinee_owns : (w : World) (x : ℕ) (sc : Scalars) (ms : List Mark) (b c : Bool) (a : Argument) (cs : C.Clauses) → sc x ≡ false → c ≡ pos (asks_taken (Own x) cs) → (owns x (passing w ms (not b) a) || c) ≡ pos (asks (Own x) (matched w sc ms b a cs))
 scrutinee_owns w x sc ms true c a cs h e = both (owns x (owning ms a)) c (used_up (value sc ms a) (Own x)) (asks_taken (Own x) cs) (arg_owns x sc ms a h) e
 scrutinee_owns w x sc ms false c a cs h e = both (owns x (lending w ms a)) c (lent_used_up (lent_value w sc ms a) (Own x)) (asks_lent (Own x) cs) (lent_owns w x sc ms a h) (e ∙ ap pos (sym (lent_taken x cs)))
-
-kept_out : (b : Bool) (n : ℕ) → b ≡ false → n ≡ (if b then 0 else n)
-kept_out true n e = absurd (cc)
-kept_out false n e = refl
 
 -- a clause: e1 is the term of the body in its binders
 clause_owns : (w : World) (taken : Bool) (c : Names) (x : ℕ) (bs : List Binder) (ks : List ℕ) (body : Block) (e1 : Term) → x < c.next → owns x (shape_block w (inside w taken c bs) body) ≡ pos (asks (Own x) e1) → owns x (clause_shape c (taking w taken bs) (λ d. shape_block w d body)) ≡ pos (outside (variables w c.next bs) ks (Own x) (asks (Own x) e1))

@@ -21,6 +21,7 @@ use Rattle.ownership_agreement.proofs.Basics.{pos, apart, apart_back, same_numbe
 use Rattle.ownership_agreement.proofs.Bridge.{same}
 use Rattle.ownership_agreement.proofs.Binders.{misses_binds}
 use Rattle.ownership_agreement.proofs.Always.{got}
+use Rattle.fip_rules.proofs.fip_base.fip_language.Facts.{equal_itself as same_test, or_last as or_right, true_of_not_false as not_false}
 
 -- ---- any binders
 
@@ -124,13 +125,6 @@ none_missed w n ps [] e u x h m = absurd (cc)
 none_missed w n [] (b ∷ bs) e u x h m = absurd (cc)
 none_missed w n (p ∷ ps) (b ∷ bs) e u x h m = first_used (w.scalar p.ty) p.lent (n == x) n x (owned_parameters w (suc n) ps bs) e refl u.0 h (none_missed w (suc n) ps bs e u.1 x) m
 
-same_test : (y : ℕ) → (y == y) ≡ true
-same_test y = grind (arith, nat_tests)
-
-or_right : (a b : Bool) → b ≡ true → (a || b) ≡ true
-or_right true b h = refl
-or_right false b h = h
-
 self_has : (y : ℕ) (ys : List ℕ) → has (y ∷ ys) y ≡ true
 self_has y ys = let z : (y == y) ≡ true = same_test y in rw z refl
 
@@ -165,10 +159,6 @@ pos_one (suc n) h = omega arith
 one_pos : (n : ℕ) → 1 ≤ n → pos n ≡ true
 one_pos zero h = absurd (omega arith)
 one_pos (suc n) h = refl
-
-not_false : (b : Bool) → (b ≡ false → ⊥) → b ≡ true
-not_false true h = refl
-not_false false h = absurd (h refl)
 
 pub used_is : (fip : Bool) (w : World) (n : ℕ) (ps : List Param) (bs : List Binder) (e : S.Shape) (t : Term) → ((x : ℕ) → has (owned_parameters w n ps bs) x ≡ true → got x e ≡ pos (fewest x t)) → UsedBinds fip n (parameters w ps bs) e ↔ C.AllUsed fip (owned_parameters w n ps bs) t
 used_is true w n ps bs e t f = (

@@ -11,6 +11,7 @@ use Rattle.fip_rules.specs.Rules.{broken, owns, Uses, Lends, Again, Late, Expose
 use Rattle.ownership_agreement.specs.Good.{State, Free, Given, Held, starts, spent, lending, MayUse, MayLend, IsUsed, bound, Good}
 use Rattle.fip_rules.proofs.Lists.{same, same_test, apart_test}
 use Rattle.fip_rules.proofs.Agree.{next_le, or_left, or_right, or_split}
+use Rattle.fip_rules.proofs.fip_base.fip_language.Facts.{false_of_not_true as not_true, true_of_not_false as not_false}
 
 abbrev Faults : ℕ → State → Shape → Breach → Type 0
 Faults i Free e v = ⊥
@@ -225,14 +226,6 @@ quiet_within fip i n s (Scope k m a) g o f v (inl (inr h)) = quiet fip i (suc m.
 quiet_within fip i n s (Scope k m a) g o f v (inr h) = no_unused fip i k m a v g.1 h
 
 -- ---- where nothing is broken, all is good
-
-not_true : (b : Bool) → (b ≡ true → ⊥) → b ≡ false
-not_true true h = absurd (h refl)
-not_true false h = refl
-
-not_false : (b : Bool) → (b ≡ false → ⊥) → b ≡ true
-not_false true h = refl
-not_false false h = absurd (h refl)
 
 may_use : (i : ℕ) (t : State) (m : Mark) → ((v : Breach) → v.mark.id ≡ m.id → Faults i t (Use m) v → ⊥) → MayUse t
 may_use i Free m h = tt

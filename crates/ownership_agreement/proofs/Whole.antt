@@ -27,6 +27,7 @@ use Rattle.ownership_agreement.proofs.Owning.{arg_owns, expr_owns}
 use Rattle.ownership_agreement.proofs.Always.{got, block_got}
 use Rattle.ownership_agreement.proofs.Bridge.{same, spent_mix, lending_mix, spent_none, both_is, arg_is, args_is, passed_is, after_lent}
 use Rattle.ownership_agreement.proofs.Binders.{UsedAll, binds_is, used_lent, owned_seen}
+use Rattle.fip_rules.proofs.fip_base.fip_language.Facts.{equal_itself as same_test, less_of_not as room, or_last as or_right, true_of_not_false as not_false}
 
 pos_one : (n : ℕ) → pos n ≡ true → 1 ≤ n
 pos_one zero h = absurd (cc)
@@ -35,13 +36,6 @@ pos_one (suc n) h = omega arith
 one_pos : (n : ℕ) → 1 ≤ n → pos n ≡ true
 one_pos zero h = absurd (omega arith)
 one_pos (suc n) h = refl
-
-not_false : (b : Bool) → (b ≡ false → ⊥) → b ≡ true
-not_false true h = refl
-not_false false h = absurd (h refl)
-
-room : (m n : ℕ) → (n ≤ m → ⊥) → m < n
-room m n h = grind arith
 
 under : (sc : Scalars) (n x : ℕ) → Above sc n → sc x ≡ false → x < n
 under sc n x f h = room x n (λ l. let z = f x l in absurd (cc))
@@ -56,13 +50,6 @@ first_used false false y x ys e f u h r m = r (sym (ap (λ q. q || has ys x) f) 
 none_missed : (w : World) (n : ℕ) (bs : List Binder) (e : S.Shape) → UsedAll true w true n bs e → (x : ℕ) → has (variables w n bs) x ≡ true → Misses x e → ⊥
 none_missed w n [] e u x h m = absurd (cc)
 none_missed w n (b ∷ bs) e u x h m = first_used (w.scalar b.ty) (n == x) n x (variables w (suc n) bs) e refl u.0 h (none_missed w (suc n) bs e u.1 x) m
-
-same_test : (y : ℕ) → (y == y) ≡ true
-same_test y = grind (arith, nat_tests)
-
-or_right : (a b : Bool) → b ≡ true → (a || b) ≡ true
-or_right true b h = refl
-or_right false b h = h
 
 self_has : (y : ℕ) (ys : List ℕ) → has (y ∷ ys) y ≡ true
 self_has y ys = let z : (y == y) ≡ true = same_test y in rw z refl

@@ -15,6 +15,7 @@ use Rattle.plain_eval.specs.Slots.{Covers, Keeps}
 use Rattle.plain_eval.specs.Machine.{rest_of, Held, waiting_of, handed, resume, last_end, AllHeld, waiting_size}
 use Rattle.plain_eval.specs.Work.{block_size}
 use Rattle.plain_eval.proofs.Slots.{kept_some}
+use Rattle.fip_base.proofs.fip_language.Facts.{drop_at_next as drop_get, drop_of_none as drop_past, get_map}
 
 -- ---- answers
 
@@ -104,22 +105,6 @@ none_held (h ∷ hs) e = cc
 pub rest_start : (b : Block) → rest_of b 0 ≡ block b
 unfolding rest_of
 rest_start b = sym (block_is b)
-
-drop_get : {A : Type 0} (xs : List A) (n : ℕ) (x : A) → slice_get xs n ≡ Some x → drop n xs ≡ x ∷ drop (suc n) xs
-drop_get [] n x e = cc
-drop_get (y ∷ xs) zero x e = ap (λ z. z ∷ xs) (let z : Some y ≡ Some x = e in cc)
-drop_get (y ∷ xs) (suc n) x e = drop_get xs n x e
-
-drop_past : {A : Type 0} (xs : List A) (n : ℕ) → slice_get xs n ≡ None → drop n xs ≡ []
-drop_past [] zero e = refl
-drop_past [] (suc n) e = refl
-drop_past (y ∷ xs) zero e = cc
-drop_past (y ∷ xs) (suc n) e = drop_past xs n e
-
-get_map : {A B : Type 0} (f : A → B) (xs : List A) (n : ℕ) (x : A) → slice_get xs n ≡ Some x → slice_get (map f xs) n ≡ Some (f x)
-get_map f [] n x e = cc
-get_map f (y ∷ xs) zero x e = ap Some (ap f (let z : Some y ≡ Some x = e in cc))
-get_map f (y ∷ xs) (suc n) x e = get_map f xs n x e
 
 get_map_none : {A B : Type 0} (f : A → B) (xs : List A) (n : ℕ) → slice_get xs n ≡ None → slice_get (map f xs) n ≡ None
 get_map_none f [] n e = refl

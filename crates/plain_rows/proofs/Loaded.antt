@@ -22,6 +22,7 @@ use Rattle.plain_rows.specs.declared.load.Task.TheVariants as T
 use Rattle.plain_rows.specs.Rows.{count_rows, Holds, HoldAll, Stands, StandAll, More}
 use Rattle.plain_rows.specs.Loading.{all_of, each_of, last_first, Makes, Loads}
 use Rattle.plain_rows.proofs.Standing.{more_stand_all}
+use Rattle.fip_base.proofs.fip_language.Facts.{drop_cons}
 
 pub last_push : (ts : List Task) (t : Task) → last_first (ts ++ t ∷ []) ≡ t ∷ last_first ts
 unfolding last_first
@@ -128,12 +129,6 @@ cell_begins tb cs ty w tag shape types ts rows whole z e t f g h =
     )
 
 -- ---- the fields of a cell
-
-drop_cons : (n : ℕ) (xs : List ℕ) (y : ℕ) (ys : List ℕ) → drop n xs ≡ y ∷ ys → (slice_get xs n ≡ Some y) × (drop (suc n) xs ≡ ys) × (n < length xs)
-drop_cons zero [] y ys e = cc
-drop_cons zero (x ∷ xs) y ys e = let a : x ≡ y = cc in let b : xs ≡ ys = cc in (ap Some a, b, omega arith)
-drop_cons (suc n) [] y ys e = cc
-drop_cons (suc n) (x ∷ xs) y ys e = let h = drop_cons n xs y ys e in (h.0, h.1, (let z = h.2 in omega (arith, z)))
 
 last_fewer : (tb : Table) (cs : Cells) (k : ℕ) (ks : List ℕ) (p : ℕ) (c : Cell) (x : Placed) (xs : Parts) → AreLast tb cs (k ∷ ks) p c (MoreParts x xs) → (slice_get c.fields (length c.fields - suc (length ks)) ≡ Some (word_of x)) × AreLast tb cs ks p c xs × (suc (length ks) ≤ length c.fields)
 last_fewer tb cs k ks p c x xs h =

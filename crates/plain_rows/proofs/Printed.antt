@@ -17,6 +17,7 @@ use Rattle.plain_rows.specs.declared.print.Task.TheVariants as T
 use Rattle.plain_rows.specs.Rows.{count_rows, IsRow, HoldAll, Stands, StandAll}
 use Rattle.plain_rows.specs.Printing.{last_first, Prints, Printing}
 use Rattle.plain_rows.proofs.Standing.{wide_all}
+use Rattle.fip_base.proofs.fip_language.Facts.{nonempty_length as some_of}
 
 pub last_push : (ts : List Task) (t : Task) → last_first (ts ++ t ∷ []) ≡ t ∷ last_first ts
 unfolding last_first
@@ -56,10 +57,6 @@ tail_of : (tb : Table) (types : List ℕ) (vs : Values) (rest : List ℕ) → 0 
 tail_of tb [] vs rest l h = absurd (omega arith)
 tail_of tb (k ∷ ks) End rest l h = absurd h
 tail_of tb (k ∷ ks) (Further v vs) rest l h = (refl, refl)
-
-some_of : (xs : List ℕ) (b : Bool) → b ≡ (length xs == 0) → b ≡ false → 0 < length xs
-some_of [] b e f = cc
-some_of (x ∷ xs) b e f = omega arith
 
 none_of : (xs : List ℕ) (b : Bool) → b ≡ (length xs == 0) → b ≡ true → xs ≡ []
 none_of xs b e f = empty_is xs (eqb-true (length xs) 0 (sym e ∙ f)) where

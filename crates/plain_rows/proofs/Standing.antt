@@ -8,15 +8,7 @@ use Rattle.plain_rows.specs.declared.store.Value.TheVariants as V
 use Rattle.plain_rows.specs.declared.store.Head.{Head}
 use Rattle.plain_rows.specs.declared.store.Store.{Store}
 use Rattle.plain_rows.specs.Rows.{count_rows, IsRow, Holds, HoldAll, Stands, StandAll, More}
-
-pub get_left : {A : Type 0} (xs ys : List A) (i : ℕ) (x : A) → slice_get xs i ≡ Some x → slice_get (xs ++ ys) i ≡ Some x
-get_left [] ys i x e = cc
-get_left (z ∷ xs) ys zero x e = e
-get_left (z ∷ xs) ys (suc i) x e = get_left xs ys i x e
-
-pub get_last : {A : Type 0} (xs : List A) (x : A) → slice_get (xs ++ x ∷ []) (length xs) ≡ Some x
-get_last [] x = refl
-get_last (y ∷ xs) x = get_last xs x
+pub use Rattle.fip_base.proofs.fip_language.Facts.{get_last, get_more as get_left}
 
 part_left : (xs ys : List Value) (m n : ℕ) → m + n ≤ length xs → take n (drop m (xs ++ ys)) ≡ take n (drop m xs)
 part_left xs ys m n l =

@@ -18,11 +18,9 @@ use Rattle.source_report.specs.Report.{IsTyped}
 use Rattle.source_report.specs.WellFormed.{IsKnownPattern, AreKnownPatterns, IsKnown, IsKnownBlock, AreKnownClauses, IsKnownInstance}
 use Rattle.source_report.proofs.Ready.{typed_formed, typed_fits}
 use Rattle.source_report.proofs.Sizing.{typed_filled}
+use Rattle.fip_language.proofs.Facts.{same_number}
 
 -- ---- the type that a data type declares
-
-same_number : (m n : ℕ) → (m == n) ≡ true → m ≡ n
-same_number m n h = grind (arith, nat_tests)
 
 declared_at : (xs : List ℕ) (t d : ℕ) → is_number (numbered xs t) d ≡ true → (n : ℕ) × (t ≡ suc n) × (slice_get xs n ≡ Some d)
 declared_at xs zero d e = absurd (cc)

@@ -14,6 +14,7 @@ use Rattle.reached_instances.specs.Uses.{all_fit, arguments_faults, closed_argum
 use Rattle.reached_instances.specs.UsesView.{AreAllWithin, IsPlaceOf, all_trees, argument_of, argument_or_none, faults_of_argument, misfit_at}
 use Rattle.reached_instances.proofs.Using.{arguments_kept, arguments_within}
 use Rattle.reached_instances.proofs.Lists.{drop_item}
+use Rattle.fip_base.proofs.fip_language.Facts.{and_assoc, and_true}
 
 -- ---- one after another
 
@@ -106,14 +107,6 @@ arguing_noted_all s i h xs list k l m less e =
     ap (λ (ws : List W.Written). after m (arguments_faults s i h (drop k xs) (V.writtens ws))) (sym (drop_of_length-le list less)) ∙ e
 
 -- ---- whether they fit, up to place k
-
-and_assoc : (a b c : Bool) → ((a && b) && c) ≡ (a && (b && c))
-and_assoc true b c = refl
-and_assoc false b c = refl
-
-and_true : (b : Bool) → (b && true) ≡ b
-and_true true = refl
-and_true false = refl
 
 no_argument_fits : (s : Source) (there : Instance) (x : Static) → static_fits s there x None ≡ true
 no_argument_fits s there (TypeParameter n p) = refl

@@ -7,12 +7,7 @@ use Rattle.reached_instances.specs.declared.closed.Head.TheVariants as H
 use Rattle.reached_instances.specs.Closed.{Closed, Closeds, Int, Applied, NoClosed, MoreClosed, same_head, same_closed}
 use Rattle.reached_instances.specs.Closed.{same_closeds}
 use Rattle.reached_instances.proofs.Sameness.{IsSame}
-
-nat_is : (m n : ℕ) → (m == n) ≡ true → m ≡ n
-nat_is m n h = grind (arith, nat_tests)
-
-nat_self : (n : ℕ) → (n == n) ≡ true
-nat_self n = grind (arith, nat_tests)
+use Rattle.fip_base.proofs.fip_language.Facts.{and_both as and_by, both_true, equal_itself as nat_self, same_number as nat_is}
 
 pub head_is : (g h : Head) → same_head g h ≡ true → g ≡ h
 head_is (H.«Type» m) (H.«Type» n) e = ap H.«Type» (nat_is m n e)
@@ -23,11 +18,6 @@ head_is (H.Function m) (H.Function n) e = ap H.Function (nat_is m n e)
 pub head_self : (h : Head) → same_head h h ≡ true
 head_self (H.«Type» n) = nat_self n
 head_self (H.Function n) = nat_self n
-
-and_by : (b c : Bool) → (b && c) ≡ true → (b ≡ true) × (c ≡ true)
-and_by true true e = (refl, refl)
-and_by true false e = cc
-and_by false c e = cc
 
 mutual
   same_is : (c d : Closed) → same_closed c d ≡ true → c ≡ d
@@ -45,11 +35,6 @@ mutual
   sames_are (MoreClosed c cs) (MoreClosed d ds) e =
       let s = and_by (same_closed c d) (same_closeds cs ds) e in
       ap (λ x. MoreClosed x cs) (same_is c d s.0) ∙ ap (MoreClosed d) (sames_are cs ds s.1)
-
-both_true : (b c : Bool) → b ≡ true → c ≡ true → (b && c) ≡ true
-both_true true true e f = refl
-both_true true false e f = cc
-both_true false c e f = cc
 
 mutual
   same_self : (c : Closed) → same_closed c c ≡ true

@@ -23,6 +23,7 @@ use Rattle.reached_instances.specs.SharedTrees.{Branch, tree_at, trees, trees_at
 use Rattle.reached_instances.specs.UsesView.{IsPlaceOf, ArePlacesOf, trees_of, with_place}
 use Rattle.reached_instances.proofs.Growing.{within_more, trees_kept}
 use Rattle.reached_instances.proofs.Lists.{drop_item}
+use Rattle.fip_base.proofs.fip_language.Facts.{and_false, and_true}
 
 pub instance_kept : (here : Here) (bs cs : List Branch) → Grows bs cs → AreWithin bs here.given.items → instance (trees cs) here ≡ instance (trees bs) here
 instance_kept here bs cs g w = ap (λ (x : Closeds). record { function = here.function; given = x }) (trees_kept bs cs here.given.items g w)
@@ -58,14 +59,6 @@ joined_some true cs c (Some ds) = ap Some (onto_push cs c ds)
 joined_false : (cs : List Closed) (o : Option Closeds) → joined false cs o ≡ None
 joined_false cs None = refl
 joined_false cs (Some ds) = refl
-
-and_true : (b : Bool) → (b && true) ≡ b
-and_true true = refl
-and_true false = refl
-
-and_false : (b : Bool) → (b && false) ≡ false
-and_false true = refl
-and_false false = refl
 
 pub at_append : (ts : List Closed) (xs ys : List ℕ) → all_at ts (xs ++ ys) ≡ all_at ts xs ++ all_at ts ys
 at_append ts [] ys = refl

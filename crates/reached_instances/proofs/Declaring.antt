@@ -13,6 +13,7 @@ use Rattle.reached_instances.specs.UsesView.{is_same_parameter}
 use Rattle.reached_instances.proofs.Closing.{at_append, kept_all}
 use Rattle.reached_instances.proofs.Growing.{within_more}
 use Rattle.reached_instances.proofs.Lists.{drop_item}
+pub use Rattle.fip_base.proofs.fip_language.Facts.{map_length}
 
 pub record AreDeclared (s : Source) (h : Instance) (list : List Written) (bs : List Branch) (is : List ℕ) (k : ℕ) : Type 0 where
   pub within : AreWithin bs is
@@ -65,10 +66,6 @@ pub sames_end : (s : Source) (there here : Instance) (ps : List DS.SignaturePara
 sames_end s there here ps qs k whole l m before =
     sym (ap (λ (xs : List DS.SignatureParameter). sames s there here xs (drop k qs)) (drop_of_length-le ps l) ∙ ap (λ (ys : List DP.Parameter). sames s there here [] ys) (drop_of_length-le qs m))
     ∙ before
-
-pub map_length : {A B : Type 0} (f : A → B) (xs : List A) → length (map f xs) ≡ length xs
-map_length f [] = refl
-map_length f (x ∷ xs) = ap suc (map_length f xs)
 
 -- ---- one parameter
 

@@ -7,17 +7,10 @@ use Rattle.indexmap.specs.IndexMap.{insert_entry}
 use Rattle.reached_instances.specs.declared.closed.Passing.{Passing}
 use Rattle.reached_instances.specs.SharedTrees.{IsNoted}
 use Rattle.reached_instances.specs.contracts.closed.PassingPartialEq as P
+use Rattle.fip_base.proofs.fip_language.Facts.{and_both as and_by, same_number as nat_is}
 
 abbrev pub passing_eq : Passing → Passing → Bool
 passing_eq = (P.TheImpl.eq-value).it
-
-nat_is : (m n : ℕ) → (m == n) ≡ true → m ≡ n
-nat_is m n h = grind (arith, nat_tests)
-
-and_by : (b c : Bool) → (b && c) ≡ true → (b ≡ true) × (c ≡ true)
-and_by true true e = (refl, refl)
-and_by true false e = cc
-and_by false c e = cc
 
 passing_is : (p q : Passing) → passing_eq p q ≡ true → p ≡ q
 passing_is p q e =

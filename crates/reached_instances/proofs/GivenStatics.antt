@@ -12,16 +12,12 @@ use Rattle.reached_instances.specs.Source.{Source, declared_at, if_type, if_func
 use Rattle.reached_instances.specs.SourceView.{function_source, AreNamed}
 use Rattle.reached_instances.specs.declared.source.FunctionSource.{FunctionSource}
 use Rattle.fip_trees.specs.Names.{meaning}
+pub use Rattle.fip_base.proofs.fip_language.Facts.{get_map_past as at_past}
 
 pub at_there : {A B : Type 0} (f : A → B) (xs : List A) (k : ℕ) (x : A) → k < length xs → x ≡ get_or xs k x → slice_get (map f xs) k ≡ Some (f x)
 at_there f [] k x l h = absurd (omega (arith, l))
 at_there f (y ∷ xs) zero x l h = ap (λ z. Some (f z)) (sym h)
 at_there f (y ∷ xs) (suc k) x l h = at_there f xs k x (omega (arith, l)) h
-
-pub at_past : {A B : Type 0} (f : A → B) (xs : List A) (k : ℕ) → length xs ≤ k → slice_get (map f xs) k ≡ None
-at_past f [] k l = refl
-at_past f (y ∷ xs) zero l = absurd (omega (arith, l))
-at_past f (y ∷ xs) (suc k) l = at_past f xs k (omega (arith, l))
 
 pub tree_given : (ts : List Closed) (is : List ℕ) (k : ℕ) → closed_at (trees_at ts is) k ≡ option_map (tree_at ts) (slice_get is k)
 tree_given ts [] k = refl

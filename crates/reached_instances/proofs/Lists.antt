@@ -5,10 +5,7 @@ use Rattle.fip_trees.specs.declared.least.Violation.{Violation}
 use Rattle.fip_trees.specs.Least.{after}
 use Rattle.fip_trees.specs.Names.{with_meaning, with_meanings}
 use Rattle.fip_trees.proofs.Leasts.{after-append}
-
--- a list from an item on
-pub drop_item : {A : Type 0} (xs : List A) (i : ℕ) (x : A) → i < length xs → x ≡ get_or xs i x → drop i xs ≡ x ∷ drop (i + 1) xs
-drop_item xs i x h e = drop-cons xs i x h ∙ ap (λ y. y ∷ drop (suc i) xs) (sym e) ∙ ap (λ n. x ∷ drop n xs) (sym (add-one i))
+pub use Rattle.fip_base.proofs.fip_language.Facts.{drop_item}
 
 -- one item of a walk that notes the violations of each item of a list
 pub walk_step : {A : Type 0} (one : A → List Violation) (all : List A → List Violation) → ((x : A) (xs : List A) → all (x ∷ xs) ≡ one x ++ all xs) → (xs : List A) (i : ℕ) (x : A) (l m : Option Violation) → i < length xs → x ≡ get_or xs i x → m ≡ after l (one x) → after m (all (drop (i + 1) xs)) ≡ after l (all (drop i xs))

@@ -6,6 +6,7 @@ use Rattle.fip_base.specs.fip_language.Mentions.{all_of}
 use Rattle.reached_instances.specs.Numbering.{with_new, Differ}
 use Rattle.reached_instances.specs.Numbering.{with_all, firsts, Way, Reached, AreNumbered, AreMore}
 use Rattle.reached_instances.proofs.Sameness.{IsSame, found, missing}
+use Rattle.fip_base.proofs.fip_language.Facts.{length_append}
 
 -- ---- lists
 
@@ -35,10 +36,6 @@ among_of f x y (z ∷ xs) (inr h) g = among_right y (f z) (all_of f xs) (among_o
 of_append : {A B : Type 0} (f : A → List B) (xs ys : List A) → all_of f (xs ++ ys) ≡ all_of f xs ++ all_of f ys
 of_append f [] ys = refl
 of_append f (x ∷ xs) ys = ap (λ l. f x ++ l) (of_append f xs ys) ∙ sym (append_assoc (f x) (all_of f xs) (all_of f ys))
-
-length_append : {A : Type 0} (xs ys : List A) → length (xs ++ ys) ≡ length xs + length ys
-length_append [] ys = omega arith
-length_append (x ∷ xs) ys = let r = length_append xs ys in omega (arith, r)
 
 differ_last : {A : Type 0} (xs : List A) (x : A) → (Among x xs → ⊥) → Differ xs → Differ (xs ++ x ∷ [])
 differ_last [] x new d = ((λ h. h), tt)

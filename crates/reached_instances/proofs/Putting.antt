@@ -14,6 +14,7 @@ use Rattle.reached_instances.proofs.Growing.{grows_same, grows_more, within_more
 use Rattle.reached_instances.proofs.Lists.{drop_item}
 use Rattle.reached_instances.proofs.SharedAt.{int_first}
 use Rattle.reached_instances.proofs.SharedTrees.{so_many}
+pub use Rattle.fip_base.proofs.fip_language.Facts.{map_map, take_past}
 
 -- ---- what is put
 
@@ -100,19 +101,9 @@ pub all_of_single : {A B : Type 0} (g : A → B) (xs : List A) → all_of (λ x.
 all_of_single g [] = refl
 all_of_single g (x ∷ xs) = ap (λ l. g x ∷ l) (all_of_single g xs)
 
-pub map_map : {A B C : Type 0} (f : B → C) (g : A → B) (xs : List A) → map f (map g xs) ≡ map (λ x. f (g x)) xs
-map_map f g [] = refl
-map_map f g (x ∷ xs) = ap (λ l. f (g x) ∷ l) (map_map f g xs)
-
 all_of_append : {A B : Type 0} (f : A → List B) (xs ys : List A) → all_of f (xs ++ ys) ≡ all_of f xs ++ all_of f ys
 all_of_append f [] ys = refl
 all_of_append f (x ∷ xs) ys = ap (λ l. f x ++ l) (all_of_append f xs ys) ∙ sym (append_assoc (f x) (all_of f xs) (all_of f ys))
-
-pub take_past : {A : Type 0} (xs : List A) (i : ℕ) → length xs ≤ i → take i xs ≡ xs
-take_past [] zero h = refl
-take_past [] (suc i) h = refl
-take_past (x ∷ xs) zero h = absurd (omega (arith, h))
-take_past (x ∷ xs) (suc i) h = ap (λ l. x ∷ l) (take_past xs i (omega (arith, h)))
 
 -- what one item more gives
 pub all_of_next : {A B : Type 0} (f : A → List B) (xs : List A) (i : ℕ) (x : A) → i < length xs → x ≡ get_or xs i x → all_of f (take (i + 1) xs) ≡ all_of f (take i xs) ++ f x

@@ -4,6 +4,7 @@ use Rattle.fip_base.specs.fip_language.Every.{Every}
 use Rattle.reached_instances.specs.Closed.{Closed, Int}
 use Rattle.reached_instances.specs.SharedTrees.{Branch, tree_of, trees, AreBefore}
 use Rattle.reached_instances.proofs.SharedTrees.{so_many, behind, at_place, before_all, among_at}
+use Rattle.fip_base.proofs.fip_language.Facts.{length_of_none as none_past}
 
 get_there : (ts : List Closed) (i : ℕ) (t : Closed) → slice_get ts i ≡ Some t → get_or ts i Int ≡ t
 get_there [] i t e = cc
@@ -14,11 +15,6 @@ get_past : (ts : List Closed) (i : ℕ) → length ts ≤ i → get_or ts i Int 
 get_past [] i h = refl
 get_past (u ∷ ts) zero h = absurd (omega (arith, h))
 get_past (u ∷ ts) (suc i) h = get_past ts i (omega (arith, h))
-
-none_past : {A : Type 0} (xs : List A) (i : ℕ) → slice_get xs i ≡ None → length xs ≤ i
-none_past [] i e = omega arith
-none_past (x ∷ xs) zero e = cc
-none_past (x ∷ xs) (suc i) e = let r = none_past xs i e in omega (arith, r)
 
 pub int_first : (bs : List Branch) → get_or (trees bs) 0 Int ≡ Int
 int_first bs = let g = behind (Int ∷ []) bs in ap (λ l. get_or l 0 Int) g.1

@@ -10,16 +10,7 @@ use Rattle.reached_instances.specs.SharedTrees.{Branch, trees_at, tree_of, with_
 use Rattle.reached_instances.specs.Numbering.{with_new, Differ}
 use Rattle.reached_instances.proofs.Sameness.{IsSame, found, missing}
 use Rattle.reached_instances.proofs.ClosedTrees.{closed_exact, head_is, head_self}
-
-and_by : (b c : Bool) → (b && c) ≡ true → (b ≡ true) × (c ≡ true)
-and_by true true e = (refl, refl)
-and_by true false e = cc
-and_by false c e = cc
-
-both_true : (b c : Bool) → b ≡ true → c ≡ true → (b && c) ≡ true
-both_true true true e f = refl
-both_true true false e f = cc
-both_true false c e f = cc
+use Rattle.fip_base.proofs.fip_language.Facts.{and_both as and_by, both_true, get_seam as at_seam, last_length}
 
 same_is : (a b : Branch) → same_branch a b ≡ true → a ≡ b
 same_is a b e =
@@ -43,10 +34,6 @@ keep_trees ts more (i ∷ is) h = ap (λ c. MoreClosed c (trees_at (ts ++ more) 
 keep_tree : (ts more : List Closed) (b : Branch) → Every (λ i. i < length ts) b.arguments → tree_of (ts ++ more) b ≡ tree_of ts b
 keep_tree ts more b h = ap (Applied b.head) (keep_trees ts more b.arguments h)
 
-last_length : {A : Type 0} (xs : List A) (x : A) → length (xs ++ x ∷ []) ≡ suc (length xs)
-last_length [] x = refl
-last_length (y ∷ xs) x = ap suc (last_length xs x)
-
 pub behind : (ts : List Closed) (bs : List Branch) → (more : List Closed) × (with_branches ts bs ≡ ts ++ more)
 behind ts [] = ([], sym (append-nil ts))
 behind ts (b ∷ bs) =
@@ -63,10 +50,6 @@ so_many ts (b ∷ bs) =
     let r = so_many (ts ++ tree_of ts b ∷ []) bs in
     let l = last_length ts (tree_of ts b) in
     omega (arith, r, l)
-
-at_seam : {A : Type 0} (xs : List A) (y : A) (ys : List A) → slice_get (xs ++ y ∷ ys) (length xs) ≡ Some y
-at_seam [] y ys = refl
-at_seam (x ∷ xs) y ys = at_seam xs y ys
 
 -- a branch's tree stands at its place
 pub at_place : (ts : List Closed) (bs : List Branch) (p : ℕ) (b : Branch) → AreBefore (length ts) bs → slice_get bs p ≡ Some b → slice_get (with_branches ts bs) (length ts + p) ≡ Some (tree_of (with_branches ts bs) b)

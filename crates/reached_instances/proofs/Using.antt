@@ -16,6 +16,7 @@ use Rattle.reached_instances.specs.Uses.{all_given, applied_function, arguments_
 use Rattle.reached_instances.specs.UsesView.{AreAllWithin, IsPlaceOf, all_trees, argument_or_none, trees_of}
 use Rattle.reached_instances.proofs.Growing.{more_within, trees_kept}
 use Rattle.reached_instances.proofs.SharedAt.{int_first}
+use Rattle.fip_base.proofs.fip_language.Facts.{equal_true as same_true, unequal_false as same_false}
 
 -- ---- a type that stands in a header
 
@@ -42,12 +43,6 @@ given_place s bs g n k gf m os o w e f h =
 pub given_noted : (s : Source) (i : ℕ) (g : Closed) (gf : Option Closed) (m : Option ℕ) (x : Name) (p : Place) (ws : Writtens) (os : List (Option Closed)) (vs : List Violation) (k : ℕ) (l n : Option Violation) → Some g ≡ gf → k ≡ count ws → n ≡ after l (when (not (k == 0)) (broken E23 p i x)) → n ≡ after l (name_faults s i gf m x p ws os vs)
 given_noted s i g gf m x p ws os vs k l n e f h =
     h ∙ ap (λ j. after l (when (not (j == 0)) (broken E23 p i x))) f ∙ ap (λ (y : Option Closed). after l (name_faults s i y m x p ws os vs)) e
-
-same_true : (j n : ℕ) → j ≡ n → (j == n) ≡ true
-same_true j n e = grind (arith, nat_tests)
-
-same_false : (j n : ℕ) → (j ≡ n → ⊥) → (j == n) ≡ false
-same_false j n e = grind (arith, nat_tests)
 
 -- a declared function
 pub declared_place : (s : Source) (h : Instance) (gf : Option Closed) (m : Option ℕ) (n f j k : ℕ) (ws : Writtens) (bs : List Branch) (o : Option ℕ) → None ≡ gf → m ≡ Some f → j ≡ length (statics_at s f) → k ≡ n → j ≡ k → IsPlaceOf bs o (declared_use s f (closed_arguments s h (statics_at s f) ws)) → IsPlaceOf bs o (named_use s gf m n (closed_arguments s h (statics_meant s m) ws))

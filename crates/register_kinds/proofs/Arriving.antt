@@ -18,6 +18,8 @@ use Rattle.register_kinds.specs.declared.asked.Asked.{Asked}
 use Rattle.register_kinds.specs.Rising.{Rise}
 use Rattle.register_kinds.proofs.Changed.{is_become, not_true}
 use Rattle.register_kinds.proofs.Less.{free}
+use Rattle.fip_base.proofs.fip_language.Facts.{and_both as and_parts, both_true as and_all, same_both_ways as same_if, true_or_false}
+pub use Rattle.fip_base.proofs.fip_language.Facts.{and_true_back as with_yes}
 
 none_lessened : (k : Kind) → lessened None k ≡ k
 none_lessened Gone = refl
@@ -69,14 +71,6 @@ arrive_tested ks x =
 
 -- all fit where each does
 
-and_parts : (a b : Bool) → (a && b) ≡ true → (a ≡ true) × (b ≡ true)
-and_parts true b e = (refl, e)
-and_parts false b e = absurd (cc)
-
-and_all : (a b : Bool) → a ≡ true → b ≡ true → (a && b) ≡ true
-and_all true b e f = f
-and_all false b e f = absurd (cc)
-
 all_each : (ms ks : List Kind) → fit_all ms ks ≡ true → (q : ℕ) → fits (at ms q) (at ks q) ≡ true
 all_each [] [] e q = refl
 all_each [] (k ∷ ks) e q = absurd (cc)
@@ -126,11 +120,6 @@ fit_tested : (t : Option Tested) (ms ks : List Kind) → ((q : ℕ) → fits_at 
 fit_tested None ms ks h = refl
 fit_tested (Some x) ms ks h = h x.register
 
-same_if : (a b : Bool) → (a ≡ true → b ≡ true) → (b ≡ true → a ≡ true) → a ≡ b
-same_if true b f g = sym (f refl)
-same_if false true f g = g refl
-same_if false false f g = refl
-
 -- a register that hasn't changed, and was tested or not
 unchanged : (t : Option Tested) (ms ks : List Kind) (q : ℕ) → fits (at ms q) (at ks q) ≡ true →
     tested_fits t ms ks ≡ true → fits_at t ms ks q ≡ true
@@ -140,10 +129,6 @@ unchanged (Some x) ms ks q h e =
       | inl g ↦ ap (fits_at (Some x) ms ks) g.1 ∙ e
       | inr g ↦ rw g.0 (ap (fits (at ms q)) (none_lessened (at ks q)) ∙ h)
     ]
-
-true_or_false : (b : Bool) → (b ≡ true) ⊎ (b ≡ false)
-true_or_false true = inl refl
-true_or_false false = inr refl
 
 -- What was seen to fit goes on to fit where those do that have changed since.
 pub seen_fits : (t : Option Tested) (ms ks : List Kind) (qs : List ℕ) → length ms ≡ length ks →
@@ -179,10 +164,6 @@ seen_case t ms kinds ks known known2 qs a b e f f2 l h i j =
 pub with_no : (a : Bool) → false ≡ (a && false)
 with_no true = refl
 with_no false = refl
-
-pub with_yes : (a : Bool) → a ≡ (a && true)
-with_yes true = refl
-with_yes false = refl
 
 -- a label map that was seen to fit
 

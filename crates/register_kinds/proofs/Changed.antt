@@ -12,6 +12,7 @@ use Rattle.register_kinds.specs.Kept.{names}
 use Rattle.register_kinds.specs.Steps.{each, forgets, lose}
 use Rattle.register_kinds.proofs.Places.{at_set_same, at_set_other, at_map, same_at, set_long, map_long, at_past, each_all}
 use Rattle.register_kinds.proofs.Places.{pick, set_pick, set_same, at_set_gone}
+use Rattle.fip_base.proofs.fip_language.Facts.{less_or_not as below_or}
 
 -- all registers at once
 
@@ -33,9 +34,6 @@ become_long ks f = map_to_long f (numbers 0 (length ks)) ∙ numbers_long 0 (len
 
 pub at_become : (ks : List Kind) (f : ℕ → Kind) (q : ℕ) → q < length ks → at (become ks f) q ≡ f q
 at_become ks f q h = map_at f 0 (length ks) q h ∙ ap f (omega arith)
-
-below_or : (k i : ℕ) → (k < i) ⊎ (i ≤ k)
-below_or k i = grind arith
 
 -- Kinds are what all become where each register is.
 pub is_become : (ks new : List Kind) (f : ℕ → Kind) → length new ≡ length ks →

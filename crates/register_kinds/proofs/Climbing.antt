@@ -16,6 +16,8 @@ use Rattle.register_kinds.specs.Kept.{is_lent, names}
 use Rattle.register_kinds.proofs.Changed.{at_become, become_long}
 use Rattle.register_kinds.proofs.Places.{at_past}
 use Rattle.register_kinds.proofs.TakenKinds.{no_heir_by}
+use Rattle.fip_base.proofs.fip_language.Facts.{less_or_not as below_or, or_false_false as or_neither, or_false_left as or_left, or_false_right as or_right}
+pub use Rattle.fip_base.proofs.fip_language.Facts.{some_is as some_one, true_or_false}
 
 -- kinds
 
@@ -84,18 +86,11 @@ one_tree (Owned t s) o p e h = absurd (cc)
 one_tree (Lent t s root from) o p e h = root_one root o p e h
 one_tree (Credit k) o p e h = absurd (cc)
 
-pub true_or_false : (b : Bool) → (b ≡ true) ⊎ (b ≡ false)
-true_or_false true = inl refl
-true_or_false false = inr refl
-
 gone_past : (ks : List Kind) (q : ℕ) (o : Option ℕ) → length ks ≤ q → is_lent_in o (at ks q) ≡ true → ⊥
 gone_past ks q o h e = let g = at_past ks q h in cc
 
 unowned_past : (ks : List Kind) (q : ℕ) → length ks ≤ q → is_owned (at ks q) ≡ true → ⊥
 unowned_past ks q h e = let g = at_past ks q h in cc
-
-below_or : (m n : ℕ) → (m < n) ⊎ (n ≤ m)
-below_or m n = grind arith
 
 pub lent_there : (ks : List Kind) (q : ℕ) (o : Option ℕ) → is_lent_in o (at ks q) ≡ true → q < length ks
 lent_there ks q o e =
@@ -213,9 +208,6 @@ owner_written ks d k (Some x) e h =
     ap is_owned (written_other ks d k x (owned_there ks x h) (apart_from ks d x e h))
     ∙ forget_owned (λ r. r == d) (at ks x) ∙ h
 
-pub some_one : (x y : ℕ) → Some x ≡ Some y → x ≡ y
-some_one x y e = cc
-
 own_alive : (ks : List Kind) (d : ℕ) (o : Option ℕ) → is_owned (at ks d) ≡ false → HasOwner ks o → (x : ℕ) →
     o ≡ Some x → (x == d) ≡ false
 own_alive ks d None e h x i = absurd (cc)
@@ -287,14 +279,6 @@ used_gone ks r q h e =
     at_become ks (λ q. if goes ks r q then Gone else forget (goes ks r) (at ks q)) q h
     ∙ ap (λ b. if b then Gone else forget (goes ks r) (at ks q)) e
 
-or_right : (a b : Bool) → (a || b) ≡ false → b ≡ false
-or_right true b e = absurd (cc)
-or_right false b e = e
-
-or_neither : (a b : Bool) → a ≡ false → b ≡ false → (a || b) ≡ false
-or_neither true b e f = absurd (cc)
-or_neither false b e f = f
-
 pub not_lent : (o : Option ℕ) (r : ℕ) (k : Kind) → (o ≡ Some r → ⊥) → is_lent_in o k ≡ true → is_lent_of r k ≡ false
 not_lent o r k n e =
     elim (true_or_false (is_lent_of r k)) [
@@ -356,10 +340,6 @@ tree_stays r x (Owned t s) n l e = let z = eq-eqb x r (some_one x r e) in cc
 tree_stays r x (Lent t s root from) n l e =
     let z = ap (λ p. same_root p (Some r)) e in let y = eq-eqb r r refl in cc
 tree_stays r x (Credit k) n l e = cc
-
-or_left : (a b : Bool) → (a || b) ≡ false → a ≡ false
-or_left true b e = absurd (cc)
-or_left false b e = refl
 
 used_unrooted : (ks : List Kind) (r : ℕ) (from : Option From) →
     tree_of (used_up ks r) (forget_from (goes ks r) from) ≡ Some r → ⊥

@@ -28,6 +28,7 @@ use Rattle.register_kinds.specs.Climbs.{IsWhole, tree_of}
 use Rattle.register_kinds.proofs.Climbing.{lent_in}
 use Rattle.register_kinds.proofs.Keeps.{unled}
 use Rattle.register_kinds.proofs.Subsets.{numbers_rise}
+use Rattle.fip_base.proofs.fip_language.Facts.{both_left as and_left, both_right as and_right, less_or_not as below_or, same_number}
 
 -- lists that grow or are replaced
 
@@ -47,17 +48,6 @@ set_next (m ∷ ms) (x ∷ ks) (suc i) k d h l e =
     ∙ ap (λ z. take z (m ∷ ms) ++ drop z (x ∷ ks)) n
 
 -- the form of a function
-
-and_left : (a b : Bool) → (a && b) ≡ true → a ≡ true
-and_left true b e = refl
-and_left false b e = absurd (cc)
-
-and_right : (a b : Bool) → (a && b) ≡ true → b ≡ true
-and_right true b e = e
-and_right false b e = absurd (cc)
-
-below_or : (k i : ℕ) → (k < i) ⊎ (i ≤ k)
-below_or k i = grind arith
 
 not_below : (r n : ℕ) → not (nat_lt r n) ≡ true → n ≤ r
 not_below r n e =
@@ -90,9 +80,6 @@ kinds_rise w ms j (k ∷ ks) e zero =
     good_rises w ms j k (and_left (is_good_kind w ms j k) (are_good_kinds w ms (suc j) ks) e)
 kinds_rise w ms j (k ∷ ks) e (suc q) =
     kinds_rise w ms (suc j) ks (and_right (is_good_kind w ms j k) (are_good_kinds w ms (suc j) ks) e) q
-
-same_number : (a b : ℕ) → (a == b) ≡ true → a ≡ b
-same_number a b e = elim (eqb_tells a b) [ inl g ↦ g.1 | inr g ↦ absurd (let h = g.0 in cc) ]
 
 some_is : (a b : LabelMap) → Some a ≡ Some b → a ≡ b
 some_is a b e = cc

@@ -10,16 +10,13 @@ use Rattle.register_kinds.specs.Steps.{each, forgets}
 use Rattle.register_kinds.proofs.Places.{at_map, each_all}
 use Rattle.register_kinds.proofs.Changed.{forget_by, forget_twice, forgets_unnamed, lent_forget, not_true}
 use Rattle.register_kinds.proofs.Keeps.{lent_leads, unled, unlisted_from, unlisted_lent}
+use Rattle.fip_base.proofs.fip_language.Facts.{or_false_false as or_not}
 
 pub forget_listed : (d : ℕ) (ks : List Kind) (qs : List ℕ) → ((q : ℕ) → leads d (at ks q) ≡ true → has qs q ≡ true) →
     each (forgets d) ks qs ≡ map (forgets d) ks
 forget_listed d ks qs h =
     each_all (forgets d) refl (forget_twice (λ q. q == d)) qs ks
     (λ q e. forgets_unnamed d (at ks q) (unled d (at ks q) (not_true (leads d (at ks q)) (has qs q) (h q) e)).0)
-
-or_not : (a b : Bool) → a ≡ false → b ≡ false → (a || b) ≡ false
-or_not true b e f = absurd (cc)
-or_not false b e f = f
 
 not_going : (r : ℕ) (ks : List Kind) (qs : List ℕ) (q : ℕ) (f : From) → Gathers ks r qs → has qs q ≡ false →
     from_of (at ks q) ≡ Some f → goes ks r f.register ≡ false

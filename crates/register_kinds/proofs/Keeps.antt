@@ -21,6 +21,8 @@ use Rattle.register_kinds.proofs.Naming.{free_all, lent_swapped, rooted_from, ro
 use Rattle.register_kinds.proofs.Places.{at_map, at_set_other, map_long, set_long}
 use Rattle.register_kinds.proofs.Changed.{not_true}
 use Rattle.register_kinds.proofs.SetsCompared.{origins_one}
+use Rattle.fip_base.proofs.fip_language.Facts.{or_false_both as or_neither, or_first, or_last as or_second}
+pub use Rattle.fip_base.proofs.fip_language.Facts.{or_cases}
 
 -- a change of register d, seen at each place
 pub either : (P : ℕ → Kind → Type 0) (ks : List Kind) (d : ℕ) (k : Kind) → ((q : ℕ) → P q (at ks q)) → P d k →
@@ -93,22 +95,6 @@ keeps_listed ks maps lents more below trees loose held since busy asked sets h e
 }
 
 -- a register that leads to another
-
-pub or_cases : (a b : Bool) → (a || b) ≡ true → (a ≡ true) ⊎ (b ≡ true)
-or_cases true b e = inl refl
-or_cases false b e = inr e
-
-or_first : (a b : Bool) → a ≡ true → (a || b) ≡ true
-or_first true b e = refl
-or_first false b e = absurd (cc)
-
-or_second : (a b : Bool) → b ≡ true → (a || b) ≡ true
-or_second true b e = refl
-or_second false b e = e
-
-or_neither : (a b : Bool) → (a || b) ≡ false → (a ≡ false) × (b ≡ false)
-or_neither true b e = absurd (cc)
-or_neither false b e = (refl, e)
 
 pub lent_leads : (r : ℕ) (k : Kind) → is_lent_of r k ≡ true → leads r k ≡ true
 lent_leads r k e = or_second (names r (from_of k)) (is_lent_of r k) e

@@ -5,6 +5,8 @@ use Rattle.cell_code.specs.declared.kind.Kind.{Kind}
 use Rattle.std.proofs.lemmas.Bool.Decides.{eqb_tells}
 use Rattle.code_rules.specs.Kinds.{at, has}
 use Rattle.register_kinds.specs.Kept.{trues, AreLents, Grows, ClosedBelow, kept_at, leads}
+use Rattle.fip_base.proofs.fip_language.Facts.{append_more, append_none_back as append_none, length_join as long_append, or_cases, or_first as or_with, or_last, same_number as same_here}
+pub use Rattle.fip_base.proofs.fip_language.Facts.{drop_past as past_end, set_length as items_long, take_few as take_short}
 
 pub trues_few : (bs : List Bool) → trues bs ≤ length bs
 trues_few [] = omega arith
@@ -48,33 +50,15 @@ bools_long [] q b = refl
 bools_long (x ∷ bs) zero b = refl
 bools_long (x ∷ bs) (suc q) b = ap suc (bools_long bs q b)
 
-pub items_long : (xs : List ℕ) (q x : ℕ) → length (set xs q x) ≡ length xs
-items_long [] q x = refl
-items_long (y ∷ xs) zero x = refl
-items_long (y ∷ xs) (suc q) x = ap suc (items_long xs q x)
-
 -- an item put behind the first ones
 pub take_set : (xs : List ℕ) (n x : ℕ) → n < length xs → take (suc n) (set xs n x) ≡ take n xs ++ x ∷ []
 take_set [] n x h = absurd (omega arith)
 take_set (y ∷ xs) zero x h = refl
 take_set (y ∷ xs) (suc n) x h = ap (λ r. y ∷ r) (take_set xs n x (omega arith))
 
-pub take_short : (n : ℕ) (xs : List ℕ) → length (take n xs) ≤ length xs
-take_short zero xs = omega arith
-take_short (suc n) [] = omega arith
-take_short (suc n) (x ∷ xs) = let h = take_short n xs in omega arith
-
 or_on : (a b c : Bool) → ((b ≡ true) → c ≡ true) → (a || b) ≡ true → (a || c) ≡ true
 or_on true b c f e = refl
 or_on false b c f e = f e
-
-or_last : (a b : Bool) → b ≡ true → (a || b) ≡ true
-or_last true b e = refl
-or_last false b e = e
-
-or_with : (a b : Bool) → a ≡ true → (a || b) ≡ true
-or_with true b e = refl
-or_with false b e = absurd (cc)
 
 pub has_more : (xs : List ℕ) (x q : ℕ) → has xs q ≡ true → has (xs ++ x ∷ []) q ≡ true
 has_more [] x q e = absurd (cc)
@@ -87,10 +71,6 @@ has_left (x ∷ xs) ys q e = or_on (x == q) (has xs q) (has (xs ++ ys) q) (λ h.
 pub has_right : (xs ys : List ℕ) (q : ℕ) → has ys q ≡ true → has (xs ++ ys) q ≡ true
 has_right [] ys q e = e
 has_right (x ∷ xs) ys q e = or_last (x == q) (has (xs ++ ys) q) (has_right xs ys q e)
-
-or_cases : (a b : Bool) → (a || b) ≡ true → (a ≡ true) ⊎ (b ≡ true)
-or_cases true b e = inl refl
-or_cases false b e = inr e
 
 pub has_either : (xs ys : List ℕ) (q : ℕ) → has (xs ++ ys) q ≡ true → (has xs q ≡ true) ⊎ (has ys q ≡ true)
 has_either [] ys q e = inr e
@@ -205,18 +185,6 @@ grows_one items top d h = (
   ap (λ n. take n (set items top d)) (plus_one top) ∙ take_set items top d h,
 )
 
-long_append : (xs ys : List ℕ) → length (xs ++ ys) ≡ length xs + length ys
-long_append [] ys = omega arith
-long_append (x ∷ xs) ys = let h = long_append xs ys in omega arith
-
-append_none : (xs : List ℕ) → xs ≡ xs ++ []
-append_none [] = refl
-append_none (x ∷ xs) = ap (λ r. x ∷ r) (append_none xs)
-
-append_more : (xs ys zs : List ℕ) → (xs ++ ys) ++ zs ≡ xs ++ (ys ++ zs)
-append_more [] ys zs = refl
-append_more (x ∷ xs) ys zs = ap (λ r. x ∷ r) (append_more xs ys zs)
-
 pub grows_same : (xs ys : List ℕ) → ys ≡ xs → Grows xs ys
 grows_same xs ys e = ([], e ∙ append_none xs)
 
@@ -235,9 +203,6 @@ pub drop_append : (xs ys : List ℕ) (n : ℕ) → n ≤ length xs → drop n (x
 drop_append xs ys zero h = refl
 drop_append [] ys (suc n) h = absurd (omega arith)
 drop_append (x ∷ xs) ys (suc n) h = drop_append xs ys n (omega arith)
-
-same_here : (x q : ℕ) → (x == q) ≡ true → x ≡ q
-same_here x q e = elim (eqb_tells x q) [ inl g ↦ g.1 | inr g ↦ absurd (let h = g.0 in cc) ]
 
 -- One register more was gone through: what leads to it was listed too.
 closed_next : (ks : List Kind) (xs rest : List ℕ) (n x : ℕ) → n < length xs → drop n xs ≡ x ∷ drop (n + 1) xs →
@@ -262,12 +227,6 @@ pub closed_step : (ks : List Kind) (xs ys : List ℕ) (n x : ℕ) → n < length
 closed_step ks xs ys n x h e c f g =
     subst (λ l. ClosedBelow ks l (n + 1)) (sym g.1)
     (closed_next ks xs g.0 n x h e c (λ q i. ap (λ l. has l q) (sym g.1) ∙ f q i))
-
-pub past_end : (xs : List ℕ) (i : ℕ) → length xs ≤ i → drop i xs ≡ []
-past_end [] zero h = refl
-past_end [] (suc i) h = refl
-past_end (x ∷ xs) zero h = absurd (omega arith)
-past_end (x ∷ xs) (suc i) h = past_end xs i (omega arith)
 
 pub closed_end : (ks : List Kind) (xs : List ℕ) (n : ℕ) → length xs ≤ n → ClosedBelow ks xs n → (p q : ℕ) →
     has xs p ≡ true → leads p (at ks q) ≡ true → has xs q ≡ true

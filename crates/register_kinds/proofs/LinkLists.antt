@@ -12,6 +12,7 @@ use Rattle.std.specs.List.{SwappedAt}
 use Rattle.register_kinds.specs.Owners.{swapped}
 use Rattle.register_kinds.proofs.LentLists.{has_more, has_new}
 use Rattle.register_kinds.proofs.Naming.{swapped_first, swapped_none, swapped_second}
+use Rattle.fip_base.proofs.fip_language.Facts.{less_or_not as below_or}
 
 pub list_past : (vs : List (Vec ℕ Global)) (r : ℕ) → length vs ≤ r → list_at (map row_of vs) r ≡ []
 list_past [] r h = refl
@@ -72,9 +73,6 @@ pub alone_by : (r : ℕ) (ks : List Kind) (xs : List ℕ) → ((q : ℕ) → lea
 alone_by r ks xs h f q = alone_if (leads r (at ks q)) (λ e. f q (h q e))
 
 -- two lists change places
-
-below_or : (m n : ℕ) → (m < n) ⊎ (n ≤ m)
-below_or m n = grind arith
 
 swapped_at : (xs ys : List (Vec ℕ Global)) (d : Vec ℕ Global) (a b r : ℕ) → a < length xs → b < length xs →
     length ys ≡ length xs → SwappedAt xs ys a b →

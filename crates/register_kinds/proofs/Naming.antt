@@ -10,6 +10,8 @@ use Rattle.register_kinds.specs.Owners.{AreNames, number_at, number_or, rooted, 
 use Rattle.register_kinds.specs.declared.known.Known.{Known}
 use Rattle.register_kinds.specs.Views.{kind_of, kinds_of}
 use Rattle.register_kinds.proofs.Places.{kinds_get, kinds_long, kinds_none, kinds_set, at_map, map_long}
+use Rattle.fip_base.proofs.fip_language.Facts.{less_or_not as below_or, same_number as same_from}
+pub use Rattle.fip_base.proofs.fip_language.Facts.{set_length}
 
 -- tables, by place
 
@@ -47,11 +49,6 @@ other_in (y ∷ os) (suc x) (suc n) o m h = other_in os x n o m (λ e. h (ap suc
 
 pub number_other : (os : List ℕ) (x n o : ℕ) → (x ≡ n → ⊥) → number_at (set os x o) n ≡ number_at os n
 number_other os x n o h = other_in os x n o n h
-
-pub set_length : (os : List ℕ) (x o : ℕ) → length (set os x o) ≡ length os
-set_length [] x o = refl
-set_length (y ∷ os) zero o = refl
-set_length (y ∷ os) (suc x) o = ap suc (set_length os x o)
 
 -- two numbers are given at two places
 twice_last : (os : List ℕ) (x y p q : ℕ) → y < length os → number_at (set (set os x p) y q) y ≡ q
@@ -308,9 +305,6 @@ pub names_set : (count : ℕ) (os ns : List ℕ) (ks : List Known) (d : ℕ) (k 
     length ks ≡ count → AreNames (length (set ks d k)) os ns
 names_set count os ns ks d k h l = subst (λ n. AreNames n os ns) (sym l ∙ sym (known_length ks d k)) h
 
-below_or : (m n : ℕ) → (m < n) ⊎ (n ≤ m)
-below_or m n = grind arith
-
 -- The name of a register that is there has a register.
 pub name_within : (count : ℕ) (owners names : List ℕ) (r : ℕ) → AreNames count owners names → r < count →
     number_at names r < length owners
@@ -348,9 +342,6 @@ swapped_twice a b r =
         | inr y ↦ ap (swapped a b) (swapped_none a b r x.1 y.1) ∙ swapped_none a b r x.1 y.1
       ]
     ]
-
-same_from : (a b : ℕ) → (a == b) ≡ true → a ≡ b
-same_from a b e = elim (eqb_tells a b) [ inl x ↦ x.1 | inr x ↦ absurd (let y = x.0 in cc) ]
 
 -- A register that is lent of another once roots have changed was lent of the one that stood for it.
 pub lent_swapped : (a b x : ℕ) (k : Kind) → is_lent_of x (rooted (swapped a b) k) ≡ true →

@@ -20,6 +20,7 @@ use Rattle.register_kinds.proofs.Naming.{swapped_first}
 use Rattle.register_kinds.proofs.Places.{at_map, at_set_other, map_long}
 use Rattle.register_kinds.proofs.Sorted.{own_chain, own_no_heir}
 use Rattle.register_kinds.proofs.TakenKinds.{fated_twice, forgotten_twice, in_turn_long, rooted_part, stands_apart, stands_twice, turned, unused_case, used_case}
+use Rattle.fip_base.proofs.fip_language.Facts.{or_false_left as or_left, or_false_right as or_right}
 
 -- the heir that a register reaches: what isn't listed and reads the tree reaches the one that keeps the name
 
@@ -93,14 +94,6 @@ star_reached w ks r parts keeper qs os q t s =
             (λ d x. other_unreached w ks r parts q d t l x)
       ]
     ]
-
-or_right : (a b : Bool) → (a || b) ≡ false → b ≡ false
-or_right true b e = absurd (cc)
-or_right false b e = e
-
-or_left : (a b : Bool) → (a || b) ≡ false → a ≡ false
-or_left true b e = absurd (cc)
-or_left false b e = refl
 
 -- What isn't listed isn't touched.
 pub untouched : (g : ℕ → Kind → Kind) (qs : List ℕ) (ks : List Kind) (q : ℕ) → has qs q ≡ false →

@@ -7,6 +7,7 @@ use Rattle.code_rules.specs.Fitting.{is_subset}
 use Rattle.register_kinds.specs.Rising.{RiseFrom, Rise, less, beyond, is_one}
 use Rattle.register_kinds.proofs.Sets.{has_none, has_at, rise_order}
 use Rattle.register_kinds.proofs.Subsets.{above_found, among_skip, less_has, one_more, own_first, rise_less}
+use Rattle.fip_base.proofs.fip_language.Facts.{less_or_not as below_or, take_length, take_length as take_short}
 
 beyond_all : (n : ℕ) (xs : List ℕ) → RiseFrom (suc n) xs → beyond n xs ≡ xs
 beyond_all n [] r = refl
@@ -53,11 +54,6 @@ drop_length : (m : ℕ) (xs : List ℕ) → m ≤ length xs → length (drop m x
 drop_length zero xs h = (omega arith)
 drop_length (suc m) [] h = absurd (omega arith)
 drop_length (suc m) (x ∷ xs) h = drop_length m xs (omega arith) ∙ (omega arith)
-
-take_length : (n : ℕ) (xs : List ℕ) → n ≤ length xs → length (take n xs) ≡ n
-take_length zero xs h = refl
-take_length (suc n) [] h = absurd (omega arith)
-take_length (suc n) (x ∷ xs) h = ap suc (take_length n xs (omega arith))
 
 pub alike : (o : Option ℕ) (start end : ℕ) (own others : List ℕ) → start ≤ end → end ≤ length own →
     Rise (drop start own) → Rise others →
@@ -109,18 +105,12 @@ take_get (suc n) k [] h = refl
 take_get (suc n) zero (x ∷ xs) h = refl
 take_get (suc n) (suc k) (x ∷ xs) h = take_get n k xs (omega arith)
 
-take_short : (n : ℕ) (xs : List ℕ) → n ≤ length xs → length (take n xs) ≡ n
-take_short n xs h = take_length n xs h
-
 pub near_found : (n i x : ℕ) (xs : List ℕ) → Rise xs → n ≤ length xs → i < length (take n xs) →
     get_or (take n xs) i 0 ≡ x → (has xs x ≡ true) × (drop (i + 1) xs ≡ beyond x xs)
 near_found n i x xs r h l e =
     let t = take_length n xs h in
     let g : get_or xs i 0 ≡ x = (sym (take_get n i xs (omega arith)) ∙ e) in
     (has_at xs i x (omega arith) g, above_found xs x i r (omega arith) g)
-
-below_or : (k i : ℕ) → (k < i) ⊎ (i ≤ k)
-below_or k i = grind arith
 
 pub near_none : (n i x : ℕ) (xs : List ℕ) → Rise xs → n ≤ length xs → (n < length xs → x < get_or xs n 0) →
     ((k : ℕ) → k < i → get_or (take n xs) k 0 < x) →

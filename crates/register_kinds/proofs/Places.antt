@@ -8,6 +8,7 @@ use Rattle.code_rules.specs.Kinds.{at, has}
 use Rattle.register_kinds.specs.declared.known.Known.{Known}
 use Rattle.register_kinds.specs.Views.{kind_of, kinds_of}
 use Rattle.register_kinds.specs.Steps.{each}
+use Rattle.fip_base.proofs.fip_language.Facts.{drop_past as past_end, or_first, or_last as or_second}
 
 pub at_set_same : (ks : List Kind) (d : ℕ) (k : Kind) → d < length ks → at (set ks d k) d ≡ k
 at_set_same [] d k h = absurd (omega arith)
@@ -141,12 +142,6 @@ kinds_long (x ∷ ks) = ap suc (kinds_long ks)
 
 -- a loop over a list, by index
 
-past_end : (xs : List ℕ) (i : ℕ) → length xs ≤ i → drop i xs ≡ []
-past_end [] zero h = refl
-past_end [] (suc i) h = refl
-past_end (x ∷ xs) zero h = absurd (omega arith)
-past_end (x ∷ xs) (suc i) h = past_end xs i (omega arith)
-
 pub each_done : (f : Kind → Kind) (ks : List Kind) (qs : List ℕ) (i : ℕ) → length qs ≤ i → ks ≡ each f ks (drop i qs)
 each_done f ks qs i h = sym (ap (each f ks) (past_end qs i h))
 
@@ -156,14 +151,6 @@ drop_index (x ∷ xs) zero h = refl
 drop_index (x ∷ xs) (suc i) h =
     let e : suc (i + 1) ≡ suc i + 1 = (omega arith) in
     drop_index xs i (omega arith) ∙ ap (λ n. slice_index xs i ∷ drop n (x ∷ xs)) e
-
-or_first : (a b : Bool) → a ≡ true → (a || b) ≡ true
-or_first true b e = refl
-or_first false b e = absurd (cc)
-
-or_second : (a b : Bool) → b ≡ true → (a || b) ≡ true
-or_second true b e = refl
-or_second false b e = e
 
 pub has_index : (xs : List ℕ) (i : ℕ) → i < length xs → has xs (slice_index xs i) ≡ true
 has_index [] i h = absurd (omega arith)

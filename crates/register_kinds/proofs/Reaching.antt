@@ -12,6 +12,7 @@ use Rattle.register_kinds.proofs.Keeps.{from_leads}
 use Rattle.register_kinds.proofs.LentLists.{none_kept}
 use Rattle.register_kinds.specs.Takes.{seen_by, seen_at, next_by, next_at, AreReached, AreSettled, nones}
 use Rattle.register_kinds.specs.Kept.{kept_at}
+use Rattle.fip_base.proofs.fip_language.Facts.{drop_past as past_end, or_cases, some_is, true_or_false}
 
 -- what is kept, by place
 
@@ -73,10 +74,6 @@ nones_fewer (Some y ∷ os) (suc x) d e h = nones_fewer os x d e (omega arith)
 
 -- a loop over the list
 
-or_cases : (a b : Bool) → (a || b) ≡ true → (a ≡ true) ⊎ (b ≡ true)
-or_cases true b e = inl refl
-or_cases false b e = inr e
-
 pub one_of : (x q : ℕ) (xs : List ℕ) → has (x ∷ xs) q ≡ true → (x ≡ q) ⊎ (has xs q ≡ true)
 one_of x q xs e =
     elim (or_cases (x == q) (has xs q) e) [
@@ -85,9 +82,6 @@ one_of x q xs e =
     ]
 
 -- reaching
-
-some_is : (a b : ℕ) → Some a ≡ Some b → a ≡ b
-some_is a b e = cc
 
 next_if : (ks : List Kind) (heir : ℕ → Bool) (os : List (Option ℕ)) (q h : ℕ) (f : From) (b : Bool) →
     AreReached ks heir os → from_of (at ks q) ≡ Some f → heir f.register ≡ b →
@@ -166,10 +160,6 @@ unlent_from (Scalar t) e = refl
 unlent_from (Owned t s) e = refl
 unlent_from (Lent t s root from) e = absurd (cc)
 unlent_from (Credit n) e = refl
-
-true_or_false : (b : Bool) → (b ≡ true) ⊎ (b ≡ false)
-true_or_false true = inl refl
-true_or_false false = inr refl
 
 seen_lent : (os : List (Option ℕ)) (q : ℕ) (b : Bool) → b ≡ true → (if b then kept_at os q else None) ≡ None →
     kept_at os q ≡ None
@@ -261,12 +251,6 @@ settled_step ks heir os x q xs n h e =
       ]
       | inr g ↦ inr g
     ]
-
-past_end : (xs : List ℕ) (i : ℕ) → length xs ≤ i → drop i xs ≡ []
-past_end [] zero h = refl
-past_end [] (suc i) h = refl
-past_end (x ∷ xs) zero h = absurd (omega arith)
-past_end (x ∷ xs) (suc i) h = past_end xs i (omega arith)
 
 not_left : (xs : List ℕ) (i q : ℕ) → length xs ≤ i → has (drop i xs) q ≡ true → ⊥
 not_left xs i q l h = let e = ap (λ ys. has ys q) (past_end xs i l) in cc

@@ -5,9 +5,7 @@ use Rattle.std.proofs.lemmas.Bool.{eq-eqb, ne_eqb, lt-ltb, le-ltb}
 use Rattle.code_rules.specs.Kinds.{has}
 use Rattle.register_kinds.specs.Rising.{RiseFrom}
 use Rattle.code_rules.specs.Types.{numbers}
-
-below_or : (k i : ℕ) → (k < i) ⊎ (i ≤ k)
-below_or k i = grind arith
+use Rattle.fip_base.proofs.fip_language.Facts.{less_or_not as below_or, or_false_false as or_none, or_first, or_last as or_of, same_or_above}
 
 pub rise_low : (low : ℕ) (xs : List ℕ) (j : ℕ) → RiseFrom low xs → j < length xs → low ≤ get_or xs j 0
 rise_low low [] j r h = absurd (omega arith)
@@ -21,18 +19,6 @@ rise_order low (x ∷ xs) r zero zero h k = omega arith
 rise_order low (x ∷ xs) r zero (suc j) h k = let g = rise_low (suc x) xs j r.1 (omega arith) in omega arith
 rise_order low (x ∷ xs) r (suc i) zero h k = absurd (omega arith)
 rise_order low (x ∷ xs) r (suc i) (suc j) h k = rise_order (suc x) xs r.1 i j (omega arith) (omega arith)
-
-or_of : (a b : Bool) → b ≡ true → (a || b) ≡ true
-or_of true b e = refl
-or_of false b e = e
-
-or_first : (a b : Bool) → a ≡ true → (a || b) ≡ true
-or_first true b e = refl
-or_first false b e = absurd (cc)
-
-or_none : (a b : Bool) → a ≡ false → b ≡ false → (a || b) ≡ false
-or_none true b e f = absurd (cc)
-or_none false b e f = f
 
 pub has_at : (xs : List ℕ) (i x : ℕ) → i < length xs → get_or xs i 0 ≡ x → has xs x ≡ true
 has_at [] i x h e = absurd (omega arith)
@@ -73,9 +59,6 @@ numbers_high : (i n x : ℕ) → i + n ≤ x → has (numbers i n) x ≡ false
 numbers_high i zero x h = refl
 numbers_high i (suc n) x h =
     or_none (i == x) (has (numbers (suc i) n) x) (ne_eqb i x (λ e. omega arith)) (numbers_high (suc i) n x (omega arith))
-
-same_or_above : (i x : ℕ) → i ≤ x → (i ≡ x) ⊎ (suc i ≤ x)
-same_or_above i x h = grind arith
 
 pub numbers_within : (i n x : ℕ) → i ≤ x → x < i + n → has (numbers i n) x ≡ true
 numbers_within i zero x h l = absurd (omega arith)

@@ -20,6 +20,7 @@ use Rattle.register_kinds.specs.LabelSets.{LabelSets, AreAnswers, AreComparable,
 use Rattle.register_kinds.specs.Rising.{Rise, less, is_one}
 use Rattle.register_kinds.proofs.Places.{at_set_same, at_set_other}
 use Rattle.register_kinds.proofs.Subsets.{subset_by, subset_has}
+use Rattle.fip_base.proofs.fip_language.Facts.{false_of_not_true as not_true, some_bool_same as bool_of}
 
 -- which register of a label map has the set of a register
 
@@ -139,9 +140,6 @@ pub set_here : (maps : List LabelMap) (l : ℕ) (m : LabelMap) (r : ℕ) → sli
     set_at maps (record { label = l; register = r }) ≡ set_of (at m.kinds r)
 set_here maps l m r e = ap (λ o. set_in o r) e
 
-bool_of : (a b : Bool) → Some a ≡ Some b → a ≡ b
-bool_of a b e = cc
-
 -- What was found of two sets of label maps tells of what is known of a register.
 pub within_is : (r : Option Bool) (sets : LabelSets) (ks ms : List Kind) (label q : ℕ) (lacked : Option ℕ) (k m : Kind) →
     AreComparable sets ks ms label → at ks q ≡ k → at ms q ≡ m →
@@ -175,10 +173,6 @@ without_keeps d (x ∷ own) c h n =
 less_keeps : (o : Option ℕ) (own : List ℕ) (c : ℕ) → has own c ≡ true → is_one o c ≡ false → has (less o own) c ≡ true
 less_keeps None own c h n = h
 less_keeps (Some d) own c h n = without_keeps d own c h n
-
-not_true : (b : Bool) → (b ≡ true → ⊥) → b ≡ false
-not_true true h = absurd (h refl)
-not_true false h = refl
 
 lacks : (o : Option ℕ) (own others : List ℕ) (c : ℕ) → has own c ≡ true → has others c ≡ false → is_one o c ≡ false →
     is_subset (less o own) others ≡ false

@@ -7,18 +7,8 @@ use Rattle.cell_code.specs.declared.kind.Kind.{Kind}
 use Rattle.code_rules.specs.Handing.{give_all, pass_all, hand_all, lend_all}
 use Rattle.code_rules.specs.Leaves.{received}
 use Rattle.code_rules.specs.Taking.{part_from}
-
-pub drop_none : {X : Type 0} (xs : List X) (j : ℕ) → slice_get xs j ≡ None → drop j xs ≡ []
-drop_none [] zero h = refl
-drop_none [] (suc j) h = refl
-drop_none (x ∷ xs) zero h = absurd (cc)
-drop_none (x ∷ xs) (suc j) h = drop_none xs j h
-
-drop_past : {X : Type 0} (xs : List X) (j : ℕ) → length xs ≤ j → drop j xs ≡ []
-drop_past [] zero h = refl
-drop_past [] (suc j) h = refl
-drop_past (x ∷ xs) zero h = absurd (omega arith)
-drop_past (x ∷ xs) (suc j) h = drop_past xs j (omega arith)
+use Rattle.fip_base.proofs.fip_language.Facts.{drop_end as drop_past}
+pub use Rattle.fip_base.proofs.fip_language.Facts.{drop_of_none as drop_none}
 
 more : {X : Type 0} (xs : List X) (i : ℕ) → i < length xs → (x : X) × (rest : List X) × (drop i xs ≡ x ∷ rest)
 more [] i h = absurd (omega arith)

@@ -16,6 +16,7 @@ use Rattle.register_kinds.specs.declared.asked.Says.TheVariants as S
 use Rattle.register_kinds.specs.Busy.{AllSay, IsAsked, asks_from, busy_in, held, registers_of, says_of}
 use Rattle.register_kinds.proofs.Arriving.{arrive_long}
 use Rattle.register_kinds.proofs.Less.{credit, scalar}
+use Rattle.fip_base.proofs.fip_language.Facts.{and_both as and_parts, both_true as and_all, same_both_ways as same_if, same_number}
 
 -- the registers of which a map says more than Gone
 
@@ -114,14 +115,6 @@ fit_busy (Credit n) k e = fits_busy (Credit n) k refl e
 
 -- all registers
 
-and_parts : (a b : Bool) → (a && b) ≡ true → (a ≡ true) × (b ≡ true)
-and_parts true b e = (refl, e)
-and_parts false b e = absurd (cc)
-
-and_all : (a b : Bool) → a ≡ true → b ≡ true → (a && b) ≡ true
-and_all true b e f = f
-and_all false b e f = absurd (cc)
-
 at_least : (ms ks : List Kind) → length ms ≡ length ks → asked_fit ms ks ≡ true → busy_in ms ≤ busy_in ks
 at_least [] ks l e = omega arith
 at_least (m ∷ ms) [] l e = absurd (omega arith)
@@ -159,14 +152,6 @@ both_from (m ∷ ms) (k ∷ ks) e =
       busy = (let d = b.busy in omega arith);
       fit = and_all (one_by (asks m) (fits m k)) (asked_fit ms ks) (fit_one m k p.0) b.fit;
     }
-
-same_if : (a b : Bool) → (a ≡ true → b ≡ true) → (b ≡ true → a ≡ true) → a ≡ b
-same_if true b f g = sym (f refl)
-same_if false true f g = g refl
-same_if false false f g = refl
-
-same_number : (a b : ℕ) → (a == b) ≡ true → a ≡ b
-same_number a b e = elim (eqb_tells a b) [ inl g ↦ g.1 | inr g ↦ absurd (let h = g.0 in cc) ]
 
 asked_all : (ms ks : List Kind) → length ms ≡ length ks →
     ((busy_in ks == busy_in ms) && asked_fit ms ks) ≡ fit_all ms ks

@@ -8,6 +8,8 @@ use Rattle.code_rules.specs.Types.{numbers}
 use Rattle.code_rules.specs.Changes.{without}
 use Rattle.code_rules.specs.Fitting.{is_subset}
 use Rattle.register_kinds.specs.Rising.{RiseFrom, Rise, less, beyond, is_one}
+use Rattle.fip_base.proofs.fip_language.Facts.{and_both as and_parts, both_true as and_all, get_any, less_or_last as same_or_less, less_or_not as below_or}
+pub use Rattle.fip_base.proofs.fip_language.Facts.{or_last as or_more}
 
 pub numbers_rise : (i n : ℕ) → RiseFrom i (numbers i n)
 numbers_rise i zero = tt
@@ -34,18 +36,6 @@ none_below low b (x ∷ xs) r h =
 or_true : (b : Bool) → (b || true) ≡ true
 or_true true = refl
 or_true false = refl
-
-and_parts : (a b : Bool) → (a && b) ≡ true → (a ≡ true) × (b ≡ true)
-and_parts true b e = (refl, e)
-and_parts false b e = absurd (cc)
-
-and_all : (a b : Bool) → a ≡ true → b ≡ true → (a && b) ≡ true
-and_all true b e f = f
-and_all false b e f = absurd (cc)
-
-pub or_more : (a b : Bool) → b ≡ true → (a || b) ≡ true
-or_more true b e = refl
-or_more false b e = e
 
 subset_more : (cs xs : List ℕ) (x : ℕ) → is_subset cs xs ≡ true → is_subset cs (x ∷ xs) ≡ true
 subset_more [] xs x e = refl
@@ -110,11 +100,6 @@ begin_none low n xs r p h =
     not_then (is_subset (numbers low n) xs)
     (λ e. let g = subset_begins low n (n - 1) xs r e (omega arith) in let k = g.0 in omega arith)
 
-get_any : (xs : List ℕ) (i a b : ℕ) → i < length xs → get_or xs i a ≡ get_or xs i b
-get_any [] i a b h = absurd (omega arith)
-get_any (x ∷ xs) zero a b h = refl
-get_any (x ∷ xs) (suc i) a b h = get_any xs i a b (omega arith)
-
 pub begin_some : (low n x d : ℕ) (b : Bool) (xs : List ℕ) → RiseFrom low xs → 0 < n → n - 1 < length xs →
     x ≡ get_or xs (n - 1) d → (b ≡ true → x ≡ low + (n - 1)) → (b ≡ false → x ≡ low + (n - 1) → ⊥) →
     b ≡ is_subset (numbers low n) xs
@@ -177,9 +162,6 @@ but_one_with b d n xs h e =
     ap (λ z. z && is_subset (numbers (d + 1) (n - d - 1)) xs) e ∙ sym (but_one d n xs h)
 
 -- beyond a number
-
-below_or : (k i : ℕ) → (k < i) ⊎ (i ≤ k)
-below_or k i = grind arith
 
 pub has_beyond : (n y : ℕ) (xs : List ℕ) → n < y → has (beyond n xs) y ≡ has xs y
 has_beyond n y [] h = refl
@@ -268,9 +250,6 @@ rise_strict low [] r i j h k = absurd (omega arith)
 rise_strict low (x ∷ xs) r i zero h k = absurd (omega arith)
 rise_strict low (x ∷ xs) r zero (suc j) h k = let g = rise_high (suc x) xs j r.1 (omega arith) in omega arith
 rise_strict low (x ∷ xs) r (suc i) (suc j) h k = rise_strict (suc x) xs r.1 i j (omega arith) (omega arith)
-
-same_or_less : (k i : ℕ) → k < i + 1 → (k < i) ⊎ (k ≡ i)
-same_or_less k i h = grind arith
 
 pub above_found : (xs : List ℕ) (x i : ℕ) → Rise xs → i < length xs → get_or xs i 0 ≡ x →
     drop (i + 1) xs ≡ beyond x xs

@@ -22,6 +22,7 @@ use Rattle.register_kinds.proofs.Changed.{is_become, forget_by, forget_twice, fo
 use Rattle.register_kinds.proofs.Keeps.{either, from_leads, unlisted_from, unlisted_lent}
 use Rattle.register_kinds.proofs.LentLists.{none_kept}
 use Rattle.register_kinds.proofs.Reaching.{reaches_listed}
+use Rattle.fip_base.proofs.fip_language.Facts.{and_false_last as and_none, drop_past as past_end, or_cases, or_false_false as used_or, or_first as used_by, true_or_false}
 
 -- registers in turn
 
@@ -46,10 +47,6 @@ once_more : (g : ℕ → Kind → Kind) (q : ℕ) (k l : Kind) → ((q : ℕ) (k
     (l ≡ k) ⊎ (l ≡ g q k) → g q l ≡ g q k
 once_more g q k l i (inl e) = ap (g q) e
 once_more g q k l i (inr e) = ap (g q) e ∙ i q k
-
-or_cases : (a b : Bool) → (a || b) ≡ true → (a ≡ true) ⊎ (b ≡ true)
-or_cases true b e = inl refl
-or_cases false b e = inr e
 
 met_here : (g : ℕ → Kind → Kind) (ks : List Kind) (x q : ℕ) → q < length ks →
     (((x == q) ≡ true) × (x ≡ q)) ⊎ (((x == q) ≡ false) × (x ≡ q → ⊥)) → (x == q) ≡ true →
@@ -241,10 +238,6 @@ alike_step r parts ended ks start x a = record {
       (root_forgotten r parts ended x (at ks x) ∙ a.root x);
 }
 
-used_by : (a b : Bool) → a ≡ true → (a || b) ≡ true
-used_by true b e = refl
-used_by false b e = absurd (cc)
-
 pub used_some : (r : ℕ) (parts : ℕ → Option Part) (q : ℕ) (p : Part) → parts q ≡ Some p → is_used r parts q ≡ true
 used_some r parts q p e = used_by (is_some (parts q)) (q == r) (ap is_some e)
 
@@ -292,12 +285,6 @@ ended_step w r parts size os x ks start new qs a e =
     (e ∙ ap (set ks x) (forgotten_same r parts (ends w ks r parts size (seen_at ks os))
     (ends w start r parts size (seen_at start os)) x (at ks x)
     (λ q. ends_alike w r parts ks start os size q a)))
-
-past_end : (xs : List ℕ) (i : ℕ) → length xs ≤ i → drop i xs ≡ []
-past_end [] zero h = refl
-past_end [] (suc i) h = refl
-past_end (x ∷ xs) zero h = absurd (omega arith)
-past_end (x ∷ xs) (suc i) h = past_end xs i (omega arith)
 
 pub turns_done : (g : ℕ → Kind → Kind) (ks : List Kind) (qs : List ℕ) (i : ℕ) → length qs ≤ i →
     ks ≡ in_turn g ks (drop i qs)
@@ -488,10 +475,6 @@ filled_full : (w : Table) (r size : ℕ) (k l : Kind) (p : Part) → p.field < s
     part_kind w r l p ≡ part_kind w r k p → filled_by w r size l (Some p) ≡ part_kind w r k p
 filled_full w r size k l p h e = rw (lt-ltb p.field size h) e
 
-used_or : (a b : Bool) → a ≡ false → b ≡ false → (a || b) ≡ false
-used_or true b e f = absurd (cc)
-used_or false b e f = f
-
 -- a register that doesn't own the cell
 other_case : (w : Table) (r size : ℕ) (parts : ℕ → Option Part) (q : ℕ) (k l x : Kind) (o : Option Part) →
     parts q ≡ o → ((p : Part) → o ≡ Some p → p.field < size) → (q == r) ≡ false →
@@ -559,10 +542,6 @@ taken_is w r ds ts ks second third new passed fill long e =
           (forget (ends w ks r (part ds ts) (length ds) passed.reached) (fate (passed.reached q) r (at ks q))) q (omega arith)
           (passed.used q l) (passed.unused q l) (fill q (omega arith)) (eqb_tells q r)),
     )
-
-true_or_false : (b : Bool) → (b ≡ true) ⊎ (b ≡ false)
-true_or_false true = inl refl
-true_or_false false = inr refl
 
 pub part_has : (i : ℕ) (ds ts : List ℕ) (q : ℕ) (p : Part) → part_from i ds ts q ≡ Some p → has ds q ≡ true
 part_has i [] ts q p e = absurd (cc)
@@ -694,10 +673,6 @@ stands_apart None r k h e = rooted_none (λ d. d) (λ d. refl) k
 stands_apart (Some x) r k h e = rooted_apart r x k e (h x refl)
 
 -- a register whose word didn't come from the one that owns the cell
-
-and_none : (a b : Bool) → b ≡ false → (a && b) ≡ false
-and_none true b e = e
-and_none false b e = refl
 
 unnamed_field : (r i : ℕ) (o : Option From) → names r o ≡ false → is_field r i o ≡ false
 unnamed_field r i None e = refl

@@ -11,6 +11,8 @@ use Rattle.code_rules.specs.Changes.{tested, used_up, written}
 use Rattle.code_rules.specs.Taking.{IsTaken, part}
 use Rattle.register_kinds.specs.Climbs.{AreKnown, AreKnownOver, AreWhole, IsHeld, IsWhole, is_lent_in, tree_of}
 use Rattle.register_kinds.proofs.Climbing.{lent_there, root_is, sourced_there, true_or_false, whole_taken, whole_tested, whole_used, whole_written}
+use Rattle.fip_base.proofs.fip_language.Facts.{some_is as one_register}
+pub use Rattle.fip_base.proofs.fip_language.Facts.{not_true as unmarked_so}
 
 -- marks
 
@@ -31,9 +33,6 @@ set_before (b ∷ bs) zero zero e = absurd (cc)
 set_before (b ∷ bs) zero (suc r) e = e
 set_before (b ∷ bs) (suc x) zero e = e
 set_before (b ∷ bs) (suc x) (suc r) e = set_before bs x r e
-
-one_register : (r x : ℕ) → Some r ≡ Some x → r ≡ x
-one_register r x e = cc
 
 pub marked_one : (torn : List Bool) (x r : ℕ) → (x < length torn → slice_get torn x ≡ Some true) →
     slice_get torn r ≡ Some false → Some x ≡ Some r → ⊥
@@ -62,10 +61,6 @@ mark_case (b ∷ bs) (suc r) zero e n = e
 mark_case (b ∷ bs) (suc r) (suc x) e n = mark_case bs r x e (λ i. n (ap suc i))
 
 -- what is known
-
-pub unmarked_so : (mark : Bool) → not mark ≡ true → mark ≡ false
-unmarked_so true e = absurd (cc)
-unmarked_so false e = refl
 
 one_list : (torn other : List Bool) → Some torn ≡ Some other → torn ≡ other
 one_list torn other e = cc

@@ -5,6 +5,7 @@ use Rattle.std.proofs.lemmas.Bool.{lt-ltb, le-ltb}
 use Rattle.cell_code.specs.fip_language.Table.{Table, Shape, shapes, constructors, is_scalar}
 use Rattle.code_rules.specs.Types.{fields_of, is_scalar_type}
 use Rattle.register_kinds.specs.Kept.{IsMarked}
+use Rattle.fip_base.proofs.fip_language.Facts.{some_bool_same as some_is}
 
 shapes_past : (w : Table) (t : ℕ) → length w ≤ t → shapes w t ≡ []
 shapes_past [] t h = refl
@@ -31,9 +32,6 @@ mark_get : (xs : List Bool) (c : ℕ) (s : Bool) → c < length xs → slice_get
 mark_get [] c s h = absurd (omega arith)
 mark_get (x ∷ xs) zero s h = refl
 mark_get (x ∷ xs) (suc c) s h = mark_get xs c s (omega arith)
-
-some_is : (a b : Bool) → Some a ≡ Some b → a ≡ b
-some_is a b e = cc
 
 below_is : (w : Table) (c : ℕ) → c < suc (length w) → is_scalar w c ≡ is_scalar_type w c
 below_is w c h = sym (ap (λ b. b && is_scalar w c) (lt-ltb c (suc (length w)) h))

@@ -9,6 +9,7 @@ use Rattle.run_loading.specs.TraceReading.{Read, Got, Bad, read_number, read_exa
 use Rattle.run_loading.specs.TraceReading.{read_events, last_step, read_end, read_steps, read_all_events, read_all_cells}
 use Rattle.run_loading.specs.TraceReading.{read_trace, IsTraceFile, IsBadTrace}
 use Rattle.run_loading.proofs.Inverse.{same_got, not_bad, back_then, back_asked, of_lt}
+use Rattle.tree_refinement.proofs.tree_semantics.machine_semantics.cell_code.fip_base.fip_language.Facts.{nat_lt_false as not_less}
 
 -- ---- nothing is left behind a trace
 
@@ -43,9 +44,6 @@ trace_ends bytes t e rest h =
     cells_end a.1 a.2 t e rest a.4
 
 -- ---- one or the other
-
-not_less : (a b : ℕ) → nat_lt a b ≡ false → b ≤ a
-not_less a b h = grind (arith, nat_tests)
 
 abbrev Either : List ℕ → Type 0
 Either bytes = ((t : Trace) × IsTraceFile bytes t) ⊎ ((at : ℕ) × IsBadTrace bytes at)

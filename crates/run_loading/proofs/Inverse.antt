@@ -16,6 +16,8 @@ use Rattle.run_loading.specs.TraceReading.{read_fields, read_cell, read_cells, r
 use Rattle.run_loading.specs.TraceReading.{read_events, last_step, read_end, read_steps, read_all_events, read_all_cells}
 use Rattle.run_loading.specs.TraceReading.{read_trace, AreBytes}
 use Rattle.run_loading.proofs.Reading.{number_next, three, four}
+use Rattle.tree_refinement.proofs.tree_semantics.machine_semantics.cell_code.fip_base.fip_language.Facts.{and_both as both, append_none as end_nil, nat_le_true as of_le, same_number as of_same}
+pub use Rattle.tree_refinement.proofs.tree_semantics.machine_semantics.cell_code.fip_base.fip_language.Facts.{nat_lt_true as of_lt}
 
 -- ---- the reader's own words
 
@@ -35,19 +37,6 @@ pub back_asked : {A : Type 0} (b : Bool) (at : ℕ) (r : Read A) (y : A) (e : �
     asked b at r ≡ Got y e end → (b ≡ true) × (r ≡ Got y e end)
 back_asked true at r y e end h = (refl, h)
 back_asked false at r y e end h = absurd (not_bad y at e end h)
-
-of_le : (a b : ℕ) → nat_le a b ≡ true → a ≤ b
-of_le a b h = grind (arith, nat_tests)
-
-pub of_lt : (a b : ℕ) → nat_lt a b ≡ true → a < b
-of_lt a b h = grind (arith, nat_tests)
-
-of_same : (a b : ℕ) → (a == b) ≡ true → a ≡ b
-of_same a b h = grind (arith, nat_tests)
-
-both : (a b : Bool) → (a && b) ≡ true → (a ≡ true) × (b ≡ true)
-both true b h = (refl, h)
-both false b h = absurd cc
 
 -- ---- numbers
 
@@ -360,10 +349,6 @@ back_end x y at e (b ∷ bytes) h = absurd (not_bad y at e [] h)
 abbrev Ends : List Loaded → List Event → List ℕ → Trace → Type 0
 Ends cells events bytes t = (t ≡ record { cells = cells; events = events; steps = t.steps }) × (t.steps < 2 ^ 64)
     × (last_step events ≤ t.steps) × (bytes ≡ big_endian 8 t.steps)
-
-end_nil : (xs : List ℕ) → xs ++ [] ≡ xs
-end_nil [] = refl
-end_nil (x ∷ xs) = ap (λ ys. x ∷ ys) (end_nil xs)
 
 back_steps : (cells : List Loaded) (events : List Event) (at : ℕ) (bytes : List ℕ) (t : Trace) (e : ℕ) → AreBytes bytes →
     read_steps cells events at bytes ≡ Got t e [] → Ends cells events bytes t

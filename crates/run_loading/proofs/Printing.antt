@@ -13,6 +13,7 @@ use Rattle.tree_refinement.proofs.machine_semantics.Replayed.{replay_is}
 use Rattle.run_loading.specs.Loading.{unreleased}
 use Rattle.run_loading.specs.TraceText.{Loaded}
 use Rattle.run_loading.specs.Replaying.{place_line, lines_from, store_text, places_from, replayed, loaded_from, trace_of}
+use Rattle.tree_refinement.proofs.tree_semantics.machine_semantics.cell_code.fip_base.fip_language.Facts.{append_none as end_nil, length_set as set_length, suc_injective as fewer}
 
 -- ---- places without cells behind the others
 
@@ -24,16 +25,9 @@ padded m s = record { cells = s.cells ++ replicate m None; released = s.released
 abbrev Even : Store → Type 0
 Even s = length s.released ≡ length s.cells
 
-end_nil : (xs : List ℕ) → xs ++ [] ≡ xs
-end_nil [] = refl
-end_nil (x ∷ xs) = ap (λ ys. x ∷ ys) (end_nil xs)
-
 no_lines : (m p : ℕ) → lines_from p (replicate m None) (replicate m false) ≡ []
 no_lines zero p = refl
 no_lines (suc m) p = no_lines m (suc p)
-
-fewer : (a b : ℕ) → suc a ≡ suc b → a ≡ b
-fewer a b h = omega arith
 
 same_lines : (m p : ℕ) (os : List (Option Cell)) (rs : List Bool) → length rs ≡ length os →
     lines_from p (os ++ replicate m None) (rs ++ replicate m false) ≡ lines_from p os rs
@@ -78,11 +72,6 @@ set_flag m (x ∷ os) [] p c e h = absurd (omega arith)
 set_flag m (x ∷ os) (r ∷ rs) zero c e h = refl
 set_flag m (x ∷ os) (r ∷ rs) (suc p) c e h =
     ap (λ ys. r ∷ ys) (set_flag m os rs p c (fewer (length rs) (length os) e) h)
-
-set_length : {A : Type 0} (xs : List A) (p : ℕ) (x : A) → length (slice_set xs p x) ≡ length xs
-set_length [] p x = refl
-set_length (y ∷ ys) zero x = refl
-set_length (y ∷ ys) (suc p) x = ap suc (set_length ys p x)
 
 -- what a change leaves, padded
 abbrev IsPadded : ℕ → Store → Store → Type 0

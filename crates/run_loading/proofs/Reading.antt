@@ -13,6 +13,7 @@ use Rattle.run_loading.specs.TraceText.{AreEvents, IsTrace}
 use Rattle.run_loading.specs.TraceReading.{Read, Got, then_read, asked, read_number, read_words, is_size}
 use Rattle.run_loading.specs.TraceReading.{read_cell, read_cells, read_write, read_change, read_event, read_events}
 use Rattle.run_loading.specs.TraceReading.{last_step, read_steps, read_all_events, read_all_cells, read_trace}
+use Rattle.tree_refinement.proofs.tree_semantics.machine_semantics.cell_code.fip_base.fip_language.Facts.{append_none as end_nil, some_of_other as is_some}
 
 -- x is read, and the rest is left
 abbrev Gives : {A : Type 0} → Read A → A → List ℕ → Type 0
@@ -111,10 +112,6 @@ write_gives step place at tag ws rest h k =
     then_gives _ tag (words_text ws ++ rest) _ _ rest (number_gives 4 tag at _ h)
     (λ at'. then_gives _ ws rest _ _ rest (words_give ws at' rest k) (λ at''. (at'', refl)))
 
-is_some : (o : Option ℕ) → o ≢ None → (n : ℕ) × (o ≡ Some n)
-is_some None h = absurd (h refl)
-is_some (Some n) h = (n, refl)
-
 -- behind the step of an event that begins at `start`
 changed : List Loaded → ℕ → ℕ → ℕ → List ℕ → Read Event
 changed live start step at bytes =
@@ -189,10 +186,6 @@ steps_give : (t : Trace) (at : ℕ) → IsTrace t →
 steps_give t at h =
     then_gives _ t.steps [] _ t [] (number_gives 8 t.steps at [] h.steps) (λ at'.
     asked_gives _ _ _ t [] (le-leb _ _ (last_within t.events t.cells 1 t.steps h.events)) (at', refl))
-
-end_nil : (xs : List ℕ) → xs ++ [] ≡ xs
-end_nil [] = refl
-end_nil (x ∷ xs) = ap (λ ys. x ∷ ys) (end_nil xs)
 
 all_events_give : (t : Trace) (at : ℕ) → IsTrace t →
     Gives (read_all_events t.cells at (big_endian 4 (length t.events) ++ (events_text t.events ++ big_endian 8 t.steps)))

@@ -24,6 +24,7 @@ use Rattle.run_loading.specs.TraceText.{Loaded, IsWord, AreCells, size_at, witho
 use Rattle.run_loading.specs.Replaying.{loaded_from, trace_of}
 use Rattle.run_loading.specs.Writable.{HaveFewConstructors, IsWritable}
 use Rattle.run_loading.proofs.StepChanges.{releases, IsPlain, cell_within, step_plain}
+use Rattle.tree_refinement.proofs.tree_semantics.machine_semantics.cell_code.fip_base.fip_language.Facts.{get_set_flag as flag_other}
 
 -- ---- the cells of a trace by place
 
@@ -97,13 +98,6 @@ flag_here : (rs : List Bool) (p : ℕ) (r : Bool) → slice_get rs p ≡ Some r 
 flag_here [] p r e = absurd (none-some r e)
 flag_here (x ∷ rs) zero r e = refl
 flag_here (x ∷ rs) (suc p) r e = flag_here rs p r e
-
-flag_other : (rs : List Bool) (p q : ℕ) → (p ≡ q → ⊥) → slice_get (slice_set rs p true) q ≡ slice_get rs q
-flag_other [] p q off = refl
-flag_other (x ∷ rs) zero zero off = absurd (off refl)
-flag_other (x ∷ rs) zero (suc q) off = refl
-flag_other (x ∷ rs) (suc p) zero off = refl
-flag_other (x ∷ rs) (suc p) (suc q) off = flag_other rs p q (λ e. off (ap suc e))
 
 -- a cell that was released
 record IsGivenUp (s : Store) (p : ℕ) (t : Store) : Type 0 where

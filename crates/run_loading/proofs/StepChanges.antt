@@ -39,6 +39,7 @@ use Rattle.tree_refinement.proofs.separation.Local.{ready}
 use Rattle.tree_refinement.proofs.separation.Returning.{run_instr_at}
 use Rattle.run_loading.specs.TraceText.{IsWord}
 use Rattle.run_loading.specs.Writable.{HaveFewConstructors}
+use Rattle.tree_refinement.proofs.tree_semantics.machine_semantics.cell_code.fip_base.fip_language.Facts.{get_within, some_of}
 
 -- one write of a cell that isn't released, with a constructor and words that can be written
 pub record IsPlainWrite (s : Store) (cs : List Change) : Type 0 where
@@ -64,11 +65,6 @@ IsPlain s cs = IsPlainWrite s cs ⊎ ((ps : List ℕ) × (cs ≡ releases ps))
 pub int_word_small : (i : ℤ) → FitsSigned w64 i → int_word i < 2 ^ 64
 int_word_small (pos n) f = let h : n < 2 ^ 63 = f.sfits in omega arith
 int_word_small (negsuc n) f = let h : n < 2 ^ 63 = f.sfits in omega arith
-
-get_within : {A : Type 0} (xs : List A) (i : ℕ) (x : A) → slice_get xs i ≡ Some x → i < length xs
-get_within [] i x e = absurd (none-some x e)
-get_within (y ∷ xs) zero x e = omega arith
-get_within (y ∷ xs) (suc i) x e = let h = get_within xs i x e in omega arith
 
 pub cell_within : (os : List (Option Cell)) (p : ℕ) (c : Cell) → cell_in os p ≡ Some c → p < length os
 cell_within [] p c e = absurd (none-some c e)
@@ -136,10 +132,6 @@ drop_plain tb s t None = none s.store [] refl
 drop_plain tb s t (Some w) = dropped_plain tb s w t
 
 -- ---- a write
-
-some_of : {A : Type 0} (o : Option A) → is_some o ≡ true → (x : A) × (o ≡ Some x)
-some_of None e = absurd (true≢false (sym e))
-some_of (Some x) e = (x, refl)
 
 puts : (tb : Table) (ks : List Kind) (s : State) (d t k p : ℕ) (rs us : List ℕ) → d < length s.running.words → are_below (length s.running.words) rs ≡ true → place_word p ≡ word_at s.running.words d → us ≡ map (word_at s.running.words) rs → changes_in (W.done tb ks s (I.Put d t k rs)) ≡ Write p k us ∷ []
 puts tb ks s d t k p rs us h b e is =

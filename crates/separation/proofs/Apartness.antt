@@ -26,6 +26,7 @@ use Rattle.separation.specs.Codes.{run_function, run_code, AreKinds}
 use Rattle.separation.specs.Alive.{Frozen, frozen_slots, lower_trees, AreAllWaiting, IsAlive, IsGiven}
 use Rattle.separation.proofs.Lower.{slots_owned}
 use Rattle.separation.proofs.Returning.{run_instr_at}
+use Rattle.separation_kinds.proofs.machine_semantics.cell_code.fip_base.fip_language.Facts.{map_map}
 
 -- ---- registers as a list
 
@@ -40,10 +41,6 @@ all_kinds (k ∷ ks) = ap (λ xs. k ∷ xs) (numbers_shift (at (k ∷ ks)) 0 (le
 all_words : (ws : List ℕ) → map (word_at ws) (numbers 0 (length ws)) ≡ ws
 all_words [] = refl
 all_words (w ∷ ws) = ap (λ xs. w ∷ xs) (numbers_shift (word_at (w ∷ ws)) 0 (length ws) ∙ all_words ws)
-
-map_map : {A B C : Type 0} (f : B → C) (g : A → B) (xs : List A) → map f (map g xs) ≡ map (λ x. f (g x)) xs
-map_map f g [] = refl
-map_map f g (x ∷ xs) = ap (λ ys. f (g x) ∷ ys) (map_map f g xs)
 
 every_number : {A : Type 0} (P : A → Type 0) (f : ℕ → A) (i n : ℕ) → ((r : ℕ) → P (f r)) → Every P (map f (numbers i n))
 every_number P f i zero h = tt

@@ -33,6 +33,7 @@ use Rattle.separation.specs.Codes.{run_function, run_code}
 use Rattle.separation.specs.Alive.{Frozen, frozen_slots, lower_trees, IsAlive, IsGood}
 use Rattle.separation.proofs.Sound.{formed, HasForm, has_form, good_map, spends}
 use Rattle.separation.proofs.Lower.{slots_owned, lies_owned, lies_left, lies_right, all_above}
+pub use Rattle.separation_kinds.proofs.machine_semantics.cell_code.fip_base.fip_language.Facts.{length_append, some_of as some_left}
 
 pub run_function_at : (c : PlainCode) (n : ℕ) (f : PlainFunction) → function_at c n ≡ Some f → R.function_at (run_code c) n ≡ Some (run_function f)
 run_function_at c n f is = get_map run_function c.functions n f is
@@ -115,10 +116,6 @@ no_label_zero c g form = by (label_at g.labels 0) refl
 pub known_entry : (c : PlainCode) (g : PlainFunction) → HasForm c g → KnownAt c g 0 (entry c g)
 known_entry c g form = rw (no_label_zero c g form) refl
 
-pub length_append : {A : Type 0} (xs ys : List A) → length (xs ++ ys) ≡ length xs + length ys
-length_append [] ys = omega arith
-length_append (x ∷ xs) ys = let a = length_append xs ys in omega arith
-
 length_gones : (n : ℕ) → length (gones n) ≡ n
 length_gones zero = refl
 length_gones (suc n) = ap suc (length_gones n)
@@ -173,10 +170,6 @@ by_free c types kept s n g vs (suc free) h = h free
 tail_is : (b : Bool) (o : Option (List Kind)) (left : List Kind) → (if b then o else None) ≡ Some left → (b ≡ true) × (o ≡ Some left)
 tail_is true o left e = (refl, e)
 tail_is false o left e = absurd (none-some left e)
-
-pub some_left : {A : Type 0} (o : Option A) → is_some o ≡ true → (x : A) × (o ≡ Some x)
-some_left None e = absurd (true≢false (sym e))
-some_left (Some x) e = (x, refl)
 
 pub callee_at : (c : PlainCode) (n : ℕ) → nat_lt n (length c.functions) ≡ true → (g : PlainFunction) × (function_at c n ≡ Some g)
 callee_at c n e = get_some c.functions n (below n (length c.functions) e)

@@ -36,6 +36,7 @@ use Rattle.separation.proofs.Depth.{tree_found}
 use Rattle.separation.proofs.PlainRows.{goes_on}
 use Rattle.separation.proofs.ReadingRows.{get_some}
 use Rattle.separation_kinds.proofs.Shapes.{contains_here}
+use Rattle.separation_kinds.proofs.machine_semantics.cell_code.fip_base.fip_language.Facts.{some_of}
 
 pub past_of : (ks : List Kind) → Past (length ks) (at ks)
 past_of ks r h = at_past ks r h
@@ -133,10 +134,6 @@ count_dropped q ks hs d there =
     let a = count_gone q ks hs d there in
     let e : owned_by q (at (written ks d Gone)) hs (length ks) ≡ owned_by q (dropped (is_one d) (at ks)) hs (length ks) = sum_same (λ r. owned_uses q (at (written ks d Gone) r) (hs r)) (λ r. owned_uses q (dropped (is_one d) (at ks) r) (hs r)) 0 (length ks) (λ r low high. ap (λ k. owned_uses q k (hs r)) (at_gone ks d there r)) in
     omega arith
-
-some_of : {A : Type 0} (o : Option A) → is_some o ≡ true → (x : A) × (o ≡ Some x)
-some_of None e = absurd (true≢false (sym e))
-some_of (Some x) e = (x, refl)
 
 -- a constructor of a type
 pub shape_at : (tb : Table) (t k : ℕ) → is_constructor tb t k ≡ true → (u : ℕ) × (t ≡ suc u) × (shape : Shape) × (slice_get (shapes tb u) k ≡ Some shape)

@@ -17,6 +17,7 @@ use Rattle.separation_kinds.proofs.Agree.{one_apart}
 use Rattle.separation.specs.Rows.{FitsLiteral}
 use Rattle.separation.specs.Codes.{run_function, HasLiterals, AreKinds}
 use Rattle.separation.specs.Starts.{IsStart}
+use Rattle.separation_kinds.proofs.machine_semantics.cell_code.fip_base.fip_language.Facts.{fits_small as small}
 
 abbrev rev : PlainFunction
 rev = function_of (2 ∷ []) (rev_with nil_taken acc_given cons_taken cons_put again) cons_known
@@ -50,9 +51,6 @@ flags_few : (p : ℕ) → released_at listed p ≤ there listed p
 flags_few zero = omega arith
 flags_few (suc zero) = omega arith
 flags_few (suc (suc p)) = omega arith
-
-small : (n : ℕ) → n < 2 ^ 63 → FitsSigned w64 (pos n)
-small n h = record { sfits = h }
 
 abbrev cons : Shape
 cons = record { name = codes "Cons"; fields = 0 ∷ 2 ∷ [] }

@@ -37,6 +37,7 @@ use Rattle.separation.specs.Rows.{IsReady, IsDone}
 use Rattle.separation.proofs.Reading.{named_is, constructor_in, constructor_is, root_of_set, root_in_set, int_fits, get_words, stand_part, fields_in}
 use Rattle.separation.proofs.Arithmetic.{GivesTree, operate_gives}
 use Rattle.separation.proofs.PlainRows.{goes_on, jumps, unchanged, writes_one}
+pub use Rattle.separation_kinds.proofs.machine_semantics.cell_code.fip_base.fip_language.Facts.{get_there as get_some}
 
 -- ---- Arith
 
@@ -234,11 +235,6 @@ has_known tb s b ks hs r i t (Lent u cs root from) w h e m =
       rooted = λ same held. rooted_within b ks hs root p.part m.tree (part_within m.tree i p.part p.is) m.rooted;
       roots = refl;
     }
-
-pub get_some : {A : Type 0} (xs : List A) (i : ℕ) → i < length xs → (x : A) × (slice_get xs i ≡ Some x)
-get_some [] i h = absurd (let z : ⊥ = omega arith in z)
-get_some (x ∷ xs) zero h = (x, refl)
-get_some (x ∷ xs) (suc i) h = get_some xs i (omega arith)
 
 pub peek_row : (c : PlainCode) (f : PlainFunction) (b : List Placed) (ks : List Kind) (hs : ℕ → Holding) (s : State) (d r i : ℕ) → IsReady c f b ks hs s (I.Peek d r i) → IsDone c f b ks hs s (I.Peek d r i)
 peek_row c f b ks hs s d r i g =

@@ -8,13 +8,8 @@ use Rattle.separation_kinds.specs.fip_language.Store.{Cell, Placed, PlacedInt, B
 use Rattle.separation_kinds.specs.machine_semantics.Cells.{Store, IsStore, IsSized, Write, Release, cell_in, cell_at, size_of, one_if_some, there, one_if_true, released_at, written, given_up, changed_by}
 use Rattle.separation_kinds.proofs.Basics.{chosen, equal_is}
 use Rattle.separation_kinds.proofs.Agree.{one_here, one_apart}
-
-pub same_place : (p q : ℕ) → (p ≡ q) ⊎ (p ≡ q → ⊥)
-same_place p q = by (nat_eq p q) refl
-  where
-    by : (b : Bool) → nat_eq p q ≡ b → (p ≡ q) ⊎ (p ≡ q → ⊥)
-    by true e = inl (grind (arith, nat_tests))
-    by false e = inr (λ k. grind (arith, nat_tests))
+use Rattle.separation_kinds.proofs.machine_semantics.cell_code.fip_base.fip_language.Facts.{get_set_flag as flag_set_other}
+pub use Rattle.separation_kinds.proofs.machine_semantics.cell_code.fip_base.fip_language.Facts.{length_set, same_or_apart as same_place}
 
 pub there_few : (s : Store) (q : ℕ) → there s q ≤ 1
 there_few s q = few (cell_at s q)
@@ -59,11 +54,6 @@ sized_set [] p new e h = tt
 sized_set (o ∷ os) zero new e h = (h, e.1)
 sized_set (o ∷ os) (suc p) new e h = (e.0, sized_set os p new e.1 h)
 
-pub length_set : {A : Type 0} (xs : List A) (p : ℕ) (x : A) → length (slice_set xs p x) ≡ length xs
-length_set [] p x = refl
-length_set (y ∷ xs) zero x = refl
-length_set (y ∷ xs) (suc p) x = ap suc (length_set xs p x)
-
 pub record IsWritten (s : Store) (p : ℕ) (new : Cell) : Type 0 where
   pub store : Store
   pub is : changed_by (Write p new.tag new.fields ∷ []) s ≡ Some store
@@ -102,13 +92,6 @@ flag_set_here : (rs : List Bool) (p : ℕ) → p < length rs → slice_get (slic
 flag_set_here [] p h = absurd (omega arith)
 flag_set_here (r ∷ rs) zero h = refl
 flag_set_here (r ∷ rs) (suc p) h = flag_set_here rs p (omega arith)
-
-flag_set_other : (rs : List Bool) (p q : ℕ) → (p ≡ q → ⊥) → slice_get (slice_set rs p true) q ≡ slice_get rs q
-flag_set_other [] p q off = refl
-flag_set_other (r ∷ rs) zero zero off = absurd (off refl)
-flag_set_other (r ∷ rs) zero (suc q) off = refl
-flag_set_other (r ∷ rs) (suc p) zero off = refl
-flag_set_other (r ∷ rs) (suc p) (suc q) off = flag_set_other rs p q (λ e. off (ap suc e))
 
 flag_false : (rs : List Bool) (p : ℕ) → p < length rs → one_if_true (slice_get rs p) ≡ 0 → slice_get rs p ≡ Some false
 flag_false [] p h e = absurd (let z : ⊥ = omega arith in z)

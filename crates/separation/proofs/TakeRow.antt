@@ -31,6 +31,7 @@ use Rattle.separation.specs.Rows.{IsReady, IsDone}
 use Rattle.separation.proofs.Reading.{named_is, constructor_in, root_of_set, stand_length}
 use Rattle.separation.proofs.Reached.{reached}
 use Rattle.separation.proofs.PlainRows.{goes_on, unchanged}
+use Rattle.separation_kinds.proofs.machine_semantics.cell_code.fip_base.fip_language.Facts.{empty_of_length as no_words}
 
 -- what the register of the tree holds afterwards
 abbrev pub spare_of : Placed → Holding
@@ -103,10 +104,6 @@ can_take_is tb s below ks hs n (Credit i) w h e m = absurd (true≢false (sym e)
 can_take_is tb s below ks hs n (Owned t cs) w h e m =
     let p = both (is_one cs) (length (only_fields tb t cs) == n) e in
     one_set tb s t w n cs m.tree h m.holds p.0 (sym (equal (length (only_fields tb t cs)) n p.1)) m.top m.is
-
-no_words : (vs : List ℕ) → length vs ≡ 0 → vs ≡ []
-no_words [] e = refl
-no_words (v ∷ vs) e = absurd (let z : ⊥ = omega arith in z)
 
 taken_is : (tb : Table) (st : Store) (s : State) (r : ℕ) (ds ts : List ℕ) (w : ℕ) (y : Placed) (ps : Parts) (new : ℕ → ℕ) → slice_get s.running.words r ≡ Some w → length ds ≡ length ts → StandAll tb st ts ps → (0 < length ts → (c : Cell) × (R.named s.store w ≡ Some c) × (c.fields ≡ words_of ps)) → (a : AreWritten s.running.words ds (words_of ps) new) → R.taken s r ds ≡ Some a.words
 taken_is tb st s r [] ts w y ps new e l g f a =

@@ -18,6 +18,7 @@ use Rattle.separation.proofs.Running.{run_alive}
 use Rattle.separation_bounds.specs.ByTrees.{cells_of_trees, one_if_sized, cells_at}
 use Rattle.separation_bounds.proofs.Falling.{start_keeps, fip_count}
 use Rattle.separation_bounds.proofs.Weights.{first_held, last_held}
+use Rattle.separation.proofs.separation_kinds.machine_semantics.cell_code.fip_base.fip_language.Facts.{head_same, tail_same}
 
 pub start_held : (c : PlainCode) (before waits : Kinds) (n : ℕ) (kept : List ℕ) (s : State) (k : ℕ) → (t : IsStart c before waits n kept s) → count_held k s.store ≡ cells_of_all k (values_of t.given.arguments) + (count k t.function.credits + cells_at k s.store kept)
 start_held c before waits n kept s k t = first_held c.types (run_function t.function) s.store kept t.words k t.given
@@ -27,12 +28,6 @@ end_store c before waits n kept s calls steps words last left done t is = subst 
 
 pub end_held : (c : PlainCode) (before waits : Kinds) (n : ℕ) (kept : List ℕ) (s : State) (calls steps : ℕ) (words : List ℕ) (last : State) (left done k : ℕ) → IsStart c before waits n kept s → after before (run_code c) steps (begun s calls) ≡ Over (Value words) last left done → (g : GivesApart (run_code c) n kept last words) → count_held k last.store ≡ cells_of_trees k g.results + (cells_of_trees k g.lent + cells_at k last.store kept)
 end_held c before waits n kept s calls steps words last left done k t is g = last_held (run_code c) n kept last words k (end_store c before waits n kept s calls steps words last left done t is) g
-
-head_same : (m n : ℕ) (ms ns : List ℕ) → m ∷ ms ≡ n ∷ ns → m ≡ n
-head_same m n ms ns e = cc
-
-tail_same : (m n : ℕ) (ms ns : List ℕ) → m ∷ ms ≡ n ∷ ns → ms ≡ ns
-tail_same m n ms ns e = cc
 
 one : (k : ℕ) (o p : Option Cell) → size_in o ≡ size_in p → IsSized o → IsSized p → one_if_sized k o ≡ one_if_sized k p
 one k None None e a b = refl

@@ -11,16 +11,7 @@ use Rattle.separation.specs.code_rules.StackNumbers.{FipCalls, words_of, words_a
 use Rattle.separation.specs.code_rules.declared.rule.SoundRule.TheVariants.{S0, S8}
 use Rattle.separation_bounds.proofs.Bounds.{Way}
 use Rattle.separation_bounds.proofs.Solving.{solved}
-
-there : {A : Type 0} (xs : List A) (n : ℕ) (x : A) → slice_get xs n ≡ Some x → n < length xs
-there [] n x e = absurd (none-some x e)
-there (y ∷ xs) zero x e = omega arith
-there (y ∷ xs) (suc n) x e = let r = there xs n x e in omega (arith, r)
-
-not_there : {A : Type 0} (xs : List A) (n : ℕ) → length xs ≤ n → slice_get xs n ≡ None
-not_there [] n h = refl
-not_there (y ∷ xs) zero h = absurd (omega (arith, h))
-not_there (y ∷ xs) (suc n) h = not_there xs n (omega (arith, h))
+use Rattle.separation.proofs.separation_kinds.machine_semantics.cell_code.fip_base.fip_language.Facts.{get_none as not_there, get_within as there}
 
 -- a way of fip functions is a path
 path_of : (c : PlainCode) (n a b : ℕ) → Way (FipCalls c) n a b → Path c n a b

@@ -1,23 +1,9 @@
 -- Sums over the numbers below one, of those that are in a set, and of all.
 use Rattle.std.proofs.Common.{◌≡◌, ℕ, zero, suc, ◌+◌, ◌<◌, ◌≤◌, Bool, true, false, refl, sym, ap, ◌∙◌, arith, inl, inr, ◌⊎◌, ◌==◌, if◌then◌else◌}
 use Rattle.std.proofs.lemmas.Bool.Decides.{nat_tests}
+pub use Rattle.separation.proofs.separation_kinds.machine_semantics.cell_code.fip_base.fip_language.Facts.{equal_itself as same_number, less_or_not, same_or_apart as same_or_not}
 
 -- ---- tests
-
-pub less_or_not : (m n : ℕ) → (m < n) ⊎ (n ≤ m)
-less_or_not zero zero = inr (omega arith)
-less_or_not zero (suc n) = inl (omega arith)
-less_or_not (suc m) zero = inr (omega arith)
-less_or_not (suc m) (suc n) = elim (less_or_not m n) as (λ v. (suc m < suc n) ⊎ (suc n ≤ suc m)) [ inl h ↦ inl (omega (arith, h)) | inr h ↦ inr (omega (arith, h)) ]
-
-pub same_or_not : (m n : ℕ) → (m ≡ n) ⊎ (m ≡ n → ⊥)
-same_or_not zero zero = inl refl
-same_or_not zero (suc n) = inr (λ e. absurd (omega (arith, e)))
-same_or_not (suc m) zero = inr (λ e. absurd (omega (arith, e)))
-same_or_not (suc m) (suc n) = elim (same_or_not m n) as (λ v. (suc m ≡ suc n) ⊎ (suc m ≡ suc n → ⊥)) [
-  | inl h ↦ inl (ap suc h)
-  | inr h ↦ inr (λ e. h (omega (arith, e)))
-]
 
 -- ---- sums
 
@@ -33,9 +19,6 @@ sum_of (suc n) set own = sum_of n set own + one_if (set n) (own n)
 -- all but x
 abbrev pub but : ℕ → (ℕ → Bool) → ℕ → Bool
 but x set y = if y == x then false else set y
-
-pub same_number : (x : ℕ) → (x == x) ≡ true
-same_number x = grind (arith, nat_tests)
 
 pub other_number : (x y : ℕ) → (y ≡ x → ⊥) → (y == x) ≡ false
 other_number x y off = by (y == x) refl

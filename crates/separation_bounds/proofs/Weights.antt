@@ -13,6 +13,7 @@ use Rattle.separation.specs.machine_semantics.Codes as R
 use Rattle.separation.specs.machine_semantics.Apart.{AreTrees, AreSpare, trees_uses, IsGiven, GivesApart}
 use Rattle.separation.proofs.separation_kinds.Agree.{one_here, one_apart}
 use Rattle.separation_bounds.specs.ByTrees.{cells_of_trees, one_if_sized, cells_at}
+use Rattle.separation.proofs.separation_kinds.machine_semantics.cell_code.fip_base.fip_language.Facts.{if_sum as if_add}
 
 abbrev weight : ℕ → Option Cell → ℕ → ℕ
 weight k None n = 0
@@ -22,10 +23,6 @@ weight k (Some c) n = if nat_eq k (size_of c) then n else 0
 abbrev weigh : ℕ → List (Option Cell) → (ℕ → ℕ) → ℕ
 weigh k [] f = 0
 weigh k (o ∷ os) f = weight k o (f 0) + weigh k os (λ q. f (suc q))
-
-if_add : (b : Bool) (m n : ℕ) → (if b then m + n else 0) ≡ (if b then m else 0) + (if b then n else 0)
-if_add true m n = refl
-if_add false m n = refl
 
 weight_add : (k : ℕ) (o : Option Cell) (m n : ℕ) → weight k o (m + n) ≡ weight k o m + weight k o n
 weight_add k None m n = refl

@@ -8,6 +8,7 @@ use Rattle.code_rules.specs.Types.{numbers}
 use Rattle.code_rules.specs.Kinds.{at, kind_or_gone}
 use Rattle.code_rules.specs.Changes.{become}
 use Rattle.separation_kinds.specs.Meanings.{sum_from}
+pub use Rattle.machine_semantics.proofs.cell_code.fip_base.fip_language.Facts.{and_both as both, equal_itself as itself, equal_true as equal_is, get_map, get_within, if_false as refused, if_true as chosen, less_or_not, map_length as length_map, nat_lt_of as below_is, nat_lt_true as below, not_true as refuted, or_cases as one_of, or_false_both as neither, same_number as equal, true_is_not_false as apart, true_or_false as or_not, unequal_apart as unequal, unequal_false as unequal_is}
 
 -- ---- tests
 
@@ -15,75 +16,10 @@ pub pick : {A : Type 0} (P : A → Type 0) (b : Bool) (x y : A) → (b ≡ true 
 pick P true x y f g = f refl
 pick P false x y f g = g refl
 
-pub chosen : {A : Type 0} (b : Bool) (x y : A) → b ≡ true → (if b then x else y) ≡ x
-chosen true x y e = refl
-chosen false x y e = absurd (true≢false (sym e))
-
-pub refused : {A : Type 0} (b : Bool) (x y : A) → b ≡ false → (if b then x else y) ≡ y
-refused true x y e = absurd (true≢false e)
-refused false x y e = refl
-
-pub both : (a b : Bool) → (a && b) ≡ true → (a ≡ true) × (b ≡ true)
-both true b e = (refl, e)
-both false b e = absurd (true≢false (sym e))
-
-pub one_of : (a b : Bool) → (a || b) ≡ true → (a ≡ true) ⊎ (b ≡ true)
-one_of true b e = inl refl
-one_of false b e = inr e
-
-pub neither : (a b : Bool) → (a || b) ≡ false → (a ≡ false) × (b ≡ false)
-neither true b e = absurd (true≢false e)
-neither false b e = (refl, e)
-
-pub refuted : (a : Bool) → not a ≡ true → a ≡ false
-refuted true e = absurd (true≢false (sym e))
-refuted false e = refl
-
-pub or_not : (b : Bool) → (b ≡ true) ⊎ (b ≡ false)
-or_not true = inl refl
-or_not false = inr refl
-
-pub apart : {A : Type 0} (b : Bool) → b ≡ true → b ≡ false → A
-apart b e f = absurd (true≢false (sym e ∙ f))
-
-pub equal : (i j : ℕ) → (i == j) ≡ true → i ≡ j
-equal i j e = grind (arith, nat_tests)
-
-pub equal_is : (i j : ℕ) → i ≡ j → (i == j) ≡ true
-equal_is i j e = grind (arith, nat_tests)
-
-pub itself : (i : ℕ) → (i == i) ≡ true
-itself i = equal_is i i refl
-
-pub unequal : (i j : ℕ) → (i == j) ≡ false → i ≡ j → ⊥
-unequal i j e h = apart (i == j) (equal_is i j h) e
-
-pub unequal_is : (i j : ℕ) → (i ≡ j → ⊥) → (i == j) ≡ false
-unequal_is i j h = elim (or_not (i == j)) as (λ v. (i == j) ≡ false) [
-  | inl e ↦ absurd (h (equal i j e))
-  | inr e ↦ e
-]
-
-pub below : (i j : ℕ) → nat_lt i j ≡ true → i < j
-below i j e = grind (arith, nat_tests)
-
-pub below_is : (i j : ℕ) → i < j → nat_lt i j ≡ true
-below_is i j e = grind (arith, nat_tests)
-
-pub less_or_not : (i j : ℕ) → (i < j) ⊎ (j ≤ i)
-less_or_not i j = elim (or_not (nat_lt i j)) as (λ v. (i < j) ⊎ (j ≤ i)) [
-  | inl e ↦ inl (below i j e)
-  | inr e ↦ inr (grind (arith, nat_tests))
-]
-
 pub no_none : {A : Type 0} {B : Type 0} (o : Option A) (x : A) → o ≡ None → o ≡ Some x → B
 no_none o x e f = absurd (none-some x (sym e ∙ f))
 
 -- ---- lists
-
-pub length_map : {A B : Type 0} (f : A → B) (xs : List A) → length (map f xs) ≡ length xs
-length_map f [] = refl
-length_map f (x ∷ xs) = ap suc (length_map f xs)
 
 pub length_numbers : (i n : ℕ) → length (numbers i n) ≡ n
 length_numbers i zero = refl
@@ -92,20 +28,10 @@ length_numbers i (suc n) = ap suc (length_numbers (suc i) n)
 pub length_become : (ks : List Kind) (new : ℕ → Kind) → length (become ks new) ≡ length ks
 length_become ks new = length_map new (numbers 0 (length ks)) ∙ length_numbers 0 (length ks)
 
-pub get_map : {A B : Type 0} (f : A → B) (xs : List A) (i : ℕ) (x : A) → slice_get xs i ≡ Some x → slice_get (map f xs) i ≡ Some (f x)
-get_map f [] i x e = absurd (none-some x e)
-get_map f (y ∷ xs) zero x e = ap (λ y. Some (f y)) (same_Some y x e)
-get_map f (y ∷ xs) (suc i) x e = get_map f xs i x e
-
 pub get_number : (i n r : ℕ) → r < n → slice_get (numbers i n) r ≡ Some (i + r)
 get_number i zero r h = absurd (omega arith)
 get_number i (suc n) zero h = let e : i ≡ i + 0 = omega arith in ap Some e
 get_number i (suc n) (suc r) h = let e : suc i + r ≡ i + suc r = omega arith in get_number (suc i) n r (omega arith) ∙ ap Some e
-
-pub get_within : {A : Type 0} (xs : List A) (i : ℕ) (x : A) → slice_get xs i ≡ Some x → i < length xs
-get_within [] i x e = absurd (none-some x e)
-get_within (y ∷ xs) zero x e = omega arith
-get_within (y ∷ xs) (suc i) x e = let h = get_within xs i x e in omega arith
 
 pub at_past : (ks : List Kind) (r : ℕ) → length ks ≤ r → at ks r ≡ Gone
 at_past [] r h = refl

@@ -21,6 +21,7 @@ use Rattle.separation_kinds.proofs.Changing.{recast}
 use Rattle.separation_kinds.proofs.Shapes.{scalar_bare}
 use Rattle.separation_kinds.proofs.Reaching.{same_tree, IsTakenFrom, leads_to, other_means}
 use Rattle.separation_kinds.proofs.Takes.{field_means, tree_or, word_or, uses_or, by_part, part_facts, part_dest, no_part, places_free, has_below, sum_parts, Plain, parts_sum}
+use Rattle.machine_semantics.proofs.cell_code.fip_base.fip_language.Facts.{none_seen as none_is, some_of as some_is}
 
 -- a Take: register r owns tree y, whose parts ps have types ts, and go into the registers ds
 pub record Takes (tb : Table) (s : Store) (ks : List Kind) (hs : ℕ → Holding) (r : ℕ) (ds ts : List ℕ) (left : List Kind) (y : Placed) (ps : Parts) : Type 0 where
@@ -44,14 +45,6 @@ words_behind ws ds ts y q = by_part (λ j. word_or (part_of y j)) (part ds ts q)
 -- the kinds behind it
 abbrev pub kinds_behind : Table → List Kind → ℕ → List ℕ → List ℕ → (ℕ → Option ℕ) → ℕ → Kind
 kinds_behind tb ks r ds ts reached q = part_or tb r (at ks q) (part ds ts q) (if q == r then credit (length ds) else forget (ends tb ks r (part ds ts) (length ds) reached) (fate (reached q) r (at ks q)))
-
-some_is : {A : Type 0} (o : Option A) → is_some o ≡ true → (x : A) × (o ≡ Some x)
-some_is None e = absurd (true≢false (sym e))
-some_is (Some x) e = (x, refl)
-
-none_is : {A : Type 0} (o : Option A) → is_some o ≡ false → o ≡ None
-none_is None e = refl
-none_is (Some x) e = absurd (true≢false e)
 
 record IsHeir (tb : Table) (r : ℕ) (k : Kind) (o : Option Part) : Type 0 where
   part : Part

@@ -7,6 +7,7 @@ use Rattle.code_rules.specs.Ranges.{are_below}
 use Rattle.separation_kinds.specs.Meanings.{word_at}
 use Rattle.separation_kinds.proofs.Basics.{chosen, refused, both, below, below_is, or_not, equal, unequal}
 use Rattle.separation_kinds.proofs.KindLemmas.{put}
+pub use Rattle.machine_semantics.proofs.cell_code.fip_base.fip_language.Facts.{slice_set_length as set_length}
 
 pub word_get : (ws : List ℕ) (r : ℕ) → r < length ws → slice_get ws r ≡ Some (word_at ws r)
 word_get ws r h = slice_get-get_or ws r 0 h
@@ -16,11 +17,6 @@ read_words ws [] e = refl
 read_words ws (r ∷ rs) e =
     let p = both (nat_lt r (length ws)) (are_below (length ws) rs) e in
     ap (λ o. option_and_then (λ w. and_word w (read_all ws rs)) o) (word_get ws r (below r (length ws) p.0)) ∙ ap (and_word (word_at ws r)) (read_words ws rs p.1)
-
-pub set_length : (ws : List ℕ) (d w : ℕ) → length (slice_set ws d w) ≡ length ws
-set_length [] d w = refl
-set_length (v ∷ ws) zero w = refl
-set_length (v ∷ ws) (suc d) w = ap suc (set_length ws d w)
 
 pub set_here : (ws : List ℕ) (d w : ℕ) → d < length ws → word_at (slice_set ws d w) d ≡ w
 set_here [] d w h = absurd (omega arith)

@@ -19,6 +19,7 @@ use Rattle.session_semantics.specs.Talk.{over_sizes}
 use Rattle.session_correctness.specs.Called.{AllStand, IsHeld}
 use Rattle.session_correctness.specs.Counted.{sized, lodged_cells}
 use Rattle.session_correctness.specs.Lodging.{Lodged, lodged_uses}
+use Rattle.tree_refinement.proofs.tree_semantics.machine_semantics.cell_code.fip_base.fip_language.Facts.{head_same, tail_same}
 
 -- ---- held and released cells
 
@@ -36,12 +37,6 @@ pub store_sized : (k : ℕ) (s : Store) → IsStore s → count_held k s + count
 store_sized k s g = held_and_free k s.cells s.released g.wide
 
 -- ---- a run makes no cell
-
-head_same : (m n : ℕ) (ms ns : List ℕ) → m ∷ ms ≡ n ∷ ns → m ≡ n
-head_same m n ms ns e = cc
-
-tail_same : (m n : ℕ) (ms ns : List ℕ) → m ∷ ms ≡ n ∷ ns → ms ≡ ns
-tail_same m n ms ns e = cc
 
 one_same : (k : ℕ) (o p : Option Cell) → size_in o ≡ size_in p → IsSized o → IsSized p → one_if_sized k o ≡ one_if_sized k p
 one_same k None None e a b = refl

@@ -25,10 +25,7 @@ use Rattle.tree_refinement.proofs.separation_kinds.Agree.{one_apart}
 use Rattle.tree_refinement.proofs.separation.Stores.{same_place}
 use Rattle.session_correctness.specs.Leaving.{Leaves, Gives, lent_uses}
 use Rattle.session_correctness.proofs.Keeping.{run_keeps}
-
-some_or : (n : ℕ) → (0 < n) ⊎ (n ≡ 0)
-some_or zero = inr refl
-some_or (suc n) = inl (omega arith)
+use Rattle.tree_refinement.proofs.tree_semantics.machine_semantics.cell_code.fip_base.fip_language.Facts.{head_same, positive_or_zero as some_or, tail_same}
 
 -- ---- the entry's lent arguments
 
@@ -76,12 +73,6 @@ trees_same tb s u (t ∷ ts) q (x ∷ xs) g h some = elim (some_or (uses q x)) a
 ]
 
 -- ---- the same sizes
-
-head_same : (m n : ℕ) (ms ns : List ℕ) → m ∷ ms ≡ n ∷ ns → m ≡ n
-head_same m n ms ns e = cc
-
-tail_same : (m n : ℕ) (ms ns : List ℕ) → m ∷ ms ≡ n ∷ ns → ms ≡ ns
-tail_same m n ms ns e = cc
 
 one_there : (o p : Option Cell) → size_in o ≡ size_in p → IsSized o → IsSized p → one_if_some o ≡ one_if_some p
 one_there None None e a b = refl

@@ -6,18 +6,12 @@ use Rattle.tree_refinement.specs.fip_language.Store.{Cell, one_at, count}
 use Rattle.cell_store.specs.Cells.{Cells, cell_at}
 use Rattle.tree_refinement.specs.machine_semantics.Cells.{one_if_some, one_if_true}
 use Rattle.store_trees.specs.GivenUp.{given_up, all_given_up}
+use Rattle.tree_refinement.proofs.tree_semantics.machine_semantics.cell_code.fip_base.fip_language.Facts.{get_set_flag as flag_other, same_or_apart as same_place, set_flag_length as length_flags}
 
 -- ---- flags
 
 abbrev flag : List Bool → ℕ → ℕ
 flag rs q = one_if_true (slice_get rs q)
-
-same_place : (p q : ℕ) → (p ≡ q) ⊎ (p ≡ q → ⊥)
-same_place p q = by (nat_eq p q) refl
-  where
-    by : (b : Bool) → nat_eq p q ≡ b → (p ≡ q) ⊎ (p ≡ q → ⊥)
-    by true e = inl (grind (arith, nat_tests))
-    by false e = inr (λ k. grind (arith, nat_tests))
 
 one_here : (p q : ℕ) → p ≡ q → one_at q p ≡ 1
 one_here p q e = grind (arith, nat_tests)
@@ -29,18 +23,6 @@ flag_here : (rs : List Bool) (p : ℕ) → p < length rs → flag (slice_set rs 
 flag_here [] p h = absurd (let z : ⊥ = omega (arith, h) in z)
 flag_here (r ∷ rs) zero h = refl
 flag_here (r ∷ rs) (suc p) h = flag_here rs p (omega (arith, h))
-
-flag_other : (rs : List Bool) (p q : ℕ) → (p ≡ q → ⊥) → slice_get (slice_set rs p true) q ≡ slice_get rs q
-flag_other [] p q off = refl
-flag_other (r ∷ rs) zero zero off = absurd (off refl)
-flag_other (r ∷ rs) zero (suc q) off = refl
-flag_other (r ∷ rs) (suc p) zero off = refl
-flag_other (r ∷ rs) (suc p) (suc q) off = flag_other rs p q (λ e. off (ap suc e))
-
-length_flags : (rs : List Bool) (p : ℕ) → length (slice_set rs p true) ≡ length rs
-length_flags [] p = refl
-length_flags (r ∷ rs) zero = refl
-length_flags (r ∷ rs) (suc p) = ap suc (length_flags rs p)
 
 within : (cs : Cells) (p : ℕ) (c : Cell) → cell_at cs p ≡ Some c → p < length cs
 within [] p c e = absurd (none-some c e)

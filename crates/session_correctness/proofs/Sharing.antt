@@ -14,12 +14,9 @@ use Rattle.session_semantics.specs.Lines.{Given, Held, Fresh}
 use Rattle.session_semantics.specs.Talk.{named_by, used_by}
 use Rattle.session_correctness.specs.Leaving.{lent_uses}
 use Rattle.session_correctness.specs.Lodging.{Lodged, lodged_as, but, but_all, AreDistinct, lodged_uses, lodged_places, IsTree, AreTrees, named_by_all, fresh_in, fresh_uses, lent_fresh_uses, named_in, used_uses, AreBare}
+pub use Rattle.tree_refinement.proofs.tree_semantics.machine_semantics.cell_code.fip_base.fip_language.Facts.{if_false, if_true, true_or_false as bool_or}
 
 -- ---- names
-
-pub bool_or : (b : Bool) → (b ≡ true) ⊎ (b ≡ false)
-bool_or true = inl refl
-bool_or false = inr refl
 
 pub name_same : (m n : Name) → same_name m n ≡ true → m ≡ n
 name_same m n e = (bytes_eq-Decides m n).0 e
@@ -30,14 +27,6 @@ name_itself m n e = (bytes_eq-Decides m n).1 e
 -- two names that are the same to a third
 name_turns : (m n k : Name) → same_name m k ≡ true → same_name n k ≡ same_name n m
 name_turns m n k e = ap (same_name n) (sym (name_same m k e))
-
-pub if_true : {A : Type 0} (b : Bool) (x y : A) → b ≡ true → (if b then x else y) ≡ x
-if_true true x y e = refl
-if_true false x y e = absurd (true≢false (sym e))
-
-pub if_false : {A : Type 0} (b : Bool) (x y : A) → b ≡ false → (if b then x else y) ≡ y
-if_false true x y e = absurd (true≢false e)
-if_false false x y e = refl
 
 -- ---- without a name
 

@@ -5,6 +5,7 @@ use Rattle.std.proofs.lemmas.Bool.{eqb-true}
 use Rattle.std.proofs.lemmas.List.{drop_more, get_or-drop, length-drop, take-append-drop}
 use Rattle.fip_language.specs.Every.{Every}
 use Rattle.session_semantics.specs.Lines.{lines_of, put_before}
+use Rattle.fip_language.proofs.Facts.{drop_past as none_left, take_whole as take_all}
 
 abbrev pub IsOneLine : List ℕ → Type 0
 IsOneLine bytes = Every (λ b. b ≢ 10) bytes
@@ -79,18 +80,6 @@ line_ends bytes at i lt e h =
     let rest : drop (i - at) (drop at bytes) ≡ 10 ∷ drop (i + 1) bytes = drop_further at (i - at) bytes ∙ ap (λ k. drop k bytes) m ∙ drop_more bytes i 0 lt ∙ ap (λ b. b ∷ drop (i + 1) bytes) e in
     let whole : drop at bytes ≡ take (i - at) (drop at bytes) ++ 10 ∷ drop (i + 1) bytes = sym (take-append-drop (i - at) (drop at bytes)) ∙ ap (λ xs. take (i - at) (drop at bytes) ++ xs) rest in
     ap lines_of whole ∙ first_line (take (i - at) (drop at bytes)) (drop (i + 1) bytes) h.one
-
-none_left : (bytes : List ℕ) (i : ℕ) → length bytes ≤ i → drop i bytes ≡ []
-none_left [] zero le = refl
-none_left [] (suc i) le = refl
-none_left (b ∷ bytes) zero le = absurd (omega (arith, le))
-none_left (b ∷ bytes) (suc i) le = none_left bytes i (omega (arith, le))
-
-take_all : (n : ℕ) (xs : List ℕ) → length xs ≤ n → take n xs ≡ xs
-take_all zero [] le = refl
-take_all (suc n) [] le = refl
-take_all zero (x ∷ xs) le = absurd (omega (arith, le))
-take_all (suc n) (x ∷ xs) le = ap (λ ys. x ∷ ys) (take_all n xs (omega (arith, le)))
 
 last_of : (xs : List ℕ) → 0 < length xs → IsOneLine xs → lines_of xs ≡ xs ∷ []
 last_of [] lt h = absurd (omega (arith, lt))

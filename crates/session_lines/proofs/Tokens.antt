@@ -10,6 +10,7 @@ use Rattle.fip_language.specs.Core.{Name}
 use Rattle.session_semantics.specs.Lines.{Symbol, Blank, Open, Close, Comma, Equals, Question, Minus, Underscore, Digit, Small, Capital, Other}
 use Rattle.session_semantics.specs.Lines.{symbol, symbols, skip, word, behind, is_keyword, BeginsSmall, NameText, SignText}
 use Rattle.session_lines.specs.Scanned.{IsSignOf}
+use Rattle.fip_language.proofs.Facts.{drop_past as none_left, take_next as take_more}
 
 abbrev is_name_byte : ℕ → Bool
 is_name_byte b = is_digit b || is_letter b
@@ -82,12 +83,6 @@ sign_close d = (λ e. subst (IsOf d) e (of_symbol d), λ e. ap symbol e)
 
 pub symbols_more : (bytes : List ℕ) (i : ℕ) → i < length bytes → symbols (drop i bytes) ≡ symbol (get_or bytes i 0) ∷ symbols (drop (i + 1) bytes)
 symbols_more bytes i lt = ap symbols (drop_more bytes i 0 lt)
-
-none_left : (bytes : List ℕ) (i : ℕ) → length bytes ≤ i → drop i bytes ≡ []
-none_left [] zero le = refl
-none_left [] (suc i) le = refl
-none_left (b ∷ bytes) zero le = absurd (omega (arith, le))
-none_left (b ∷ bytes) (suc i) le = none_left bytes i (omega (arith, le))
 
 pub no_symbols : (bytes : List ℕ) (i : ℕ) → length bytes ≤ i → symbols (drop i bytes) ≡ []
 no_symbols bytes i le = ap symbols (none_left bytes i le)
@@ -182,11 +177,6 @@ reading_starts bytes at = record {
   word = ap (λ n. take n (drop at bytes) ++ word (symbols (drop at bytes))) (let z : 0 ≡ at - at = omega arith in z);
   behind = refl;
 }
-
-take_more : (xs : List ℕ) (j : ℕ) → j < length xs → take (suc j) xs ≡ take j xs ++ get_or xs j 0 ∷ []
-take_more [] j lt = absurd (omega (arith, lt))
-take_more (x ∷ xs) zero lt = refl
-take_more (x ∷ xs) (suc j) lt = ap (λ ys. x ∷ ys) (take_more xs j (omega (arith, lt)))
 
 pub reading_on : (bytes : List ℕ) (at i : ℕ) → i < length bytes → is_name_byte (get_or bytes i 0) ≡ true → IsReading bytes at i → IsReading bytes at (i + 1)
 reading_on bytes at i lt e r =

@@ -11,6 +11,7 @@ use Rattle.session_semantics.specs.Lines.{Given, Held, Fresh, Calls, Number, Nam
 use Rattle.session_semantics.specs.Typed.{IsEntry}
 use Rattle.session_semantics.specs.Talk.{State, at_first, Replies, Talks, NothingShown, Shown, GivenUp, Called', Done, WrongNumber, answer_of, Fits, holding, running, hold_all, ok_text}
 use Rattle.session_semantics.specs.Example.{setting, spoken, replied, the_list}
+use Rattle.command_outcome.proofs.fip_base.fip_language.Facts.{fits_bit as one_fits}
 
 -- ---- a = rev(Cons(1, Nil), Nil)
 
@@ -51,9 +52,6 @@ one = Node 1 (More (Int (pos 1)) (More (Node 0 End) End))
 
 abbrev arguments : Values
 arguments = More one (More (Node 0 End) End)
-
-one_fits : (n : ℕ) → n < 2 → FitsSigned w64 (pos n)
-one_fits n h = fits_signed_from_abs w64 (pos n) (omega arith)
 
 first_fits : Fits setting at_first (codes "a" ∷ []) 0 rev given arguments
 first_fits = record {

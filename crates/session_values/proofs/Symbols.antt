@@ -13,6 +13,7 @@ use Rattle.session_lines.specs.session_semantics.Lines.{Symbol, Blank, Open, Clo
 use Rattle.session_lines.specs.session_semantics.Lines.{symbol, symbols, skip, word, behind, number, after_number, BeginsCapital}
 use Rattle.value_text.proofs.Tables.{character_is_digit, character_letter}
 use Rattle.session_lines.proofs.Tokens.{IsOf, of_symbol}
+use Rattle.fip_language.proofs.Facts.{or_last as or_right}
 
 -- ---- one symbol
 
@@ -207,10 +208,6 @@ name_on b s ss f w c n h = record {
   same = f ∙ ap₂ (λ (c : Character) (cs : List Character). c ∷ cs) (sym c) h.same ∙ ap characters (sym w);
   bytes = ap are_name_bytes w ∙ ap₂ (λ x y. x && y) n h.bytes;
 }
-
-or_right : (x y : Bool) → y ≡ true → (x || y) ≡ true
-or_right true y e = refl
-or_right false y e = e
 
 pub names_same : (ss : List Symbol) → AreRead ss → IsSameName ss
 names_same [] h = record { same = refl; bytes = refl }

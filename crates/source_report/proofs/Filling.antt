@@ -11,10 +11,7 @@ use Rattle.lowering_simulation.specs.type_check.World.{world, chosen, field_type
 use Rattle.lowering_simulation.specs.type_check.Faults.{fill_pattern, fill_patterns, fill, fill_block, fill_clauses, fill_instance, filled, found, found_block, found_argument}
 use Rattle.source_report.specs.WellFormed.{IsKnownPattern, AreKnownPatterns, IsKnown, IsKnownBlock, AreKnownClauses, IsKnownInstance, IsWellFormed}
 use Rattle.source_report.specs.Literals.{FitsPattern, FitPatterns, Fits, FitsBlock, FitClauses, LiteralsFit}
-
-map_length : {A B : Type 0} (f : A → B) (xs : List A) → length (map f xs) ≡ length xs
-map_length f [] = refl
-map_length f (x ∷ xs) = ap Rattle.std.specs.Prelude.suc (map_length f xs)
+use Rattle.cell_lower.proofs.fip_language.Facts.{map_length}
 
 from_map : {A B : Type 0} (P : B → Type 0) (f : A → B) (xs : List A) → ((x : A) → Among x xs → P (f x)) → (y : B) → Among y (map f xs) → P y
 from_map P f [] h y a = absurd a

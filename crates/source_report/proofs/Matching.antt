@@ -11,6 +11,7 @@ use Rattle.cell_lower.specs.fip_trees.declared.program.Binding.{Binding, roll-Bi
 use Rattle.cell_lower.specs.fip_trees.declared.program.Clause.{Clause, roll-Clause}
 use Rattle.cell_lower.specs.match_cover.PatternView.{joined}
 use Rattle.cell_lower.specs.match_cover.Matches.{Match, Arm, arm_pattern, below_arms, expression_step, binding_step, block_step, clause_step, expression_matches, binding_matches, block_matches, arm}
+use Rattle.cell_lower.proofs.fip_language.Facts.{map_append}
 
 -- a match, and the patterns of its clauses
 pub record PlainMatch : Type 0 where
@@ -54,10 +55,6 @@ IsBlock x = map match_view (block_matches x) ≡ matches_block (V.block x)
 pub record IsClause (x : Clause) : Type 0 where
   pub pattern : V.pattern (arm x).pattern ≡ (V.clause x).pattern
   pub below : map match_view (arm x).below ≡ matches_block (V.clause x).body
-
-map_append : {A B : Type 0} (f : A → B) (xs ys : List A) → map f (xs ++ ys) ≡ map f xs ++ map f ys
-map_append f [] ys = refl
-map_append f (x ∷ xs) ys = ap (λ zs. f x ∷ zs) (map_append f xs ys)
 
 module _ {SE SI SB SC : Type 0} (fe : SE → Expression) (fi : SI → Binding) (fb : SB → Block) (fc : SC → Clause)
     (oke : (s : SE) → IsExpression (fe s)) (oki : (s : SI) → IsBinding (fi s)) (okb : (s : SB) → IsBlock (fb s)) (okc : (s : SC) → IsClause (fc s)) where

@@ -44,11 +44,9 @@ use Rattle.source_report.specs.Same.{AreSame}
 use Rattle.source_report.proofs.RuleNumbers.{rule_once}
 use Rattle.source_report.proofs.Numbered.{numbered_once, not_more}
 use Rattle.source_report.proofs.Memory.{shapes_are, plain_shapes, fault_forth, fault_back, least_plain, PlainFault}
+use Rattle.cell_lower.proofs.fip_language.Facts.{get_there as there, get_within as below, same_number}
 
 -- ---- two least violations have one rank
-
-same_number : (m n : ℕ) → (m == n) ≡ true → m ≡ n
-same_number m n h = grind (arith, nat_tests)
 
 one_before : (m n : ℕ) → (m == n) ≡ false → nat_lt m n ≡ false → nat_lt n m ≡ false → ⊥
 one_before m n e f g = grind (arith, nat_tests)
@@ -84,16 +82,6 @@ abbrev behind : ℕ → List ℕ → List ℕ
 behind zero xs = xs
 behind (suc n) [] = []
 behind (suc n) (x ∷ xs) = behind n xs
-
-there : {A : Type 0} (xs : List A) (n : ℕ) → n < length xs → (x : A) × (slice_get xs n ≡ Some x)
-there [] n h = absurd (omega (arith, h))
-there (x ∷ xs) zero h = (x, refl)
-there (x ∷ xs) (suc n) h = there xs n (omega (arith, h))
-
-below : {A : Type 0} (xs : List A) (i : ℕ) (x : A) → slice_get xs i ≡ Some x → i < length xs
-below [] i x e = absurd (cc)
-below (y ∷ xs) zero x e = omega arith
-below (y ∷ xs) (suc i) x e = let r = below xs i x e in omega (arith, r)
 
 same_refusal : (v w : Violation) → rank v ≡ rank w → AreSame (refusal v) (refusal w)
 same_refusal v w e =

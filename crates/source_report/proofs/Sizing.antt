@@ -45,6 +45,7 @@ use Rattle.static_params.proofs.TableRows.{shapes_below, row_there}
 use Rattle.source_report.proofs.Scrutinees as Q
 use Rattle.source_report.proofs.Scrutinees.{core_asks}
 use Rattle.static_params.proofs.TypeRows.{there_among}
+use Rattle.cell_lower.proofs.fip_language.Facts.{map_length}
 
 -- ---- declarations: E14 and E63
 
@@ -304,10 +305,6 @@ header_by : (ds : List T.Instance) → ((d : T.Instance) → Among d ds → AreS
 header_by [] h g = tt
 header_by (d ∷ ds) h zero = h d (inl refl)
 header_by (d ∷ ds) h (suc g) = header_by ds (λ e a. h e (inr a)) g
-
-map_length : {A B : Type 0} (f : A → B) (xs : List A) → length (map f xs) ≡ length xs
-map_length f [] = refl
-map_length f (x ∷ xs) = ap suc (map_length f xs)
 
 numbers_length : (ns : Numbers) (cs : Closeds) (s : _) (ws : List Written) → length (numbers_of ns (field_types cs (fields (Rattle.static_params.specs.data_types.Declarations.all_looked_up s (writtens_of ws))))) ≡ length ws
 numbers_length ns cs s [] = refl

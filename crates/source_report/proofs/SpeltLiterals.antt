@@ -18,6 +18,7 @@ use Rattle.fip_grammar.specs.declared.Sign.TheVariants as S
 use Rattle.fip_grammar.specs.Token.{Word, Lower, Upper, Number, Operate, Mark, Token, token, value_of}
 use Rattle.fip_grammar.specs.Grammar.{Sees, MaySee, Type', TypeArguments, FurtherTypes, FurtherTypeList, IsLiteral, Pattern', PatternFields, FurtherPatterns, BindName, Annotation, Bind', FurtherBinds, Binder', match_sign, left_tightness, tightness, Spelled, Arguments, Fields, Further, Block', Clauses', FurtherClauses, Result', Lent, SignatureParameter', FurtherSignatureParameters, SignatureParameters, Signature', Static', FurtherStatics, Statics, Parameter', FurtherParameters, Parameters, Credits, Kind', FunctionParts, Function', FurtherTypeNames, TypeNames, FieldTypes, DataConstructor', FurtherConstructors, DataConstructors, Data', Declaration', Spells}
 use Rattle.fip_grammar.specs.Limits.{Seen, nothing_seen, behind, seen_from, seen, limit, Breaks, IsSpelt}
+use Rattle.cell_lower.proofs.fip_language.Facts.{fits_above, fits_below, get_seam as got, take_seam as taken}
 
 -- ---- what fits
 
@@ -110,13 +111,6 @@ type_list_past close ts (t ∷ more) rest h o = type_list_past close h.1 more re
 literal_past : (ts : List Token) (v : ℤ) (p : Place) (rest : List Token) → IsLiteral ts v p rest → Ok ts → Ok rest
 literal_past ts v p rest (inl h) o = after_word (Number h.0) p ts rest h.1 o
 literal_past ts v p rest (inr h) o = after_word (Number h.0) h.1 (token (Number h.0) h.1 ∷ rest) rest refl (after_word (Operate O.Subtract) p ts (token (Number h.0) h.1 ∷ rest) h.2 o)
-
-fits_above : (n : ℕ) → n ≤ 2 ^ 63 - 1 → FitsSigned w64 (pos n)
-fits_above n h = omega (arith, h)
-
-fits_below : (n : ℕ) → n ≤ 2 ^ 63 → FitsSigned w64 (neg_ℤ (pos n))
-fits_below zero h = omega arith
-fits_below (suc n) h = omega (arith, h)
 
 within_limit : (b : Bool) (n : ℕ) → n ≤ limit b → n ≤ 2 ^ 63
 within_limit true n h = h
@@ -369,14 +363,6 @@ program_ok ts (d ∷ ds) h o =
     (first.0, program_ok h.0 ds h.2 first.1)
 
 -- ---- E04 is not broken
-
-taken : {A : Type 0} (xs ys : List A) → take (length xs) (xs ++ ys) ≡ xs
-taken [] ys = refl
-taken (x ∷ xs) ys = ap (λ l. x ∷ l) (taken xs ys)
-
-got : {A : Type 0} (xs : List A) (y : A) (ys : List A) → slice_get (xs ++ y ∷ ys) (length xs) ≡ Some y
-got [] y ys = refl
-got (x ∷ xs) y ys = got xs y ys
 
 seen_one : (b : Seen) (xs : List Token) (t : Token) → seen_from b (xs ++ t ∷ []) ≡ behind (seen_from b xs) t.word
 seen_one b [] t = refl

@@ -34,16 +34,9 @@ use Rattle.source_report.specs.WellFormed as F
 use Rattle.source_report.specs.Literals as L
 use Rattle.source_report.proofs.Erasing.{plain, plain_all, erased_is}
 use Rattle.source_report.proofs.Matching.{PlainMatch, match_view, clause_patterns, matches, matches_block, matches_clauses, matches_are}
+use Rattle.cell_lower.proofs.fip_language.Facts.{get_within as within, same_number}
 
 -- ---- lists
-
-within : {A : Type 0} (xs : List A) (i : ℕ) (x : A) → slice_get xs i ≡ Some x → i < length xs
-within [] i x e = absurd (cc)
-within (y ∷ xs) zero x e = omega arith
-within (y ∷ xs) (suc i) x e = let r = within xs i x e in omega (arith, r)
-
-same_number : (m n : ℕ) → (m == n) ≡ true → m ≡ n
-same_number m n h = grind (arith, nat_tests)
 
 every_both : {A : Type 0} (P : A → Type 0) (xs ys : List A) → Every P xs → Every P ys → Every P (xs ++ ys)
 every_both P [] ys h k = k

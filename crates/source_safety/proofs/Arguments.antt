@@ -19,6 +19,7 @@ use Rattle.in_place_safety.specs.type_check.World.{World, world, is_number, numb
 use Rattle.in_place_safety.specs.type_check.Faults.{fill_argument, fill_arguments, fill, fill_block, fill_clauses, fill_parameters, fill_instance, filled, found, found_block, found_argument}
 use Rattle.in_place_safety.specs.type_safety.Formed.{FormedArgument, FormedArguments, FormedExpression, FormedBlock, FormedClauses, AreFormed}
 use Rattle.specialisation_correctness.specs.source_report.WellFormed.{IsKnown, IsKnownBlock, AreKnownClauses, IsKnownInstance}
+use Rattle.in_place_safety.proofs.type_safety.type_check.fip_language.Facts.{same_number}
 
 -- a constructor of each type that the data type declares
 abbrev pub IsRowOf : Program → ℕ → ℕ → Type 0
@@ -117,9 +118,6 @@ pub stays_sound : (p : Program) → ((d : T.Instance) → Among d p.instances �
 stays_sound p h = from_map (SoundInstance (filled p)) (fill_instance (world p)) p.instances (λ d a. instance_kept p d (h d a))
 
 -- ---- the type of a constructor is declared by its data type
-
-same_number : (m n : ℕ) → (m == n) ≡ true → m ≡ n
-same_number m n h = grind (arith, nat_tests)
 
 abbrev IsDeclaredBy : List ℕ → ℕ → ℕ → ℕ → Type 0
 IsDeclaredBy xs n d t = (i : ℕ) × (t ≡ n + i) × (slice_get xs i ≡ Some d)

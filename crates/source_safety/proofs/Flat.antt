@@ -30,10 +30,7 @@ use Rattle.specialisation_correctness.proofs.static_params.TypeValues.{good, app
 use Rattle.in_place_safety.specs.type_safety.Formed.{IsBare}
 use Rattle.source_safety.proofs.Arguments.{IsRowOf, Sound, AllSound, SoundExpression, SoundBlock, SoundClauses, SoundInstance}
 use Rattle.source_safety.proofs.CoreArguments.{FitsArgument, FitArguments, Fits, FitsBlock, FitClauses, CoreFits}
-
-map_length : {A B : Type 0} (f : A → B) (xs : List A) → length (map f xs) ≡ length xs
-map_length f [] = refl
-map_length f (x ∷ xs) = ap suc (map_length f xs)
+use Rattle.in_place_safety.proofs.type_safety.type_check.fip_language.Facts.{map_length}
 
 -- the first of what is numbered stays the first
 new_keeps : (xs : List Closed) (x y : Closed) (b : Bool) → slice_get xs 0 ≡ Some x → slice_get (if b then xs else xs ++ y ∷ []) 0 ≡ Some x

@@ -20,6 +20,7 @@ use Rattle.specialisation_correctness.specs.fip_grammar.declared.Sign.TheVariant
 use Rattle.specialisation_correctness.specs.fip_grammar.Token.{Word, Lower, Upper, Number, Operate, Mark, Token, token, value_of}
 use Rattle.specialisation_correctness.specs.fip_grammar.Grammar.{Sees, MaySee, Type', TypeArguments, FurtherTypes, FurtherTypeList, IsLiteral, Pattern', PatternFields, FurtherPatterns, BindName, Annotation, Bind', FurtherBinds, Binder', match_sign, left_tightness, tightness, Spelled, Arguments, Fields, Further, Block', Clauses', FurtherClauses, Result', Lent, SignatureParameter', FurtherSignatureParameters, SignatureParameters, Signature', Static', FurtherStatics, Statics, Parameter', FurtherParameters, Parameters, Credits, Kind', FunctionParts, Function', FurtherTypeNames, TypeNames, FieldTypes, DataConstructor', FurtherConstructors, DataConstructors, Data', Declaration', Spells}
 use Rattle.specialisation_correctness.specs.fip_grammar.Limits.{ends_operand, is_minus, Seen, nothing_seen, behind, seen_from, seen, limit, Breaks, IsSpelt}
+use Rattle.in_place_safety.proofs.type_safety.type_check.fip_language.Facts.{and_not_true as never_both, fits_above, fits_below, get_seam as got, take_seam as taken}
 
 -- ---- what fits
 
@@ -85,11 +86,6 @@ after_word w p ts rest e o = let h : Ok (token w p ∷ rest) = subst Ok e o in (
 after_operand : (w : Word) (p : Place) (ts rest : List Token) → ends_operand w ≡ true → ts ≡ token w p ∷ rest → Ok ts → Ended rest
 after_operand w p ts rest f e o = let h : Ok (token w p ∷ rest) = subst Ok e o in (behind h.0 w, f, h.1.1)
 
-never_both : (a b : Bool) → b ≡ true → (a && not b) ≡ false
-never_both true true e = refl
-never_both true false e = absurd (cc)
-never_both false b e = refl
-
 after_operator : (w : Word) (p : Place) (ts rest : List Token) → ts ≡ token w p ∷ rest → Ended ts → Calm rest
 after_operator w p ts rest e o =
     let h : Ended (token w p ∷ rest) = subst Ended e o in
@@ -127,13 +123,6 @@ type_list_past close ts [] rest h o = past close ts rest h o
 type_list_past close ts (t ∷ more) rest h o = type_list_past close h.1 more rest h.4 (type_past h.0 t h.1 h.3 (past S.Comma ts h.0 h.2 o))
 
 -- ---- literals and patterns
-
-fits_above : (n : ℕ) → n ≤ 2 ^ 63 - 1 → FitsSigned w64 (pos n)
-fits_above n h = omega (arith, h)
-
-fits_below : (n : ℕ) → n ≤ 2 ^ 63 → FitsSigned w64 (neg_ℤ (pos n))
-fits_below zero h = omega arith
-fits_below (suc n) h = omega (arith, h)
 
 within_limit : (b : Bool) (n : ℕ) → n ≤ limit b → n ≤ 2 ^ 63
 within_limit true n h = h
@@ -388,14 +377,6 @@ program_ok ts (d ∷ ds) h o =
     (first.0, program_ok h.0 ds h.2 first.1)
 
 -- ---- E04 is not broken
-
-taken : {A : Type 0} (xs ys : List A) → take (length xs) (xs ++ ys) ≡ xs
-taken [] ys = refl
-taken (x ∷ xs) ys = ap (λ l. x ∷ l) (taken xs ys)
-
-got : {A : Type 0} (xs : List A) (y : A) (ys : List A) → slice_get (xs ++ y ∷ ys) (length xs) ≡ Some y
-got [] y ys = refl
-got (x ∷ xs) y ys = got xs y ys
 
 seen_one : (b : Seen) (xs : List Token) (t : Token) → seen_from b (xs ++ t ∷ []) ≡ behind (seen_from b xs) t.word
 seen_one b [] t = refl

@@ -23,6 +23,8 @@ use Rattle.source_report.proofs.reached_instances.Numbered.{numbered_next, reach
 use Rattle.specialisation_correctness.specs.Named.{named}
 use Rattle.specialisation_correctness.proofs.Lookups.{function_meant}
 use Rattle.specialisation_correctness.proofs.Places.{source_with, There, both_some, IsHere, by_name, closed_function_named, closed_function_there}
+use Rattle.source_report.proofs.cell_lower.fip_language.Facts.{if_some, nat_lt_of as less_is}
+pub use Rattle.source_report.proofs.cell_lower.fip_language.Facts.{get_map as map_at, map_at_inverse as at_map}
 
 -- ---- lists
 
@@ -91,16 +93,6 @@ one_at f (y ∷ xs) h (suc i) x d e g =
     let o = h y (inl refl) in
     ap (λ l. slice_get (l ++ all_of f xs) (suc i)) o.1 ∙ one_at f xs (λ z a. h z (inr a)) i x d e g
 
-pub at_map : {A B : Type 0} (f : A → B) (xs : List A) (i : ℕ) (y : B) → slice_get (map f xs) i ≡ Some y → (x : A) × (slice_get xs i ≡ Some x) × (f x ≡ y)
-at_map f [] i y e = absurd (cc)
-at_map f (x ∷ xs) zero y e = (x, refl, (let s : f x ≡ y = cc in s))
-at_map f (x ∷ xs) (suc i) y e = at_map f xs i y e
-
-pub map_at : {A B : Type 0} (f : A → B) (xs : List A) (i : ℕ) (x : A) → slice_get xs i ≡ Some x → slice_get (map f xs) i ≡ Some (f x)
-map_at f [] i x e = absurd (cc)
-map_at f (y ∷ xs) zero x e = let s : y ≡ x = cc in ap (λ z. Some (f z)) s
-map_at f (y ∷ xs) (suc i) x e = map_at f xs i x e
-
 -- ---- the number of a tree is its place
 
 record IsPlace (c : Closed) (xs : List Closed) : Type 0 where
@@ -119,9 +111,6 @@ place_next false c y xs e h (inr a) =
 place_is : (c : Closed) (xs : List Closed) → Among c xs → IsPlace c xs
 place_is c [] h = absurd h
 place_is c (y ∷ xs) h = let r = place_next (same_closed c y) c y xs refl (place_is c xs) h in record { within = r.0; there = r.1 }
-
-less_is : (m n : ℕ) → m < n → nat_lt m n ≡ true
-less_is m n h = grind (arith, nat_tests)
 
 pub record IsNumbered (c : Closed) (xs : List Closed) : Type 0 where
   pub number : ℕ
@@ -189,10 +178,6 @@ abbrev mutual
   AreGiven s [] (MoreClosed c cs) = ⊥
   AreGiven s (TypeParameter n p ∷ xs) (MoreClosed c cs) = AreGiven s xs cs
   AreGiven s (FunctionParameter n p ps r ∷ xs) (MoreClosed c cs) = IsFunctionTree s c × AreGiven s xs cs
-
-if_some : {A : Type 0} (b : Bool) (o : Option A) (a : A) → (if b then o else None) ≡ Some a → o ≡ Some a
-if_some true o a e = e
-if_some false o a e = absurd (cc)
 
 abbrev pub instance_at : ℕ → Closeds → Instance
 instance_at f cs = record { function = f; given = cs }

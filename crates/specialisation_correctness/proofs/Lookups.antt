@@ -21,6 +21,7 @@ use Rattle.source_report.proofs.data_types.Repeats.{all_new, mention_names}
 use Rattle.source_report.specs.reached_instances.Closed.{Closed, Closeds, NoClosed, MoreClosed}
 use Rattle.source_report.specs.reached_instances.Source.{static_name, static_meanings, static_places, if_type, if_function, type_at, function_at}
 use Rattle.specialisation_correctness.specs.Named.{named, all_named}
+use Rattle.source_report.proofs.cell_lower.fip_language.Facts.{or_first as or_left, or_last as or_right}
 
 -- ---- names
 
@@ -36,14 +37,6 @@ not_same x y e f = let g : same_name x y ≡ true = subst (λ z. same_name x z �
 none_here : (c : Bool) (v : Violation) (xs ys : List Violation) → (if c then v ∷ xs else ys) ≡ [] → (c ≡ false) × (ys ≡ [])
 none_here true v xs ys h = absurd (cc)
 none_here false v xs ys h = (refl, h)
-
-or_left : (a b : Bool) → a ≡ true → (a || b) ≡ true
-or_left true b e = refl
-or_left false b e = absurd (cc)
-
-or_right : (a b : Bool) → b ≡ true → (a || b) ≡ true
-or_right true b e = refl
-or_right false b e = e
 
 among_more : (n m : Name) (seen : List Name) → is_among n seen ≡ true → is_among n (seen ++ m ∷ []) ≡ true
 among_more n m seen e = list_any-append (same_name n) seen (m ∷ []) ∙ or_left (is_among n seen) (is_among n (m ∷ [])) e

@@ -20,16 +20,13 @@ use Rattle.source_report.specs.reached_instances.Source.{Declared, Source, Insta
 use Rattle.source_report.specs.reached_instances.Uses.{broken, when, count, type_faults, types_faults, type_name_faults, applied_to, named_type, both, closed_type, closed_types, types_given, all_fit, static_fits, fit_if_known, all_given, applied_function, declared_use, named_use, statics_meant, closed_function, closed_arguments, misfit, misfits, misfits_if_known, name_faults, use_faults, arguments_faults}
 use Rattle.specialisation_correctness.specs.Named.{data_name, function_name, head_name, named, all_named}
 use Rattle.specialisation_correctness.proofs.Lookups.{function_meant, type_meant, places_all, named_if, type_named, function_named}
+use Rattle.source_report.proofs.cell_lower.fip_language.Facts.{if_some, same_number}
 
 -- the source of a core form, with any table of data types
 abbrev pub source_with : Core → List Declared → Source
 source_with core ts = record { names = written_names core; types = ts; functions = core.functions }
 
 -- ---- lists of options
-
-if_some : {A : Type 0} (b : Bool) (o : Option A) (a : A) → (if b then o else None) ≡ Some a → o ≡ Some a
-if_some true o a e = e
-if_some false o a e = absurd (cc)
 
 pub record BothSome (o : Option Closed) (q : Option Closeds) (cs : Closeds) : Type 0 where
   pub first : Closed
@@ -46,9 +43,6 @@ both_some (Some c) (Some ds) cs e = record { first = c; rest = ds; is_first = re
 none_when : (b : Bool) (v : Violation) → when (not b) v ≡ [] → b ≡ true
 none_when true v e = refl
 none_when false v e = absurd (cc)
-
-same_number : (m n : ℕ) → (m == n) ≡ true → m ≡ n
-same_number m n h = grind (arith, nat_tests)
 
 -- an option that has something
 abbrev pub There : {A : Type 0} → Option A → Type 0

@@ -36,16 +36,13 @@ use Rattle.specialisation_correctness.proofs.Lookups.{function_first}
 use Rattle.specialisation_correctness.proofs.Places.{source_with, IsHere}
 use Rattle.specialisation_correctness.proofs.Arguments.{parameters_are, block_is}
 use Rattle.specialisation_correctness.proofs.Instances.{at_among, none_of_each, one_at, at_map, map_at, numbered_there, IsFunctionTree, AreGiven, instance_at, instance_trees, call_reached}
+use Rattle.source_report.proofs.cell_lower.fip_language.Facts.{map_length}
 
 -- ---- lists
 
 nothing_in : (vs : List Violation) → ((v : Violation) → In v vs → ⊥) → vs ≡ []
 nothing_in [] h = refl
 nothing_in (v ∷ vs) h = absurd (h v (inl refl))
-
-map_length : {A B : Type 0} (f : A → B) (xs : List A) → length (map f xs) ≡ length xs
-map_length f [] = refl
-map_length f (x ∷ xs) = ap suc (map_length f xs)
 
 -- where each gives one, what stands at a place is what one gives
 of_one : {A B : Type 0} (f : A → List B) (xs : List A) → ((x : A) → Among x xs → (d : B) × (f x ≡ d ∷ [])) → (i : ℕ) (d : B) → slice_get (all_of f xs) i ≡ Some d → (x : A) × (slice_get xs i ≡ Some x) × (f x ≡ d ∷ [])

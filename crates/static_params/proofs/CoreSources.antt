@@ -19,10 +19,7 @@ use Rattle.data_types.specs.View as v
 use Rattle.reached_instances.specs.Source as S
 use Rattle.reached_instances.specs.SourceView as s
 use Rattle.static_params.specs.FlatSource.{field, fields, constructor, declared, flat_source}
-
-both_true : (a b : Bool) → (a && b) ≡ true → (a ≡ true) × (b ≡ true)
-both_true true b e = (refl, e)
-both_true false b e = absurd (cc)
+use Rattle.fip_language.proofs.Facts.{and_both as both_true, cons_head as heads, cons_tail as tails}
 
 one_more : (n : ℕ) → nat_lt 0 n ≡ true → n ≡ suc (n - 1)
 one_more n e = let h : 0 < n = grind (arith, nat_tests) in omega (arith, h)
@@ -59,12 +56,6 @@ fields_are [] e = refl
 fields_are (t ∷ ts) e =
     let parts = both_true (is_numbered t) (are_numbered ts) e in
     ap₂ (λ t ts. S.MoreTys t ts) (field_is t parts.0) (fields_are ts parts.1)
-
-heads : {A : Type 0} (x y : A) (xs ys : List A) → x ∷ xs ≡ y ∷ ys → x ≡ y
-heads x y xs ys e = let h : x ≡ y = cc in h
-
-tails : {A : Type 0} (x y : A) (xs ys : List A) → x ∷ xs ≡ y ∷ ys → xs ≡ ys
-tails x y xs ys e = let h : xs ≡ ys = cc in h
 
 rows_are : (z : _) (ks : List DeclaredConstructor) (ws : List C.DataConstructor) → all_true (map row_numbered ks) ≡ true → map v.fields ks ≡ map (constructor_fields z) ws → map (λ (k : DeclaredConstructor). k.name.now) ks ≡ map constructor_name ws → map s.constructor ks ≡ map (constructor z) ws
 rows_are z [] [] n e f = refl

@@ -16,6 +16,7 @@ use Rattle.reached_instances.specs.Uses.{closed_type, closed_types, named_type, 
 use Rattle.reached_instances.specs.Numbering.{Way, Reached, with_new, with_all, firsts}
 use Rattle.static_params.specs.FlatSource.{flat_source}
 use Rattle.static_params.proofs.Meanings.{type_there, function_there}
+pub use Rattle.fip_language.proofs.Facts.{get_map, get_within as below}
 
 -- ---- lists
 
@@ -72,16 +73,6 @@ along P next step x (y ∷ over) z w h = along P next step y over z w.1 (step x 
 -- what the roots have, and what each hands on, all have that are reached
 pub reached_have : {A : Type 0} (P : A → Type 0) (roots : List A) (next : A → List A) → ((x : A) → Among x roots → P x) → ((x y : A) → P x → Among y (next x) → P y) → (z : A) → Reached roots next z → P z
 reached_have P roots next first step z r = along P next step r.root r.over z r.way (first r.root r.among)
-
-pub get_map : {A B : Type 0} (f : A → B) (xs : List A) (n : ℕ) (x : A) → slice_get xs n ≡ Some x → slice_get (map f xs) n ≡ Some (f x)
-get_map f [] n x e = absurd (cc)
-get_map f (y ∷ xs) zero x e = let same : y ≡ x = cc in ap (λ z. Some (f z)) same
-get_map f (y ∷ xs) (suc n) x e = get_map f xs n x e
-
-pub below : {A : Type 0} (xs : List A) (i : ℕ) (x : A) → slice_get xs i ≡ Some x → i < length xs
-below [] i x e = absurd (cc)
-below (y ∷ xs) zero x e = omega arith
-below (y ∷ xs) (suc i) x e = let r = below xs i x e in omega (arith, r)
 
 -- ---- types and functions of a program
 

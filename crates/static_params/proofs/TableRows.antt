@@ -24,15 +24,12 @@ use Rattle.static_params.proofs.GoodTypes.{IsGood, IsGoodFunction}
 use Rattle.static_params.proofs.GoodInstances.{instances_good, declared_is}
 use Rattle.static_params.proofs.TypeRows.{some_below, there_among, root_numbered, type_within, one_each, one_at, shapes_is, IsApplied, row_of, row_is, has_row, has_declaring}
 use Rattle.static_params.proofs.TypeValues.{good, applied, row_at, type_valued}
+pub use Rattle.fip_language.proofs.Facts.{map_length}
 
 pub shapes_below : (tb : Table) (t c : ℕ) (s : Shape) → slice_get (shapes tb t) c ≡ Some s → t < length tb
 shapes_below [] t c s e = absurd (cc)
 shapes_below (r ∷ tb) zero c s e = omega arith
 shapes_below (r ∷ tb) (suc t) c s e = let k = shapes_below tb t c s e in omega (arith, k)
-
-pub map_length : {A B : Type 0} (f : A → B) (xs : List A) → length (map f xs) ≡ length xs
-map_length f [] = refl
-map_length f (x ∷ xs) = ap suc (map_length f xs)
 
 module _ (core : Core) (ns : Numbers) (passed : List Closed) (instances : AreInstances (flat_source core) ns.instances) (given : ArePassed ns.instances passed) (types : AreNumberedTypes (flat_source core) ns.instances passed ns.types) where
   abbrev pub p : T.Program

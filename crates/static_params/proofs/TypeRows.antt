@@ -20,6 +20,7 @@ use Rattle.static_params.specs.FlatProgram.{Numbers, number_in, from_one, type_n
 use Rattle.static_params.specs.FlatSource.{flat_source, declared}
 use Rattle.static_params.proofs.GoodTypes.{among_either, all_of_have, reached_have, IsGood}
 use Rattle.static_params.proofs.GoodInstances.{declared_is}
+use Rattle.fip_language.proofs.Facts.{and_both as same_both, equal_itself as number_same, same_number}
 
 -- ---- lists
 
@@ -47,16 +48,6 @@ there_among (y ∷ xs) zero x e = inl (let f : x ≡ y = cc in f)
 there_among (y ∷ xs) (suc i) x e = inr (there_among xs i x e)
 
 -- ---- closed trees are the same where the test says so
-
-same_both : (a b : Bool) → (a && b) ≡ true → (a ≡ true) × (b ≡ true)
-same_both true b e = (refl, e)
-same_both false b e = absurd (cc)
-
-same_number : (m n : ℕ) → (m == n) ≡ true → m ≡ n
-same_number m n h = grind (arith, nat_tests)
-
-number_same : (n : ℕ) → (n == n) ≡ true
-number_same n = grind (arith, nat_tests)
 
 heads_same : (g h : Head) → same_head g h ≡ true → g ≡ h
 heads_same (H.«Type» m) (H.«Type» n) e = ap (λ k. H.«Type» k) (same_number m n e)

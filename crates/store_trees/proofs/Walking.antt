@@ -12,6 +12,7 @@ use Rattle.value_text.proofs.Printing.{odd_cell, past_types, past_is, index_is}
 use Rattle.store_trees.specs.declared.trees.Tree.{Tree}
 use Rattle.store_trees.specs.Added.{root_of, places_of, Adds}
 use Rattle.store_trees.specs.Walked.{with_root, roots_of, Ahead, IsAhead, root, roots, AllStand, uses_ahead, cells_ahead, AreAhead, AddsAll}
+use Rattle.fip_base.proofs.fip_language.Facts.{take_whole as take_all}
 
 -- ---- trees ahead, one list behind another
 
@@ -298,12 +299,6 @@ field_added tb cs a t types i ty word before now next h is same lt item field in
     let step : next ≡ with_root now (root_of ty f.x) = added f.x (subst (λ k. Stands tb cs k f.x) (sym kind) f.stands) is_word in
     step ∙ ap (λ l. with_root l (root_of ty f.x)) inv ∙ sym (with_root_on before first (root_of ty f.x))
     ∙ ap (λ ts. before ++ ts) (ap (λ k. with_root first (root_of k f.x)) kind ∙ sym f.more ∙ ap (λ n. roots_of (take n a.fields) a.parts) (let z : suc i ≡ i + 1 = omega arith in z))
-
-take_all : (n : ℕ) (xs : List ℕ) → length xs ≤ n → take n xs ≡ xs
-take_all zero [] le = refl
-take_all (suc n) [] le = refl
-take_all zero (x ∷ xs) le = absurd (omega (arith, le))
-take_all (suc n) (x ∷ xs) le = ap (λ ys. x ∷ ys) (take_all n xs (omega (arith, le)))
 
 pub all_fields : (a : Ahead) (types : List ℕ) (i : ℕ) (before now : List Tree) → types ≡ a.fields → length types ≤ i → now ≡ before ++ roots_of (take i a.fields) a.parts → now ≡ before ++ roots_of a.fields a.parts
 all_fields a types i before now same le inv = inv ∙ ap (λ ks. before ++ roots_of ks a.parts) (take_all i a.fields (subst (λ ks. length ks ≤ i) same le))

@@ -17,26 +17,12 @@ use Rattle.tail_groups.specs.Members.{frame, FipCallsFip, stack, AreMembers}
 use Rattle.tail_groups.specs.Registers.{registers}
 use Rattle.tail_groups.specs.Rules.{is_fip, told, Violates}
 use Rattle.tail_groups.specs.Sites.{Site, called, instance_sites, instance_calls, call_rows}
+use Rattle.fip_language.proofs.Facts.{false_of_not as no_tail, get_map as map_at, get_of_map as at_map, if_some_true as fip_frame, last_length as length_one, map_length}
 
 -- frames by counts are those of the instances
 frames_same : (ds : List Instance) → map frame_by (map counted ds) ≡ map frame ds
 frames_same [] = refl
 frames_same (d ∷ ds) = ap (λ xs. frame d ∷ xs) (frames_same ds)
-
-map_length : {A B : Type 0} (f : A → B) (xs : List A) → length (map f xs) ≡ length xs
-map_length f [] = refl
-map_length f (x ∷ xs) = ap suc (map_length f xs)
-
-map_at : {A B : Type 0} (f : A → B) (xs : List A) (i : ℕ) (x : A) → slice_get xs i ≡ Some x → slice_get (map f xs) i ≡ Some (f x)
-map_at f [] i x h = absurd (none-some x h)
-map_at {A} f (y ∷ xs) zero x h = ap (λ (z : A). Some (f z)) (same_Some y x h)
-map_at f (y ∷ xs) (suc i) x h = map_at f xs i x h
-
--- an entry of a mapped list comes of an entry
-at_map : {A B : Type 0} (f : A → B) (xs : List A) (i : ℕ) (y : B) → slice_get (map f xs) i ≡ Some y → (x : A) × (slice_get xs i ≡ Some x) × (y ≡ f x)
-at_map f [] i y h = absurd (none-some y h)
-at_map f (x ∷ xs) zero y h = (x, refl, sym (same_Some (f x) y h))
-at_map f (x ∷ xs) (suc i) y h = at_map f xs i y h
 
 -- ---- the members
 
@@ -63,10 +49,6 @@ append_one : {A : Type 0} (pre : List A) (x : A) (xs : List A) → (pre ++ x ∷
 append_one [] x xs = refl
 append_one {A} (y ∷ pre) x xs = ap (λ (zs : List A). y ∷ zs) (append_one pre x xs)
 
-length_one : {A : Type 0} (pre : List A) (x : A) → length (pre ++ x ∷ []) ≡ suc (length pre)
-length_one [] x = refl
-length_one (y ∷ pre) x = ap suc (length_one pre x)
-
 -- their stack numbers are those that were found
 stacks_from : (p : Partition) (pre ss : List (Option Stack)) (cs : List Counted) → length ss ≡ length cs → map stack (members_from p (pre ++ ss) (length pre) cs) ≡ ss
 stacks_from p pre [] [] e = refl
@@ -82,10 +64,6 @@ stacks_from p pre (s ∷ ss) (c ∷ cs) e =
     ∙ rest)
 
 -- ---- what is asked of the stack numbers
-
-fip_frame : (b : Bool) (n w : ℕ) → (if b then Some n else None) ≡ Some w → b ≡ true
-fip_frame true n w h = refl
-fip_frame false n w h = absurd (none-some w h)
 
 frame_fip : (b : Bool) (n : ℕ) → b ≡ true → (if b then Some n else None) ≡ Some n
 frame_fip true n h = refl
@@ -117,10 +95,6 @@ same_callee g k s e = ap (λ (c : C.Call). c.callee) e
 
 same_waits : (g : ℕ) (k : Bool) (s : Site) → call g k ≡ called s → k ≡ not s.is_tail
 same_waits g k s e = ap (λ (c : C.Call). c.waits) e
-
-no_tail : (b : Bool) → true ≡ not b → b ≡ false
-no_tail true h = absurd (cc)
-no_tail false h = refl
 
 module _ (p : Program) (g : Partition) (right : IsPartition (call_rows p.instances) g) (none : (v : Violation) → Violates p v → ⊥) (fips : FipCallsFip p.instances) where
   framed_calls : (f b : ℕ) (k : Bool) → FramedCalls (call_rows p.instances) (map frame p.instances) f b k → HasFrame (map frame p.instances) b

@@ -17,24 +17,12 @@ use Rattle.fip_trees.proofs.Leasts.{after-append}
 use Rattle.fip_trees.proofs.TreeViews.{expression_match, clause_is, binding_is, block_is}
 use Rattle.call_groups.specs.declared.search.Partition.{Partition}
 use Rattle.tail_groups.specs.Notes.{expression_notes, block_notes, clauses_notes, instance_notes, all_notes}
+use Rattle.fip_language.proofs.Facts.{drop_end, drop_suc}
+pub use Rattle.fip_language.proofs.Facts.{drop_item}
 
 pub on_ok : {A E : Type 0} {P Q : Type 0} (r : Result A E) → (P → Q) → OnOk r P → OnOk r Q
 on_ok (Ok a) f h = f h
 on_ok (Err e) f h = h
-
-drop_suc : {A : Type 0} (xs : List A) (i : ℕ) (x : A) → i < length xs → x ≡ get_or xs i x → drop i xs ≡ x ∷ drop (suc i) xs
-drop_suc [] i x l e = absurd (omega arith)
-drop_suc {A} (y ∷ ys) zero x l e = ap (λ (z : A). z ∷ ys) (sym e)
-drop_suc (y ∷ ys) (suc i) x l e = drop_suc ys i x (omega arith) e
-
-pub drop_item : {A : Type 0} (xs : List A) (i : ℕ) (x : A) → i < length xs → x ≡ get_or xs i x → drop i xs ≡ x ∷ drop (i + 1) xs
-drop_item xs i x l e = let s : suc i ≡ i + 1 = omega arith in drop_suc xs i x l e ∙ ap (λ k. x ∷ drop k xs) s
-
-drop_end : {A : Type 0} (xs : List A) (i : ℕ) → length xs ≤ i → drop i xs ≡ []
-drop_end [] zero l = refl
-drop_end [] (suc i) l = refl
-drop_end (x ∷ xs) zero l = absurd (omega arith)
-drop_end (x ∷ xs) (suc i) l = drop_end xs i (omega arith)
 
 step : (o o' g : Option Violation) (xs ys : List Violation) → o' ≡ after o xs → after o (xs ++ ys) ≡ g → after o' ys ≡ g
 step o o' g xs ys h e = ap (λ z. after z ys) h ∙ sym (after-append o xs ys) ∙ e

@@ -15,12 +15,7 @@ use Rattle.tail_groups.proofs.Shared.{block_same}
 use Rattle.tail_groups.specs.Sites.{Site, instance_sites, call_rows}
 use Rattle.tail_groups.specs.Rules.{is_fip, told, Violates}
 use Rattle.tail_groups.specs.Notes.{site_notes, notes, instance_notes, all_notes, IsNoted}
-
-same_yes : (m n : ℕ) → (m == n) ≡ true → m ≡ n
-same_yes m n h = grind (arith, nat_tests)
-
-yes_same : (m n : ℕ) → m ≡ n → (m == n) ≡ true
-yes_same m n h = grind (arith, nat_tests)
+use Rattle.fip_language.proofs.Facts.{equal_true as yes_same, same_number as same_yes}
 
 -- one call
 site_by : (t b : Bool) (v w : Violation) → L.In v (if not t && b then w ∷ [] else []) → (t ≡ false) × (b ≡ true) × (v ≡ w)

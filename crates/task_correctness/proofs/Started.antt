@@ -23,10 +23,7 @@ use Rattle.fip_tasks.specs.task_semantics.Schedules.{Shared}
 use Rattle.fip_tasks.specs.Shown.{IsStarted, AreStarted}
 use Rattle.fip_tasks.specs.declared.task.Start.{Start}
 use Rattle.task_correctness.specs.Answered.{IsStartOf, AreStartsOf}
-
-mapped : {A B : Type 0} (f : A → B) (o : Option A) (y : B) → option_map f o ≡ Some y → (x : A) × (o ≡ Some x) × (f x ≡ y)
-mapped f None y e = absurd (none-some y e)
-mapped f (Some x) y e = (x, refl, same_Some (f x) y e)
+use Rattle.machine_correctness.proofs.compiler_correctness.derivation_correctness.source_report.cell_lower.fip_language.Facts.{mapped_from as mapped}
 
 -- a verified function, behind its plain form
 pub function_of : (c : Code) (n : ℕ) (f : PlainFunction) → function_at (plain c) n ≡ Some f → (g : Function) × (slice_get c.functions.items n ≡ Some g) × (plain_function g ≡ f)

@@ -20,6 +20,7 @@ use Rattle.task_lines.specs.Reading.{Closes, Further, Given, Behind, AreAt, IsNe
 use Rattle.session_values.proofs.OneValue.{sign_not_open, text_of, same_value, join_snoc, join_end, cells_snoc, adds_none, adds_both}
 use Rattle.session_values.proofs.Symbols.{chr, IsOneLine, chars_are, one_line_drop, are_read, Suffix, skip_chr}
 use Rattle.session_values.proofs.Bridge.{NotOpen, value_written, value_spelt}
+use Rattle.fip_language.proofs.Facts.{drop_past as none_behind}
 
 closes_not_open : (cs : List Symbol) → Closes cs → NotOpen (map chr cs)
 closes_not_open cs h = sign_not_open cs h.0 Close C.Close h.1 refl (λ e. cc)
@@ -97,12 +98,6 @@ reading_on tb bytes types start i at p e ty v places new first now next sound on
     n_begins n = (characters (drop e bytes), n.value.text)
 
 -- ---- behind the last value
-
-none_behind : (types : List ℕ) (i : ℕ) → length types ≤ i → drop i types ≡ []
-none_behind [] zero le = refl
-none_behind [] (suc i) le = refl
-none_behind (k ∷ types) zero le = absurd (omega (arith, le))
-none_behind (k ∷ types) (suc i) le = none_behind types i (omega (arith, le))
 
 closed : (i : ℕ) (tb : Table) (cs : List Symbol) → Closes cs → Behind i tb [] cs End
 closed zero tb cs h = h

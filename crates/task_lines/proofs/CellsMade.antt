@@ -25,6 +25,7 @@ use Rattle.session_values.proofs.CellsKept.{made_none, made_both, made_same, all
 use Rattle.task_lines.specs.Making.{AreValued, AreCredited}
 use Rattle.task_lines.specs.Reading.{AreAt}
 use Rattle.session_values.specs.Readable.{AreParams}
+use Rattle.fip_language.proofs.Facts.{take_next, take_whole}
 
 -- ---- values
 
@@ -182,11 +183,6 @@ sizes_at (k ∷ ks) (suc i) lt h = sizes_at ks i (omega (arith, lt)) h.2
 pub size_at : (ks : List ℕ) (i s : ℕ) → i < length ks → get_or ks i 0 ≡ s → AreCredits ks → (0 < s) × (s ≤ 16)
 size_at ks i s lt is h = subst (λ n. (0 < n) × (n ≤ 16)) is (sizes_at ks i lt h.sizes)
 
-take_next : (ks : List ℕ) (i : ℕ) → i < length ks → take (suc i) ks ≡ take i ks ++ get_or ks i 0 ∷ []
-take_next [] i lt = absurd (omega (arith, lt))
-take_next (k ∷ ks) zero lt = refl
-take_next (k ∷ ks) (suc i) lt = ap (λ ls. k ∷ ls) (take_next ks i (omega (arith, lt)))
-
 pub crediting_on : (credits : List ℕ) (i s : ℕ) (first now next : Loading) (before words new : List ℕ) → i < length credits → get_or credits i 0 ≡ s → AreCrediting credits i first now before words → ((p : ℕ) × (new ≡ words ++ (2 * p + 1) ∷ []) × IsMade now next p (record { tag = 0; fields = replicate s 0 })) → AreCrediting credits (i + 1) first next before new
 crediting_on credits i s first now next before words new lt is c h =
     let p = h.0 in
@@ -205,12 +201,6 @@ crediting_on credits i s first now next before words new lt is c h =
         made = made_both first now next (λ q. count q d.places) (λ q. count q (p ∷ [])) (λ q. count q (d.places ++ p ∷ [])) (λ q. count_join q d.places (p ∷ [])) d.made more;
       };
     }
-
-take_whole : (i : ℕ) (ks : List ℕ) → length ks ≤ i → take i ks ≡ ks
-take_whole zero [] le = refl
-take_whole (suc i) [] le = refl
-take_whole zero (k ∷ ks) le = absurd (omega (arith, le))
-take_whole (suc i) (k ∷ ks) le = ap (λ ls. k ∷ ls) (take_whole i ks (omega (arith, le)))
 
 pub crediting_ends : (credits : List ℕ) (i : ℕ) (first now : Loading) (before words : List ℕ) → length credits ≤ i → AreCrediting credits i first now before words → AreCredited credits first now before words
 crediting_ends credits i first now before words le c = subst (λ ks. AreCredited ks first now before words) (take_whole i credits le) c.credited

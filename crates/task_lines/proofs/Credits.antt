@@ -7,6 +7,7 @@ use Rattle.value_text.specs.Loaded.{AreSizes, AreCredits}
 use Rattle.value_text.specs.declared.counts.Counts.{Counts}
 use Rattle.session_values.specs.Read.{Adds}
 use Rattle.session_values.proofs.OneValue.{adds_none, adds_both}
+use Rattle.fip_language.proofs.Facts.{take_whole}
 
 abbrev Adding : Counts → Counts → ℕ → Type 0
 Adding old new s = ((0 < s → s ≤ 16 → slice_index_or old.numbers s 0 < 2 ^ 64 - 1 → slice_index_or new.numbers s 0 ≡ suc (slice_index_or old.numbers s 0))
@@ -45,12 +46,6 @@ credits_on first now next ks i s lt is sizes add h =
     let z = sizes_at ks i lt (sizes.sizes) in
     let more = one_more now next (get_or ks i 0) z.0 z.1 (subst (Adding now next) (sym is) add) in
     adds_both first now next (λ k. count k (take i ks)) (λ k. one_at k (get_or ks i 0)) (λ k. count k (take (i + 1) ks)) (λ k. count_more k ks i lt) h more
-
-take_whole : (i : ℕ) (ks : List ℕ) → length ks ≤ i → take i ks ≡ ks
-take_whole zero [] le = refl
-take_whole (suc i) [] le = refl
-take_whole zero (k ∷ ks) le = absurd (omega (arith, le))
-take_whole (suc i) (k ∷ ks) le = ap (λ ls. k ∷ ls) (take_whole i ks (omega (arith, le)))
 
 pub credits_end : (first now : Counts) (ks : List ℕ) (i : ℕ) → length ks ≤ i → Adds first now (λ k. count k (take i ks)) → Adds first now (λ k. count k ks)
 credits_end first now ks i le h = subst (λ ls. Adds first now (λ k. count k ls)) (take_whole i ks le) h

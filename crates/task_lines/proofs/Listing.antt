@@ -11,6 +11,7 @@ use Rattle.task_lines.specs.Called.{Called, IsCall, AreCalls, IsFirstBad, needed
 use Rattle.session_values.specs.Read.{Adds}
 use Rattle.task_lines.specs.Reading.{IsLineOf, AreLinesOf}
 use Rattle.task_lines.specs.declared.task_line.TaskLine.{TaskLine}
+use Rattle.fip_language.proofs.Facts.{drop_past as none_left}
 
 pub record IsListed (code : Code) (input : List ℕ) (at : ℕ) (ts : List TaskLine) (counts : Counts) : Type 0 where
   pub before : List (List ℕ)
@@ -128,12 +129,6 @@ one_too_many code input at k ts counts h lt few many is =
     subst (λ ls. IsFirstBad code 0 ls k) (sym (h.split ∙ ap (λ ls. h.before ++ ls) s.2)) (subst (IsFirstBad code 0 (h.before ++ s.0 ∷ s.1)) number b)
 
 -- ---- all lines
-
-none_left : (bytes : List ℕ) (i : ℕ) → length bytes ≤ i → drop i bytes ≡ []
-none_left [] zero le = refl
-none_left [] (suc i) le = refl
-none_left (b ∷ bytes) zero le = absurd (omega (arith, le))
-none_left (b ∷ bytes) (suc i) le = none_left bytes i (omega (arith, le))
 
 pub all_listed : (code : Code) (input : List ℕ) (at : ℕ) (ts : List TaskLine) (counts : Counts) → (h : IsListed code input at ts counts) → length input ≤ at → lines_of input ≡ h.before
 all_listed code input at ts counts h le = h.split ∙ ap (λ ls. h.before ++ ls) (ap lines_of (none_left input at le)) ∙ append-nil h.before

@@ -28,6 +28,7 @@ use Rattle.task_lines.specs.Started.{IsStarted, AreStarted, AreReady}
 use Rattle.task_lines.specs.declared.list.RunLimits.{RunLimits}
 use Rattle.task_lines.specs.declared.task_line.TaskLine.{TaskLine}
 use Rattle.session_values.proofs.CellsKept.{all_on, zero_on, stay, made_none, made_both}
+pub use Rattle.fip_language.proofs.Facts.{drop_end as none_behind, left_at}
 
 -- ---- a call that lies in a loader
 
@@ -225,17 +226,3 @@ ready code limits cs first now left starts empty none flags each cells h =
     nothing : (rest : List Called) → AreLinesOf code [] rest → rest ≡ []
     nothing [] k = refl
     nothing (c ∷ rest) k = absurd k
-
-pub left_at : {A : Type 0} (xs : List A) (i : ℕ) (x : A) → slice_get xs i ≡ Some x → drop i xs ≡ x ∷ drop (i + 1) xs
-left_at xs i x e = by xs i x e ∙ ap (λ n. x ∷ drop n xs) (let z : suc i ≡ i + 1 = omega arith in z)
-  where
-    by : {A : Type 0} (xs : List A) (i : ℕ) (x : A) → slice_get xs i ≡ Some x → drop i xs ≡ x ∷ drop (suc i) xs
-    by [] i x e = absurd (none-some x e)
-    by (y ∷ xs) zero x e = (let same : y ≡ x = same_Some y x e in ap (λ z. z ∷ xs) same)
-    by (y ∷ xs) (suc i) x e = by xs i x e
-
-pub none_behind : {A : Type 0} (xs : List A) (i : ℕ) → length xs ≤ i → drop i xs ≡ []
-none_behind [] zero le = refl
-none_behind [] (suc i) le = refl
-none_behind (x ∷ xs) zero le = absurd (omega (arith, le))
-none_behind (x ∷ xs) (suc i) le = none_behind xs i (omega (arith, le))

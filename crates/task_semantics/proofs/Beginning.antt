@@ -23,6 +23,7 @@ use Rattle.task_semantics.specs.Schedules.{Shared, in_store}
 use Rattle.task_semantics.proofs.Entries.{first_state, given_words, first_projected}
 use Rattle.task_semantics.specs.Lying.{Lying, LiesIn, uses_by, uses_by_all, LieApart, call_words, own_store, IsBegun, AreApart}
 use Rattle.task_semantics.proofs.Owning.{own_given, own_renamed, trees_stay, places_stay, is_used}
+pub use Rattle.run_loading.proofs.tree_refinement.tree_semantics.machine_semantics.cell_code.fip_base.fip_language.Facts.{get_beside as some_at}
 
 -- ---- one of many
 
@@ -105,12 +106,6 @@ known c before waits s l b r sound literals kinds store lies once i =
       start = subst (λ (u : State). IsStart c before waits l.task.function [] u) (sym own) (start_over c before waits s l sound literals kinds store lies once);
       same = subst (λ (q : Run). IsSameRun before waits (run_code c) l.task.function (λ p. p) (begun i.own l.task.calls) (in_store s q)) (sym i.run) run;
     })
-
-pub some_at : {A B : Type 0} (xs : List A) (ys : List B) (k : ℕ) (x : A) → length xs ≡ length ys → slice_get xs k ≡ Some x → (y : B) × (slice_get ys k ≡ Some y)
-some_at [] ys k x e h = absurd (none-some x h)
-some_at (z ∷ zs) [] k x e h = absurd cc
-some_at (z ∷ zs) (y ∷ ys) zero x e h = (y, refl)
-some_at (z ∷ zs) (y ∷ ys) (suc k) x e h = some_at zs ys k x (cc) h
 
 -- the call and the run of a task that begins alone so
 pub record IsOne (c : PlainCode) (ls : List Lying) (first : Shared) (k : ℕ) (b : Begun) : Type 0 where

@@ -40,6 +40,7 @@ use Rattle.task_semantics.proofs.Renamings.{place_renamed, like_of_parts, some_t
 use Rattle.task_semantics.proofs.SameCells.{one_place, there_some, mate_of, few_renamed, written_renamed, written_beyond, released_renamed, released_beyond}
 use Rattle.task_semantics.proofs.AlikeWords.{AreAlike, used_up_alike, gone_alike, dropped_alike, filled_alike, reworded_alike, stored_alike, same_uses, kept_alike, given_alike}
 use Rattle.task_semantics.proofs.PlainPairs.{IsPair, Pairs}
+use Rattle.run_loading.proofs.tree_refinement.tree_semantics.machine_semantics.cell_code.fip_base.fip_language.Facts.{some_of}
 
 -- ---- releases
 
@@ -170,10 +171,6 @@ count_dropped q ks hs d there =
     let a = count_gone q ks hs d there in
     let e : owned_by q (at (written ks d Gone)) hs (length ks) ≡ owned_by q (dropped (is_one d) (at ks)) hs (length ks) = sum_same (λ r. owned_uses q (at (written ks d Gone) r) (hs r)) (λ r. owned_uses q (dropped (is_one d) (at ks) r) (hs r)) 0 (length ks) (λ r low high. ap (λ k. owned_uses q k (hs r)) (at_gone ks d there r)) in
     omega arith
-
-some_of : {A : Type 0} (o : Option A) → is_some o ≡ true → (x : A) × (o ≡ Some x)
-some_of None e = absurd (true≢false (sym e))
-some_of (Some x) e = (x, refl)
 
 has_part : (xs : Parts) → 0 < length (words_of xs) → HasPart xs
 has_part NoParts h = absurd (let z : ⊥ = omega arith in z)

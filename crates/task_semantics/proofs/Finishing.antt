@@ -22,6 +22,7 @@ use Rattle.task_semantics.specs.Schedules.{Shared, in_store, turn, turned, sched
 use Rattle.task_semantics.proofs.Scheduling.{each_is_alone}
 use Rattle.task_semantics.specs.Laid.{Task, AreLaid}
 use Rattle.task_semantics.proofs.Laid.{begin_together, are_loaded}
+use Rattle.run_loading.proofs.tree_refinement.tree_semantics.machine_semantics.cell_code.fip_base.fip_language.Facts.{get_within as within, length_set as set_long}
 
 -- ---- a run that is over stays so
 
@@ -82,11 +83,6 @@ turns_of j k (suc i) (n ∷ ns) m e h =
 
 -- ---- there are as many runs as before
 
-set_long : {A : Type 0} (xs : List A) (k : ℕ) (x : A) → length (slice_set xs k x) ≡ length xs
-set_long [] k x = refl
-set_long (y ∷ xs) zero x = refl
-set_long (y ∷ xs) (suc k) x = ap suc (set_long xs k x)
-
 turned_long : (kinds : Kinds) (code : R.PlainCode) (t : Shared) (k : ℕ) (o : Option Run) → length (turned kinds code t k o).runs ≡ length t.runs
 turned_long kinds code t k None = refl
 turned_long kinds code t k (Some r) = set_long t.runs k (later kinds code (in_store t.store r))
@@ -94,11 +90,6 @@ turned_long kinds code t k (Some r) = set_long t.runs k (later kinds code (in_st
 all_long : (kinds : Kinds) (code : R.PlainCode) (ks : List ℕ) (t : Shared) → length (scheduled kinds code ks t).runs ≡ length t.runs
 all_long kinds code [] t = refl
 all_long kinds code (k ∷ ks) t = all_long kinds code ks (turn kinds code t k) ∙ turned_long kinds code t k (slice_get t.runs k)
-
-within : {A : Type 0} (xs : List A) (n : ℕ) (x : A) → slice_get xs n ≡ Some x → n < length xs
-within [] n x e = absurd (none-some x e)
-within (y ∷ xs) zero x e = omega arith
-within (y ∷ xs) (suc n) x e = let r = within xs n x e in omega (arith, r)
 
 every_at : {A : Type 0} (P : A → Type 0) (xs : List A) → ((k : ℕ) (x : A) → slice_get xs k ≡ Some x → P x) → Every P xs
 every_at P [] h = tt

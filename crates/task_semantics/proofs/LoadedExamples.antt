@@ -7,9 +7,7 @@ use Rattle.run_loading.specs.code_rules.Example.{reversal}
 use Rattle.task_semantics.specs.ScheduleExample.{both, rev_at, store_of, cells_of, first_task, tasks_alone, two_tasks}
 use Rattle.task_semantics.specs.Laid.{IsTask, AreLaid}
 use Rattle.task_semantics.specs.LoadedExample.{rev_of, two_calls}
-
-small : (n : ℕ) → n < 2 ^ 63 → FitsSigned w64 (pos n)
-small n h = record { sfits = h }
+use Rattle.run_loading.proofs.tree_refinement.tree_semantics.machine_semantics.cell_code.fip_base.fip_language.Facts.{fits_small as small}
 
 is_task : (m n : ℕ) → m < 2 ^ 63 → n < 2 ^ 63 → IsTask reversal (rev_of (pos m) (pos n))
 is_task m n h k = record {

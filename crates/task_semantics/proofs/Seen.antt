@@ -12,6 +12,7 @@ use Rattle.run_loading.specs.machine_semantics.States.{Frame, State, frames_held
 use Rattle.run_loading.specs.machine_semantics.Steps.{Kinds}
 use Rattle.task_semantics.specs.Projected.{Renaming, AreLikeWords, IsLikeCell, AreRenamed, AreRenamedWords, IsRenamedFrame}
 use Rattle.task_semantics.specs.Projected.{AreRenamedFrames, IsProjected, one_among, held_among_from, held_among}
+use Rattle.run_loading.proofs.tree_refinement.tree_semantics.machine_semantics.cell_code.fip_base.fip_language.Facts.{suc_injective as fewer, sum_same as added}
 
 -- ---- frames
 
@@ -35,9 +36,6 @@ frames_even tb f own shared waits [] [] h = refl
 frames_even tb f own shared waits [] (b ∷ bs) h = absurd h
 frames_even tb f own shared waits (a ∷ as') [] h = absurd h
 frames_even tb f own shared waits (a ∷ as') (b ∷ bs) h = ap suc (frames_even tb f own shared waits as' bs h.1)
-
-added : (a b c d : ℕ) → a ≡ b → c ≡ d → a + c ≡ b + d
-added a b c d h k = omega arith
 
 -- the words of frames, and n more
 abbrev all_words : ℕ → List Frame → ℕ
@@ -90,9 +88,6 @@ further p j q h = omega arith
 
 here : (p : ℕ) → p ≡ p + 0
 here p = omega arith
-
-fewer : (a b : ℕ) → suc a ≡ suc b → a ≡ b
-fewer a b h = omega arith
 
 same_held : (f : Renaming) (shared : Store) (k p : ℕ) (os : List (Option Cell)) (rs : List Bool) →
     length rs ≡ length os → Alike f shared p os rs → held_among_from k f shared p os ≡ held_in k os rs

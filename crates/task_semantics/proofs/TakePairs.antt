@@ -36,6 +36,7 @@ use Rattle.task_semantics.proofs.Renamings.{place_renamed, like_of_tree, restand
 use Rattle.task_semantics.proofs.AlikeWords.{AreAlike, like_any, forget_alike}
 use Rattle.task_semantics.proofs.ReadingPairs.{placed_part}
 use Rattle.task_semantics.proofs.PlainPairs.{IsPair, Pairs, plain_pair, on_pair}
+use Rattle.run_loading.proofs.tree_refinement.tree_semantics.machine_semantics.cell_code.fip_base.fip_language.Facts.{empty_of_length as no_words}
 
 -- ---- the parts
 
@@ -102,10 +103,6 @@ can_take_is tb f own shared below ks hs n (Owned t cs) w v h e m i =
     one_set tb f own shared t w v n cs m.tree h m.holds p.0 (sym (equal (length (only_fields tb t cs)) n p.1)) m.top m.is (subst (λ x. IsTree tb shared t v (renamed f x)) same i.among)
 
 -- ---- the words
-
-no_words : (vs : List ℕ) → length vs ≡ 0 → vs ≡ []
-no_words [] e = refl
-no_words (v ∷ vs) e = absurd (let z : ⊥ = omega arith in z)
 
 taken_is : (tb : Table) (st : Store) (s : State) (r : ℕ) (ds ts : List ℕ) (w : ℕ) (ps : Parts) (new : ℕ → ℕ) → slice_get s.running.words r ≡ Some w → length ds ≡ length ts → StandAll tb st ts ps → (0 < length ts → (c : Cell) × (R.named s.store w ≡ Some c) × (c.fields ≡ words_of ps)) → (a : AreWritten s.running.words ds (words_of ps) new) → R.taken s r ds ≡ Some a.words
 taken_is tb st s r [] ts w ps new e l g f a =

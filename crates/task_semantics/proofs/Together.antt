@@ -21,6 +21,7 @@ use Rattle.run_loading.proofs.separation.Calling.{known_entry}
 use Rattle.run_loading.proofs.separation.Examples.{reversal_starts}
 use Rattle.task_semantics.specs.Projected.{Renaming, IsThere, IsLikeCell, AreRenamed, IsRenamedTree, IsRenamedFrame, IsProjected, IsSameRun, Begun, AreApart, BeginTogether, AreLoaded}
 use Rattle.task_semantics.specs.ScheduleExample.{cells_of, store_of, both, rev_at, two_tasks, first_task, second_task, tasks_alone}
+use Rattle.run_loading.proofs.tree_refinement.tree_semantics.machine_semantics.cell_code.fip_base.fip_language.Facts.{fits_small as small}
 
 none_released : (n p : ℕ) → one_if_true (slice_get (replicate n false) p) ≡ 0
 none_released zero p = refl
@@ -78,9 +79,6 @@ one_item f own p n w v a b fits h k = record {
   alone = record { word = a; stands = (h, tt, cons_shape, refl, (fits, ((nil_shape, refl, refl), tt))) };
   among = record { word = b; stands = (k, tt, cons_shape, refl, (fits, ((nil_shape, refl, refl), tt))) };
 }
-
-small : (n : ℕ) → n < 2 ^ 63 → FitsSigned w64 (pos n)
-small n h = record { sfits = h }
 
 -- the two tasks, where these are the kinds before the first instruction
 abbrev AtStart : Kinds → Type 0

@@ -7,18 +7,10 @@ use Rattle.run_loading.specs.TraceText.{Loaded, size_at, without}
 use Rattle.cell_trace.specs.declared.trace.LoadedCell.{LoadedCell}
 use Rattle.trace_files.specs.Plain.{plain_cell}
 use Rattle.trace_files.specs.Reading.{AreRising, left, IsLive}
+use Rattle.fip_language.proofs.Facts.{equal_itself as equals, unequal_test as differs, unequal_test_at as differs_at}
+pub use Rattle.fip_language.proofs.Facts.{get_map as to_map, get_within as get_below, map_at_inverse as from_map, replicate_length as falses}
 
 -- ---- places
-
-differs_at : (a b : ℕ) → a ≢ b → (t : Bool) → (a == b) ≡ t → t ≡ false
-differs_at a b n true e = absurd (n (eqb-true a b e))
-differs_at a b n false e = refl
-
-differs : (a b : ℕ) → a ≢ b → (a == b) ≡ false
-differs a b n = differs_at a b n (a == b) refl
-
-equals : (a : ℕ) → (a == a) ≡ true
-equals a = eq-eqb a a refl
 
 above : (least : ℕ) (cs : List Loaded) (k : ℕ) (c : Loaded) → AreRising least cs → slice_get cs k ≡ Some c → least ≤ c.place
 above least [] k c h e = absurd (none-some c e)
@@ -124,21 +116,6 @@ up_rising least end (x ∷ xs) h = (h.0, up_rising (suc x.place) end xs h.1)
 
 -- ---- cells in memory
 
-pub from_map : {A B : Type 0} (f : A → B) (xs : List A) (k : ℕ) (y : B) → slice_get (map f xs) k ≡ Some y → (x : A) × (slice_get xs k ≡ Some x) × (f x ≡ y)
-from_map f [] k y h = absurd (none-some y h)
-from_map f (x ∷ xs) zero y h = (x, refl, same_Some (f x) y h)
-from_map f (x ∷ xs) (suc k) y h = from_map f xs k y h
-
-pub to_map : {A B : Type 0} (f : A → B) (xs : List A) (k : ℕ) (x : A) → slice_get xs k ≡ Some x → slice_get (map f xs) k ≡ Some (f x)
-to_map f [] k x h = absurd (none-some x h)
-to_map f (y ∷ xs) zero x h = ap (λ z. Some (f z)) (same_Some y x h)
-to_map f (y ∷ xs) (suc k) x h = to_map f xs k x h
-
-pub get_below : {A : Type 0} (xs : List A) (k : ℕ) (x : A) → slice_get xs k ≡ Some x → k < length xs
-get_below [] k x h = absurd (none-some x h)
-get_below (y ∷ xs) zero x h = omega arith
-get_below (y ∷ xs) (suc k) x h = let lt = get_below xs k x h in omega (arith, lt)
-
 pub places_differ : (cells : List LoadedCell) (place : ℕ) → ((k : ℕ) (c : LoadedCell) → slice_get cells k ≡ Some c → c.place ≢ place) → Nowhere place (map plain_cell cells)
 places_differ cells place h k l e same = let m = from_map plain_cell cells k l e in h k m.0 m.1 (ap (λ (y : Loaded). y.place) m.2 ∙ same)
 
@@ -158,10 +135,6 @@ live_there cells rs place k l = from_map plain_cell cells k l.cell l.there
 pub cells_left : (cells : List LoadedCell) → left (map plain_cell cells) (replicate (length cells) false) ≡ map plain_cell cells
 cells_left [] = refl
 cells_left (c ∷ cells) = ap (λ xs. plain_cell c ∷ xs) (cells_left cells)
-
-pub falses : (n : ℕ) → length (replicate n false) ≡ n
-falses zero = refl
-falses (suc n) = ap suc (falses n)
 
 -- two cells have two places
 pub places_apart : (cells : List LoadedCell) (k j : ℕ) (a b : LoadedCell) → AreRising 0 (map plain_cell cells) → slice_get cells k ≡ Some a → slice_get cells j ≡ Some b → j ≢ k → a.place ≡ b.place → ⊥

@@ -13,6 +13,7 @@ use Rattle.run_loading.specs.Loading.{unreleased}
 use Rattle.run_loading.specs.TraceText.{Loaded, Trace, size_at, without, left_by, IsChange, AreCells, AreEvents, IsTrace}
 use Rattle.run_loading.specs.Replaying.{place_line, lines_from, store_text, places_from, replayed}
 use Rattle.trace_files.specs.Lines.{plain, place_of, told_line, change_line, latest, told_lines}
+use Rattle.fip_language.proofs.Facts.{some_of_other as has_size, unequal_test as differs, unequal_test_at as differs_at}
 
 -- ---- lists with a front
 
@@ -118,13 +119,6 @@ rising_fresh p [] h = tt
 rising_fresh p (c ∷ cs) h = (h.0.above, rising_fresh (suc c.place) cs h.1)
 
 -- ---- a change of a cell
-
-differs_at : (a b : ℕ) → a ≢ b → (t : Bool) → (a == b) ≡ t → t ≡ false
-differs_at a b n true e = absurd (n (eqb-true a b e))
-differs_at a b n false e = refl
-
-differs : (a b : ℕ) → a ≢ b → (a == b) ≡ false
-differs a b n = differs_at a b n (a == b) refl
 
 abbrev write_shown : ℕ → List ℕ → Shown → Shown
 write_shown tag ws x = record { cell = record { place = x.cell.place; tag = tag; fields = ws }; gone = false }
@@ -368,10 +362,6 @@ without_size q r n (c ∷ live) e = by (without_size q r n live) (c.place == q) 
         (rest.0, ap (λ b. if b then Some (length c.fields) else size_at r live) s ∙ rest.1)
 
 -- ---- an event
-
-has_size : (o : Option ℕ) → o ≢ None → (n : ℕ) × (o ≡ Some n)
-has_size None h = absurd (h refl)
-has_size (Some n) h = (n, refl)
 
 valid : (live : List Loaded) (xs : List Shown) (c : Change) → Fits live xs → IsChange live c → Valid c xs
 unfolding Fits

@@ -16,6 +16,8 @@ use Rattle.trace_files.specs.Plain.{plain_cell, plain_event, plain_trace}
 use Rattle.trace_files.specs.Reading.{AreRising}
 use Rattle.trace_files.proofs.Live.{places_apart}
 use Rattle.trace_files.proofs.Shown.{replay_told}
+use Rattle.fip_language.proofs.Facts.{drop_end as drop_all, unequal_test as differs, unequal_test_at as differs_at}
+pub use Rattle.fip_language.proofs.Facts.{take_past as take_all}
 
 -- ---- fields
 
@@ -39,12 +41,6 @@ lines_more es cs os n c o text more all h k e inv =
     ap₂ (λ t m. t ++ lines_by es (drop m cs) (drop m os)) e (one_more n)
     ∙ append_assoc text (told_line c (numbered es o)) (lines_by es (drop (suc n) cs) (drop (suc n) os))
     ∙ ap (λ t. text ++ t) (sym (lines_next es cs os n c o h k)) ∙ inv
-
-drop_all : {A : Type 0} (xs : List A) (n : ℕ) → length xs ≤ n → drop n xs ≡ []
-drop_all [] zero le = refl
-drop_all [] (suc n) le = refl
-drop_all (x ∷ xs) zero le = absurd (omega arith)
-drop_all (x ∷ xs) (suc n) le = drop_all xs n (omega arith)
 
 pub lines_all : (es : List Event) (cs : List Loaded) (os : List (Option ℕ)) (n : ℕ) (text all : List ℕ) → length cs ≤ n → text ++ lines_by es (drop n cs) (drop n os) ≡ all → text ≡ all
 lines_all es cs os n text all le inv = sym (append-nil text) ∙ ap (λ xs. text ++ lines_by es xs (drop n os)) (sym (drop_all cs n le)) ∙ inv
@@ -83,12 +79,6 @@ last_more es n i p e (Some b) o h old m =
     ∙ sym (latest_more p i (take n es) e None)
     ∙ ap (λ xs. latest p i xs None) (sym (take_more es n e h) ∙ ap (λ m. take m es) (sym (one_more n)))
 
-pub take_all : {A : Type 0} (xs : List A) (n : ℕ) → length xs ≤ n → take n xs ≡ xs
-take_all [] zero le = refl
-take_all [] (suc n) le = refl
-take_all (x ∷ xs) zero le = absurd (omega arith)
-take_all (x ∷ xs) (suc n) le = ap (λ ys. x ∷ ys) (take_all xs n (omega arith))
-
 -- at first there is none
 none_there : (n k : ℕ) (o : Option ℕ) → slice_get (replicate n None) k ≡ Some o → o ≡ None
 none_there zero k o h = absurd (none-some o h)
@@ -113,13 +103,6 @@ not_less a b lt = by (nat_le a b) refl
 
 less_equal : (a b : ℕ) → a ≤ b → nat_le a b ≡ true
 less_equal a b le = le-leb a b le
-
-differs_at : (a b : ℕ) → a ≢ b → (t : Bool) → (a == b) ≡ t → t ≡ false
-differs_at a b n true e = absurd (n (eqb-true a b e))
-differs_at a b n false e = refl
-
-differs : (a b : ℕ) → a ≢ b → (a == b) ≡ false
-differs a b n = differs_at a b n (a == b) refl
 
 set_same : {A : Type 0} (xs : List A) (k : ℕ) (x o : A) → slice_get (slice_set xs k x) k ≡ Some o → (b : A) × (slice_get xs k ≡ Some b) × (o ≡ x)
 set_same [] k x o h = absurd (none-some o h)

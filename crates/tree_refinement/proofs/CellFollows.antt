@@ -43,6 +43,7 @@ use Rattle.separation_bounds.proofs.separation.CellRows.{shape_at}
 use Rattle.tree_refinement.specs.Agreement.{IsWordOf, AreShown}
 use Rattle.tree_refinement.proofs.Values.{used_up_shown, gone_shown, dropped_shown, filled_shown, reworded_shown, stored_shown, agreed_shown, given_shown}
 use Rattle.tree_refinement.proofs.PlainFollows.{Follows, on_is}
+use Rattle.tree_semantics.proofs.machine_semantics.cell_code.fip_base.fip_language.Facts.{some_of}
 
 -- ---- releases
 
@@ -134,10 +135,6 @@ count_dropped q ks hs d there =
     let a = count_gone q ks hs d there in
     let e : owned_by q (at (written ks d Gone)) hs (length ks) ≡ owned_by q (dropped (is_one d) (at ks)) hs (length ks) = sum_same (λ r. owned_uses q (at (written ks d Gone) r) (hs r)) (λ r. owned_uses q (dropped (is_one d) (at ks) r) (hs r)) 0 (length ks) (λ r low high. ap (λ k. owned_uses q k (hs r)) (at_gone ks d there r)) in
     omega arith
-
-some_of : {A : Type 0} (o : Option A) → is_some o ≡ true → (x : A) × (o ≡ Some x)
-some_of None e = absurd (true≢false (sym e))
-some_of (Some x) e = (x, refl)
 
 has_part : (xs : Parts) → 0 < length (words_of xs) → HasPart xs
 has_part NoParts h = absurd (let z : ⊥ = omega arith in z)

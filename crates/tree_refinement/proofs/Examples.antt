@@ -23,6 +23,7 @@ use Rattle.separation_bounds.proofs.separation.Examples.{reversal_starts}
 use Rattle.tree_refinement.specs.Agreement.{IsWordOf, AreWordsOf}
 use Rattle.tree_refinement.specs.Runs.{BeginsWith, IsSameEnd}
 use Rattle.tree_refinement.proofs.Running.{cells_end}
+use Rattle.tree_semantics.proofs.machine_semantics.cell_code.fip_base.fip_language.Facts.{fits_small as small}
 
 abbrev items : Value
 items = item (pos 1) (item (pos 2) empty)
@@ -33,9 +34,6 @@ reversed = item (pos 2) (item (pos 1) empty)
 -- Cons(1, Cons(2, Nil)) and Nil
 abbrev arguments : Parts
 arguments = MoreParts (At 1 1 (MoreParts (PlacedInt (pos 1)) (MoreParts (At 0 1 (MoreParts (PlacedInt (pos 2)) (MoreParts (Bare 0) NoParts))) NoParts))) (MoreParts (Bare 0) NoParts)
-
-small : (n : ℕ) → n < 2 ^ 63 → FitsSigned w64 (pos n)
-small n h = record { sfits = h }
 
 abbrev cons : Shape
 cons = record { name = codes "Cons"; fields = 0 ∷ 2 ∷ [] }

@@ -30,6 +30,7 @@ use Rattle.tree_refinement.specs.Agreement.{AreWordsOf, type_in, Shows, AreShown
 use Rattle.tree_refinement.specs.Runs.{BeginsWith}
 use Rattle.tree_refinement.proofs.Values.{same_parts}
 use Rattle.tree_refinement.proofs.Handing.{param_type}
+use Rattle.tree_semantics.proofs.machine_semantics.cell_code.fip_base.fip_language.Facts.{append_more as append_twice}
 
 credit_type : (cs : List ℕ) (m r : ℕ) → type_in (at (map Credit cs ++ gones m) r) ≡ None
 credit_type [] m r = rw (at_gones m r) refl
@@ -42,10 +43,6 @@ load_shows tb s [] cs (MoreParts x xs) us m r g = absurd g
 load_shows tb s (p ∷ ps) cs NoParts us m r g = absurd g
 load_shows tb s (p ∷ ps) cs (MoreParts x xs) us m zero g = subst (λ o. Shows tb s o (word_of x) (value_of x)) (sym (param_type tb p)) (x, record { word = refl; stands = g.0 }, refl)
 load_shows tb s (p ∷ ps) cs (MoreParts x xs) us m (suc r) g = load_shows tb s ps cs xs us m r g.1
-
-append_twice : (xs ys zs : List ℕ) → (xs ++ ys) ++ zs ≡ xs ++ (ys ++ zs)
-append_twice [] ys zs = refl
-append_twice (x ∷ xs) ys zs = ap (λ us. x ∷ us) (append_twice xs ys zs)
 
 start_same : (c : PlainCode) (before waits : Kinds) (n : ℕ) (kept : List ℕ) (s : State) (t : IsStart c before waits n kept s) (vs : Values) → values_of t.given.arguments ≡ vs → IsSame c.types before waits s (T.entry n vs s.free)
 start_same c before waits n kept s t vs e =

@@ -17,14 +17,11 @@ use Rattle.separation_bounds.specs.code_rules.Leaves.{result_type}
 use Rattle.separation_bounds.specs.separation.Rows.{IsTruth}
 use Rattle.separation_bounds.proofs.separation.Reading.{int_is}
 use Rattle.tree_refinement.specs.Agreement.{IsWordOf}
+use Rattle.tree_semantics.proofs.machine_semantics.cell_code.fip_base.fip_language.Facts.{abs_fits}
 
 fits_signed : (i : ℤ) → fits i ≡ true → FitsSigned w64 i
 fits_signed (pos n) e = record { sfits = ltb-true n (2 ^ 63) e }
 fits_signed (negsuc n) e = record { sfits = ltb-true n (2 ^ 63) e }
-
-abs_fits : (i : ℤ) → FitsSigned w64 i → unsigned_abs i ≤ 2 ^ 63
-abs_fits (pos n) f = let h : n < 2 ^ 63 = f.sfits in omega arith
-abs_fits (negsuc n) f = let h : n < 2 ^ 63 = f.sfits in omega arith
 
 some_abs : (j : ℤ) → same_int j (pos 0) ≡ false → 0 < unsigned_abs j
 some_abs (pos zero) e = absurd (cc)

@@ -39,6 +39,7 @@ use Rattle.separation_bounds.proofs.separation.PlainRows.{goes_on}
 use Rattle.tree_refinement.specs.Agreement.{type_in, Shows, AreShown}
 use Rattle.tree_refinement.proofs.Values.{value_is, means_shows, shows_forget}
 use Rattle.tree_refinement.proofs.PlainFollows.{Follows, follows, on_is}
+use Rattle.tree_semantics.proofs.machine_semantics.cell_code.fip_base.fip_language.Facts.{empty_of_length as no_words}
 
 -- ---- the parts
 
@@ -98,10 +99,6 @@ can_take_is tb s below ks hs n (Owned t cs) w h v e m i =
     one_set tb s t w n cs m.tree h v m.holds p.0 (sym (equal (length (only_fields tb t cs)) n p.1)) m.top m.is (value_is tb s t w m.tree v m.is i)
 
 -- ---- the words
-
-no_words : (vs : List ℕ) → length vs ≡ 0 → vs ≡ []
-no_words [] e = refl
-no_words (v ∷ vs) e = absurd (let z : ⊥ = omega arith in z)
 
 taken_is : (tb : Table) (st : Store) (s : State) (r : ℕ) (ds ts : List ℕ) (w : ℕ) (ps : Parts) (new : ℕ → ℕ) → slice_get s.running.words r ≡ Some w → length ds ≡ length ts → StandAll tb st ts ps → (0 < length ts → (c : Cell) × (R.named s.store w ≡ Some c) × (c.fields ≡ words_of ps)) → (a : AreWritten s.running.words ds (words_of ps) new) → R.taken s r ds ≡ Some a.words
 taken_is tb st s r [] ts w ps new e l g f a =

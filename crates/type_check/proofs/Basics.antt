@@ -13,6 +13,8 @@ use Rattle.type_check.specs.Scope.{Scope, or_else, look, of_binder}
 use Rattle.type_check.specs.World.{World, is_of, plain_type, chosen, field_types}
 use Rattle.type_check.specs.Typing.{bound_by, bound_by_all, Annotated, Bind}
 use Rattle.type_check.specs.Faults.{broken, when, variable_faults, binders_faults, fill_arguments, fill_binders, fill_pattern, fill_patterns}
+use Rattle.fip_language.proofs.Facts.{and_both}
+pub use Rattle.fip_language.proofs.Facts.{equal_true as same_test, or_false_both as none_or, same_number as same}
 
 -- ---- lists and tests
 
@@ -32,12 +34,6 @@ pub not_true : (b : Bool) → not b ≡ false → b ≡ true
 not_true true h = refl
 not_true false h = absurd (cc)
 
-pub same : (m n : ℕ) → (m == n) ≡ true → m ≡ n
-same m n h = grind (arith, nat_tests)
-
-pub same_test : (m n : ℕ) → m ≡ n → (m == n) ≡ true
-same_test m n h = grind (arith, nat_tests)
-
 pub at_most : (m n : ℕ) → nat_lt n m ≡ false → m ≤ n
 at_most m n h = grind (arith, nat_tests)
 
@@ -46,10 +42,6 @@ at_most_test m n h = grind (arith, nat_tests)
 
 pub is_one : (n : ℕ) → (1 == suc (suc n)) ≡ true → ⊥
 is_one n h = let e = same 1 (suc (suc n)) h in omega arith
-
-pub none_or : (a b : Bool) → (a || b) ≡ false → (a ≡ false) × (b ≡ false)
-none_or true b h = absurd (cc)
-none_or false b h = (refl, h)
 
 pub length_map : (ts : List ℕ) → length (map Some ts) ≡ length ts
 length_map [] = refl
@@ -140,10 +132,6 @@ same_results (u ∷ us) (t ∷ ts) e h =
     let b : us ≡ ts = same_results us ts (omega arith) g.1 in cc
 
 -- ---- binders of a let
-
-and_both : (a b : Bool) → (a && b) ≡ true → (a ≡ true) × (b ≡ true)
-and_both true b h = (refl, h)
-and_both false b h = absurd (cc)
 
 some_is : (o : Option ℕ) → is_some o ≡ true → (t : ℕ) × (o ≡ Some t)
 some_is None h = absurd (cc)

@@ -17,6 +17,7 @@ use Rattle.type_check.specs.Faults.{broken, when, variable_faults, count_faults,
 use Rattle.fip_trees.specs.declared.least.Violation.{Violation}
 use Rattle.type_check.proofs.Basics.{same_test, at_most_test, length_map, usable_is, as_many_is, chosen_is, bind_annotated}
 use Rattle.type_check.proofs.Sound.{Fields, Pattern_fields, After, many_known, tuple_found}
+use Rattle.fip_language.proofs.Facts.{and_both, and_false_last as and_false}
 
 -- ---- no faults
 
@@ -107,10 +108,6 @@ none_differ : (ts : List ℕ) → some_differ (map Some ts) ts ≡ false
 none_differ [] = refl
 none_differ (t ∷ ts) = let e = same_test t t refl in rw (e, none_differ ts) refl
 
-and_false : (a b : Bool) → b ≡ false → (a && b) ≡ false
-and_false true b h = h
-and_false false b h = refl
-
 results_fit : (i : ℕ) (p : Place) (us ts : List ℕ) → us ≡ ts → results_faults i p true (map Some us) ts ≡ []
 results_fit i p us ts e = subst (λ us. results_faults i p true (map Some us) ts ≡ []) (sym e) (no_append (when (not (length ts == length (map Some ts))) (broken E34 p i [])) (when ((length ts == length (map Some ts)) && some_differ (map Some ts) ts) (broken E30 p i [])) (no_count (length ts) ts (broken E34 p i []) refl) (no_when ((length ts == length (map Some ts)) && some_differ (map Some ts) ts) (broken E30 p i []) (and_false (length ts == length (map Some ts)) (some_differ (map Some ts) ts) (none_differ ts))))
 
@@ -168,10 +165,6 @@ no_binders_faults i (b ∷ bs) ts = no_binders_faults i bs (others ts)
 annotation_is : (o : Option ℕ) (t : ℕ) → is_some o ≡ true → Annotated o t → o ≡ Some t
 annotation_is None t h g = absurd (cc)
 annotation_is (Some u) t h g = ap (λ (x : ℕ). Some x) g
-
-and_both : (a b : Bool) → (a && b) ≡ true → (a ≡ true) × (b ≡ true)
-and_both true b h = (refl, h)
-and_both false b h = absurd (cc)
 
 annotations_are : (f : Bool) (bs : List Binder) (us : List ℕ) → all_annotated bs ≡ true → Bind f bs us → annotations bs ≡ map Some us
 annotations_are f [] [] h g = refl

@@ -9,10 +9,7 @@ use Rattle.fip_trees.specs.TreeView.{program}
 use Rattle.fip_trees.specs.declared.program.Typed.{Typed}
 use Rattle.type_check.specs.Faults.{fill_instance, filled}
 use Rattle.type_check.specs.World.{world}
-
-as_many : {A B : Type 0} (f : A → B) (xs : List A) → length (map f xs) ≡ length xs
-as_many f [] = refl
-as_many f (x ∷ xs) = ap suc (as_many f xs)
+use Rattle.fip_language.proofs.Facts.{map_length as as_many}
 
 pub stays_sound : (p : Program) → IsSoundProgram p → IsSoundProgram (filled p)
 stays_sound p h =

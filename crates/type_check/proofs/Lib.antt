@@ -12,3 +12,4 @@ pub mod Halves
 pub mod Plains
 pub mod Examples
 pub mod Filling
+pub use Rattle.fip_language.proofs as fip_language

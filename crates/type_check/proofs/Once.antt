@@ -7,6 +7,7 @@ use Rattle.type_check.specs.World.{World}
 use Rattle.type_check.specs.Scope.{Scope}
 use Rattle.type_check.specs.Binders.{entries, all_annotated}
 use Rattle.type_check.specs.Typing.{bound_by, Annotated, Bind, HasType, HaveTypes, Types, TypesBlock}
+use Rattle.fip_language.proofs.Facts.{and_both}
 
 once_argument : (f g : Bool) (w : World) (s : Scope) (a : Argument) (t u : ℕ) → HasType f w s false a t → HasType g w s false a u → t ≡ u
 once_argument f g w s (Variable x n p) t u h k = cc (h, k)
@@ -21,10 +22,6 @@ once_arguments f g w s (MoreArguments a as') [] us h k = absurd h
 once_arguments f g w s (MoreArguments a as') (t ∷ ts) [] h k = absurd k
 once_arguments f g w s (MoreArguments a as') (t ∷ ts) (u ∷ us) h k =
     let x = once_argument f g w s a t u h.0 k.0 in let y = once_arguments f g w s as' ts us h.1 k.1 in cc
-
-and_both : (a b : Bool) → (a && b) ≡ true → (a ≡ true) × (b ≡ true)
-and_both true b h = (refl, h)
-and_both false b h = absurd (cc)
 
 once_annotation : (o : Option ℕ) (t u : ℕ) → is_some o ≡ true → Annotated o t → Annotated o u → t ≡ u
 once_annotation None t u q h k = absurd (cc)

@@ -5,6 +5,8 @@ use Rattle.std.proofs.lemmas.Bool.Decides.{nat_tests}
 use Rattle.type_check.specs.Found.{known, or_found}
 use Rattle.type_check.specs.World.{is_number, narrow, numbered, first_declared, plain_in}
 use Rattle.type_check.specs.Plain.{nothing, nothing_of, put_first, put_plain}
+use Rattle.fip_language.proofs.Facts.{same_number as same_is}
+pub use Rattle.fip_language.proofs.Facts.{get_any as index_same}
 
 pub put_here : (fs : List (Option ℕ)) (d : ℕ) (t x : Option ℕ) → d < length fs → set fs d (or_found (get_or fs d x) t) ≡ put_first fs d t
 put_here [] d t x h = absurd (omega arith)
@@ -80,9 +82,6 @@ either_first : (a b c : Option ℕ) → or_found (or_found a b) c ≡ or_found a
 either_first (Some t) b c = refl
 either_first None b c = refl
 
-same_is : (e d : ℕ) → (e == d) ≡ true → e ≡ d
-same_is e d h = grind (arith, nat_tests)
-
 -- one type more, at the number of the data type that declares it
 plain_here : (b : Bool) (arities rest : List ℕ) (fs : List (Option ℕ)) (n d : ℕ) → is_number (numbered arities d) 0 ≡ b → length fs ≡ suc (length arities) →
     or_found (known (slice_get (if b then put_first fs d (narrow n) else fs) d)) (if b then first_declared rest (suc n) d else None) ≡ or_found (known (slice_get fs d)) (if b then or_found (narrow n) (first_declared rest (suc n) d) else None)
@@ -137,8 +136,3 @@ if_none false = refl
 -- all types are seen
 pub will_end : (arities : List ℕ) (n : ℕ) (fs : List (Option ℕ)) (d : ℕ) → Will arities [] n fs d ≡ known (slice_get fs d)
 will_end arities n fs d = ap (or_found (known (slice_get fs d))) (if_none (is_number (numbered arities d) 0)) ∙ or_none (known (slice_get fs d))
-
-pub index_same : (xs : List ℕ) (i a b : ℕ) → i < length xs → get_or xs i a ≡ get_or xs i b
-index_same [] i a b h = absurd (omega arith)
-index_same (x ∷ xs) zero a b h = refl
-index_same (x ∷ xs) (suc i) a b h = index_same xs i a b (omega arith)

@@ -6,6 +6,7 @@ use Rattle.type_check.specs.Scope.{or_else, look}
 use Rattle.type_check.specs.Trail.{step_entry, IsTable, IsTrail}
 use Rattle.type_check.specs.declared.scope.Entry.{Entry}
 use Rattle.type_check.specs.declared.scope.Step.{Step}
+use Rattle.fip_language.proofs.Facts.{less_of_not as room, suc_same, suc_zero, zero_suc}
 
 last_one : (b : Bool) (t : Option ℕ) → or_else None (if b then Some t else None) ≡ (if b then Some t else None)
 last_one b t = refl
@@ -18,15 +19,6 @@ outer false c t u o = refl
 pub look_end : (es : List Entry) (e : Entry) (x : ℕ) → look (es ++ e ∷ []) x ≡ (if e.number == x then Some e.ty else look es x)
 look_end [] e x = refl
 look_end (f ∷ es) e x = ap (λ o. or_else o (if f.number == x then Some f.ty else None)) (look_end es e x) ∙ outer (e.number == x) (f.number == x) e.ty f.ty (look es x)
-
-suc_same : (a b : ℕ) → (suc a == suc b) ≡ (a == b)
-suc_same a b = grind (arith, nat_tests)
-
-zero_suc : (a : ℕ) → (0 == suc a) ≡ false
-zero_suc a = grind (arith, nat_tests)
-
-suc_zero : (a : ℕ) → (suc a == 0) ≡ false
-suc_zero a = grind (arith, nat_tests)
 
 pub get_set : (os : List (Option (Option ℕ))) (x y : ℕ) (q : Option (Option ℕ)) → x < length os → get_or (set os x q) y None ≡ (if x == y then q else get_or os y None)
 get_set [] x y q h = absurd (omega arith)
@@ -57,9 +49,6 @@ picked es e = look_end es e e.number ∙ (let t : (e.number == e.number) ≡ tru
 -- a number in scope has room
 pub has_room : (os : List (Option (Option ℕ))) (es : List Entry) (e : Entry) → IsTable os (es ++ e ∷ []) → (length os ≤ e.number → ⊥)
 has_room os es e h l = let a = past os e.number l in let b = h e.number in let c = picked es e in absurd (cc)
-
-room : (m n : ℕ) → (n ≤ m → ⊥) → m < n
-room m n h = grind arith
 
 pub in_room : (os : List (Option (Option ℕ))) (es : List Entry) (e : Entry) → IsTable os (es ++ e ∷ []) → e.number < length os
 in_room os es e h = room e.number (length os) (has_room os es e h)

@@ -12,14 +12,11 @@ use Rattle.match_cover.specs.fip_language.Matching.{same_int}
 use Rattle.match_cover.specs.fip_language.Arithmetic.{Operated, Is, Fails, fits, int_or_overflow, truth, operate}
 use Rattle.type_check.specs.World.{result_of}
 use Rattle.type_safety.specs.Formed.{IsBare}
+use Rattle.type_check.proofs.fip_language.Facts.{abs_fits}
 
 fits_signed : (i : ℤ) → fits i ≡ true → FitsSigned w64 i
 fits_signed (pos n) e = record { sfits = ltb-true n (2 ^ 63) e }
 fits_signed (negsuc n) e = record { sfits = ltb-true n (2 ^ 63) e }
-
-abs_fits : (i : ℤ) → FitsSigned w64 i → unsigned_abs i ≤ 2 ^ 63
-abs_fits (pos n) f = let h : n < 2 ^ 63 = f.sfits in omega arith
-abs_fits (negsuc n) f = let h : n < 2 ^ 63 = f.sfits in omega arith
 
 some_abs : (j : ℤ) → same_int j (pos 0) ≡ false → 0 < unsigned_abs j
 some_abs (pos zero) e = absurd (cc)

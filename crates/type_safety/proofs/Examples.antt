@@ -12,9 +12,7 @@ use Rattle.instance_semantics.specs.Example.{rev, inc, number, lists, nil_patter
 use Rattle.type_safety.specs.Formed.{IsFormed}
 use Rattle.type_safety.specs.Exhaustive.{IsExhaustive, some_matches}
 use Rattle.type_safety.specs.Soundness.{IsWellTyped}
-
-one_fits : (n : ℕ) → n < 2 → FitsSigned w64 (pos n)
-one_fits n h = fits_signed_from_abs w64 (pos n) (omega arith)
+use Rattle.type_check.proofs.fip_language.Facts.{fits_bit as one_fits}
 
 formed : IsFormed lists
 formed = record {

@@ -15,6 +15,8 @@ use Rattle.value_text.specs.Building.{IsMade, IsBuilt, IsCrediting}
 use Rattle.value_text.proofs.Taken.{Made, made, taken_on, room_for, hold_all_on, one_here, one_other, unlike_of, words_same, words_zero, words_suc, times_suc}
 use Rattle.value_text.proofs.Order.{lies_credited, lies_credit}
 use Rattle.value_text.proofs.Built.{taken_same}
+use Rattle.fip_language.proofs.Facts.{times_minus_one as top_one, times_minus_zero as top_zero}
+pub use Rattle.fip_language.proofs.Facts.{take_whole}
 
 -- places and sizes in rows
 pub count_append : (q : ℕ) (xs ys : List ℕ) → count q (xs ++ ys) ≡ count q xs + count q ys
@@ -123,12 +125,6 @@ four p a b x y q r s e f g h = omega (arith, e, f, g, h)
 pub sum_join : (n : ℕ) (f g : ℕ → ℕ) → words_up_to n (λ k. f k + g k) (λ _. 0) ≡ words_up_to n f (λ _. 0) + words_up_to n g (λ _. 0)
 sum_join zero f g = let a = words_zero (λ k. f k + g k) (λ _. 0) in let b = words_zero f (λ _. 0) in let c = words_zero g (λ _. 0) in omega (arith, a, b, c)
 sum_join (suc n) f g = four (words_up_to (suc n) f (λ _. 0) + words_up_to (suc n) g (λ _. 0)) (words_up_to n f (λ _. 0)) (words_up_to n g (λ _. 0)) ((suc n + 1) * (f (suc n) - 0)) ((suc n + 1) * (g (suc n) - 0)) (words_up_to (suc n) f (λ _. 0)) (words_up_to (suc n) g (λ _. 0)) (words_up_to (suc n) (λ k. f k + g k) (λ _. 0)) refl (words_suc n f (λ _. 0)) (words_suc n g (λ _. 0)) (words_suc n (λ k. f k + g k) (λ _. 0) ∙ ap₂ (λ a x. a + x) (sum_join n f g) (times_sum (suc n + 1) (f (suc n)) (g (suc n))))
-
-top_zero : (a x : ℕ) → x ≡ 0 → a * (x - 0) ≡ 0
-top_zero a x e = ap (λ x. a * x) (let z : x - 0 ≡ 0 = omega (arith, e) in z) ∙ mul-zero a
-
-top_one : (a x : ℕ) → x ≡ 1 → a * (x - 0) ≡ a
-top_one a x e = ap (λ x. a * x) (let z : x - 0 ≡ 1 = omega (arith, e) in z) ∙ mul-one a
 
 no_words : (n s : ℕ) → n < s → words_up_to n (λ k. one_at k s) (λ _. 0) ≡ 0
 no_words zero s l = words_zero (λ k. one_at k s) (λ _. 0)
@@ -282,9 +278,3 @@ sizes_on first old new ks i s lt is sizes room h one others k le = by_size (nat_
       let a = h k le in
       let q = more in
       omega (arith, n, a, q, o)
-
-pub take_whole : (n : ℕ) (xs : List ℕ) → length xs ≤ n → take n xs ≡ xs
-take_whole zero [] l = refl
-take_whole zero (x ∷ xs) l = absurd (omega arith)
-take_whole (suc n) [] l = refl
-take_whole (suc n) (x ∷ xs) l = ap (λ xs. x ∷ xs) (take_whole n xs (omega arith))

@@ -15,6 +15,7 @@ use Rattle.value_text.specs.Scan.{runs, is_name_byte, begins_bytes, some_begins,
 use Rattle.value_text.proofs.Text.{lookup_begins}
 use Rattle.value_text.proofs.Tables.{is_table, found_shape, name_byte, same_bytes, upper_bytes}
 use Rattle.value_text.proofs.Runs.{runs_alike, stops, ends_short, pass_filled, over_filled, is_blank_char, blank_char}
+use Rattle.fip_language.proofs.Facts.{and_false}
 
 -- fronts
 pub begins_more : (text other : List ℕ) (i : ℕ) → i < length text → i < length other → get_or text i 0 ≡ get_or other i 0 → begins_bytes (take i text) other ≡ true → begins_bytes (take (i + 1) text) other ≡ true
@@ -24,10 +25,6 @@ begins_more text other i l m e h = let n : i + 1 ≡ suc i = omega arith in ap (
   on (t ∷ ts) [] i l m e h = absurd (omega arith)
   on (t ∷ ts) (d ∷ ds) zero l m e h = ap (λ b. b && true) (eq-eqb t d e)
   on (t ∷ ts) (d ∷ ds) (suc i) l m e h = let k = and_parts (nat_eq t d) (begins_bytes (take i ts) ds) h in ap₂ (λ a b. a && b) k.0 (on ts ds i (omega arith) (omega arith) e k.1)
-
-and_false : (a : Bool) → (a && false) ≡ false
-and_false true = refl
-and_false false = refl
 
 pub begins_short : (text other : List ℕ) (i : ℕ) → i < length text → length other ≤ i → begins_bytes (take (suc i) text) other ≡ false
 begins_short [] other i l m = absurd (omega arith)

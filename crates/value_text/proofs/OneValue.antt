@@ -41,15 +41,13 @@ use Rattle.value_text.specs.declared.read.Refused.{Refused}
 use Rattle.value_text.specs.declared.read.Refused.TheVariants as R
 use Rattle.value_text.proofs.Taken.{words_same}
 use Rattle.value_text.proofs.Whole.{accepted_same, nothing_left}
+pub use Rattle.fip_language.proofs.Facts.{reflected as is_whole}
 
 -- ---- where the reader is
 
 -- what is told of a cursor is so
 pub not_whole : {P : Type 0} → (b : Bool) → IsTrue b ↔ P → b ≡ false → P → ⊥
 not_whole b h e p = let t = h.1 p in cc
-
-pub is_whole : {P : Type 0} → (b : Bool) → IsTrue b ↔ P → b ≡ true → P
-is_whole b h e = h.0 e
 
 -- reading goes on from a spot that isn't whole
 pub open_goes : (o : Outline) (s : Spot) → o ≡ outline_at s → ((o.next ≡ None) × (o.frames ≡ []) → ⊥) → GoesOn s

@@ -10,11 +10,7 @@ use Rattle.cell_store.specs.Cells.{Cells, cell_at}
 use Rattle.value_text.specs.Standing.{Stands}
 use Rattle.value_text.specs.Printing.{Task, printed_tail, AreLast, Prints, Printing}
 use Rattle.value_text.proofs.Printing.{IsNode, node_of, node_last, node_shape, bare_node, cell_node, even_bare, odd_cell}
-
--- whether a list is empty
-pub some_of : (xs : List ℕ) (b : Bool) → b ≡ (length xs == 0) → b ≡ false → 0 < length xs
-some_of [] b e f = cc
-some_of (x ∷ xs) b e f = omega arith
+pub use Rattle.fip_language.proofs.Facts.{nonempty_length as some_of}
 
 pub none_of : (xs : List ℕ) (b : Bool) → b ≡ (length xs == 0) → b ≡ true → length xs ≡ 0
 none_of xs b e f = eqb-true (length xs) 0 (sym e ∙ f)

@@ -17,6 +17,8 @@ use Rattle.value_text.proofs.Exact.{printed_reads}
 use Rattle.value_text.specs.declared.print.Row.{Row}
 use Rattle.value_text.specs.Standing.{Stands, StandAll}
 use Rattle.value_text.specs.Printing.{Task, Whole, Fields, Close, fields_of, closes, row_tasks, last_first, printed_tail, AreLast, Prints, Printing}
+use Rattle.fip_language.proofs.Facts.{drop_cons, none_some as none-some-is}
+pub use Rattle.fip_language.proofs.Facts.{get_at as index_is, get_none as past_is, nonempty as some_rows}
 
 closes_on : (n : ℕ) (ts us : List Task) → closes n ts ++ us ≡ closes n (ts ++ us)
 closes_on zero ts us = refl
@@ -71,10 +73,6 @@ same_row (k ∷ ks) (j ∷ js) rest p q ts us l e =
 pub closed_row : (rs : List Row) (n : ℕ) (r : Row) → suc n ≡ length rs → r ≡ get_or rs n r → length r.types.now ≡ 0 → last_first rs ≡ closes (suc r.behind) (last_first (take n rs))
 closed_row rs n r l e none = top_first rs n r l e ∙ ap (λ t. t ∷ closes r.behind (last_first (take n rs))) (no_fields r.types.now r.place none)
 
-pub some_rows : (n : ℕ) (b : Bool) → b ≡ (n == 0) → b ≡ false → 0 < n
-some_rows zero b e f = cc
-some_rows (suc n) b e f = omega arith
-
 pub none_left : (rs : List Row) → length rs ≡ 0 → last_first rs ≡ []
 none_left [] e = last_empty
 none_left (r ∷ rs) e = absurd (omega arith)
@@ -85,17 +83,6 @@ bits_same (pos n) (pos m) f g e = ap pos e
 bits_same (pos n) (negsuc m) f g e = absurd (omega (arith, f, g, e))
 bits_same (negsuc n) (pos m) f g e = absurd (omega (arith, f, g, e))
 bits_same (negsuc n) (negsuc m) f g e = let z : n ≡ m = omega (arith, f, g, e) in ap negsuc z
-
--- what an index gives
-pub index_is : {A : Type 0} (xs : List A) (i : ℕ) (x : A) → i < length xs → x ≡ get_or xs i x → slice_get xs i ≡ Some x
-index_is [] i x l e = absurd (omega arith)
-index_is (y ∷ xs) zero x l e = ap Some (sym e)
-index_is (y ∷ xs) (suc i) x l e = index_is xs i x (omega arith) e
-
-pub past_is : {A : Type 0} (xs : List A) (i : ℕ) → length xs ≤ i → slice_get xs i ≡ None
-past_is [] i l = refl
-past_is (x ∷ xs) zero l = absurd (omega arith)
-past_is (x ∷ xs) (suc i) l = past_is xs i (omega arith)
 
 pub shapes_past : (tb : Table) (t : ℕ) → length tb ≤ t → shapes tb t ≡ []
 shapes_past [] t l = refl
@@ -128,13 +115,6 @@ stand_length tb cs [] (MoreParts x xs) h = absurd h
 stand_length tb cs (k ∷ ks) NoParts h = absurd h
 stand_length tb cs (k ∷ ks) (MoreParts x xs) h = ap suc (stand_length tb cs ks xs h.1)
 
--- the last fields of a cell
-drop_cons : (n : ℕ) (xs : List ℕ) (y : ℕ) (ys : List ℕ) → drop n xs ≡ y ∷ ys → (slice_get xs n ≡ Some y) × (drop (suc n) xs ≡ ys) × (n < length xs)
-drop_cons zero [] y ys e = cc
-drop_cons zero (x ∷ xs) y ys e = let a : x ≡ y = cc in let b : xs ≡ ys = cc in (ap Some a, b, omega arith)
-drop_cons (suc n) [] y ys e = cc
-drop_cons (suc n) (x ∷ xs) y ys e = let h = drop_cons n xs y ys e in (h.0, h.1, (let z = h.2 in omega (arith, z)))
-
 last_fewer : (tb : Table) (cs : Cells) (k : ℕ) (ks : List ℕ) (p : ℕ) (c : Cell) (x : Placed) (xs : Parts) → AreLast tb cs (k ∷ ks) p c (MoreParts x xs) → (slice_get c.fields (length c.fields - suc (length ks)) ≡ Some (word_of x)) × AreLast tb cs ks p c xs × (suc (length ks) ≤ length c.fields)
 last_fewer tb cs k ks p c x xs h =
     let d = drop_cons (length c.fields - suc (length ks)) c.fields (word_of x) (words_of xs) h.words in
@@ -150,9 +130,6 @@ pub last_within : (tb : Table) (cs : Cells) (types : List ℕ) (p : ℕ) (c : Ce
 last_within tb cs [] p c xs l h = absurd (omega arith)
 last_within tb cs (k ∷ ks) p c NoParts l h = absurd h.stand
 last_within tb cs (k ∷ ks) p c (MoreParts x xs) l h = (last_fewer tb cs k ks p c x xs h).2
-
-none-some-is : {A : Type 0} (x : A) → None ≡ Some x → ⊥
-none-some-is x e = cc
 
 -- fields that are left, or the )
 fields_print : (tb : Table) (cs : Cells) (types : List ℕ) (p : ℕ) (c : Cell) (xs : Parts) (ts : List Task) (rest : List ℕ) → AreLast tb cs types p c xs → Prints tb cs ts rest → Prints tb cs (fields_of types p ∷ ts) (printed_more tb types (values_of xs) rest)

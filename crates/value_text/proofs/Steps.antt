@@ -14,6 +14,8 @@ use Rattle.value_text.specs.Machine.{snoc, Around, Alone, Lines, Field, State, W
 use Rattle.value_text.specs.Scan.{runs}
 use Rattle.value_text.specs.Reading.{Pending, Outline, pending, pending_rows, Spot, Before, Behind, Nowhere, state_at, rows_of, lines_of, outline_at, spot_of, GoesOn, Stepped}
 use Rattle.fip_base.specs.TableView.{fields_at}
+use Rattle.fip_language.proofs.Facts.{cons_head as head_same, cons_tail as tail_same}
+pub use Rattle.fip_language.proofs.Facts.{nonempty as some_open}
 
 pub rows_push : (fs : List Frame) (f : Frame) → pending_rows (fs ++ f ∷ []) ≡ pending f ∷ pending_rows fs
 unfolding pending_rows
@@ -44,12 +46,6 @@ rows_empty = refl
 count_join : (xs : Values) (v : Value) → count_of (snoc xs v) ≡ suc (count_of xs)
 count_join End v = refl
 count_join (More x xs) v = ap suc (count_join xs v)
-
-head_same : {A : Type 0} (x y : A) (xs ys : List A) → x ∷ xs ≡ y ∷ ys → x ≡ y
-head_same x y xs ys e = cc
-
-tail_same : {A : Type 0} (x y : A) (xs ys : List A) → x ∷ xs ≡ y ∷ ys → xs ≡ ys
-tail_same x y xs ys e = cc
 
 abbrev pub outlined : Option ℕ → List Pending → List ℕ → Outline
 outlined n f l = record { next = n; frames = f; lines = l }
@@ -228,10 +224,6 @@ begins_none types frames e f = ap₂ (λ f t. outlined None f t) f e ∙ ap (λ 
 
 pub none_open : (n : ℕ) (b : Bool) → b ≡ (n == 0) → b ≡ true → n ≡ 0
 none_open n b e f = eqb-true n 0 (sym e ∙ f)
-
-pub some_open : (n : ℕ) (b : Bool) → b ≡ (n == 0) → b ≡ false → 0 < n
-some_open zero b e f = cc
-some_open (suc n) b e f = omega arith
 
 pub none_empty : (n : ℕ) (b : Bool) → b ≡ (n == 0) → n ≡ 0 → b ≡ true
 none_empty n b e z = e ∙ ap (λ n. n == 0) z

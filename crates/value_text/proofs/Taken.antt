@@ -13,6 +13,7 @@ use Rattle.cell_store.proofs.Freed.{cell_at_set, cell_at_other, flag_set, flag_o
 use Rattle.value_text.specs.Loaded.{live_in, live, words_up_to, free_in}
 use Rattle.value_text.specs.Standing.{Holds, HoldAll}
 use Rattle.value_text.specs.Building.{IsMade, IsTaken}
+use Rattle.fip_language.proofs.Facts.{length_set as length-put}
 
 -- one place or another
 pub one_here : (p : ℕ) → one_at p p ≡ 1
@@ -78,11 +79,6 @@ past_dead (o ∷ cs) r = past_dead cs r
 gap_free : (k n : ℕ) → count_free k (replicate n None) (replicate n false) ≡ 0
 gap_free k zero = refl
 gap_free k (suc n) = gap_free k n
-
-length-put : {A : Type 0} (xs : List A) (p : ℕ) (x : A) → length (slice_set xs p x) ≡ length xs
-length-put [] p x = refl
-length-put (y ∷ xs) zero x = refl
-length-put (y ∷ xs) (suc p) x = ap suc (length-put xs p x)
 
 -- a released cell served, or the cell took its words
 abbrev pub Served : Loading → Loading → Cell → Type 0

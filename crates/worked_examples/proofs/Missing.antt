@@ -14,6 +14,7 @@ use Rattle.source_report.specs.match_knowledge.Known.{Known, Open, Is, Knowns, N
 use Rattle.source_report.specs.match_cover.Missing.{open_fields, Before, MayBe, IsMissingOf}
 use Rattle.source_report.specs.instance_semantics.Example.{lists, a_shape}
 use Rattle.worked_examples.specs.Matches.{two_or_none, just_one, one_or_two, literal}
+use Rattle.source_report.proofs.cell_lower.fip_language.Facts.{both_left as both_hold}
 
 small_fits : (n : ℕ) → n < 9 → FitsSigned w64 (pos n)
 small_fits n h = fits_signed_from_abs w64 (pos n) (omega arith)
@@ -26,10 +27,6 @@ one_zero = Node 1 (More (Int (pos 0)) (More (Node 0 End) End))
 
 same_shape : (s r : Shape) → Some s ≡ Some r → s ≡ r
 same_shape s r h = cc
-
-both_hold : (a b : Bool) → (a && b) ≡ true → a ≡ true
-both_hold true b h = refl
-both_hold false b h = h
 
 not_nil : (c : ℕ) (b : Bool) → ((0 == suc c) && b) ≡ true → ⊥
 not_nil c b h =

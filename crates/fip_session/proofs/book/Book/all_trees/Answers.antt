@@ -3,10 +3,7 @@ use Rattle.fip_language.specs.Store.{Placed, word_of}
 use Rattle.fip_machine.specs.machine_cells.Small.{store_of}
 use Rattle.fip_session.proofs.Sweeping.{Entries, Gathering, gathering_starts, gathering_few, gathering_on, gathering_ends, is_lodged}
 use Rattle.fip_session.proofs.book.Book.all_trees.Goals as goal
-
-is_whole : (b : Bool) → (b ≡ false → ⊥) → b ≡ true
-is_whole true h = refl
-is_whole false h = absurd (h refl)
+use Rattle.fip_language.proofs.Facts.{true_of_not_false as is_whole}
 
 pub loop-entry-init : goal.loop-entry-init
 loop-entry-init c = λ small ls finds distinct stand apart.

@@ -23,6 +23,7 @@ use Rattle.fip_trees.specs.Tree.{MorePatterns, Expression, Give, Tuple, Operatio
 use Rattle.fip_trees.specs.Tree.{Last, Let}
 use Rattle.fip_trees.specs.TreeView.{Case}
 use Rattle.fip_trees.specs.Tree.{Clauses, NoClauses, MoreClauses, Instance, Program}
+pub use Rattle.fip_language.specs.Kinds.{is_ruled}
 
 -- a type with cells that has too many constructors
 abbrev pub is_wide : Table → ℕ → Bool
@@ -81,11 +82,6 @@ abbrev mutual
 abbrev pub any_wide_param : Table → List Param → Bool
 any_wide_param tb [] = false
 any_wide_param tb (p ∷ ps) = is_wide tb p.ty || any_wide_param tb ps
-
-abbrev pub is_ruled : FunKind → Bool
-is_ruled Fip = true
-is_ruled Fbip = true
-is_ruled Fun = false
 
 -- the registers of an instance, as its program's groups tell them; none where they tell nothing
 abbrev pub registers_of : Option Member → ℕ

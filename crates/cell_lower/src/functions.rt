@@ -20,7 +20,7 @@ ghost use Rattle.lower_frame.specs.code_rules.Codes.{plain};
 ghost use Rattle.lower_frame.specs.Spelled.{AreSpelt, IsFunctionSpelt};
 
 use crate::copies::table_of;
-use crate::limits::{is_ruled, note_limits};
+use crate::limits::note_limits;
 use crate::lowerer::{Context, Lowerer, Target};
 use cell_code::{Code, Function};
 use fip_base::plain::{Name, NoMemory};
@@ -156,7 +156,7 @@ fn add_function(
         (is_ruled instance.now.kind) (V.instance_of instance.now) functions.old.items functions.new.items) }
     ensures spelt { OnOk result (AreSpelt functions.old.items → AreSpelt functions.new.items) }
 {
-    if is_ruled(instance.kind) {
+    if instance.kind.is_ruled() {
         let registers = groups.registers_of(number).ok_or(NoMemory)?;
         let function = function_of(context, instance, needs, number, registers)?;
         functions.push(function)?;
@@ -172,7 +172,7 @@ fn numbers_of(alloc: Global, program: &Program) -> Result<Vec<Option<u32>>, NoMe
     let mut numbers = Vec::new(alloc);
     let mut next: u32 = 0;
     for instance in &program.instances {
-        if is_ruled(instance.kind) {
+        if instance.kind.is_ruled() {
             numbers.push(Some(next))?;
             next = next.checked_add(1).ok_or(NoMemory)?;
         } else {

@@ -48,22 +48,11 @@ fn note_instance(
     Ok(())
 }
 
-/// Whether an instance of this kind isn't plain.
-pub fn is_ruled(kind: FunKind) -> bool
-    ensures { result ≡ L.is_ruled kind }
-{
-    match kind {
-        FunKind::Fip => true,
-        FunKind::Fbip => true,
-        FunKind::Fun => false,
-    }
-}
-
 // Whether an instance with so many registers breaks the rule.
 fn exceeds(types: &TypeTable, registers: usize, instance: &Instance) -> bool
     ensures { result ≡ L.exceeds types.now registers (V.instance_of instance.now) }
 {
-    is_ruled(instance.kind) && (registers > MOST_REGISTERS || matches_wide(types, instance))
+    instance.kind.is_ruled() && (registers > MOST_REGISTERS || matches_wide(types, instance))
 }
 
 // Whether an instance has a match, and a type with cells that has too many constructors.

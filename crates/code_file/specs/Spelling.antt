@@ -5,6 +5,7 @@ use Rattle.std.specs.Prelude.{if◌then◌else◌, codes, List, [], ◌∷◌, �
 use Rattle.std.specs.Int.{w16, w32, w64, to_be_bytes}
 use Rattle.std.specs.Str.{bytes_eq}
 use Rattle.fip_language.specs.Character.{is_upper_name, are_name_bytes}
+pub use Rattle.fip_language.specs.Character.{is_lower, is_keyword}
 
 -- one text and then another; none where one of them is none
 infixr 10 ◌+++◌
@@ -42,17 +43,6 @@ four n = only (nat_lt n 4294967296) (Some (to_be_bytes w32 n))
 unfoldable pub eight : ℤ → Option (List ℕ)
 eight (pos n) = only (nat_lt n (2 ^ 63)) (Some (to_be_bytes w64 n))
 eight (negsuc n) = only (nat_lt n (2 ^ 63)) (Some (to_be_bytes w64 (2 ^ 64 - suc n)))
-
--- a small letter
-abbrev pub is_lower : ℕ → Bool
-is_lower b = nat_le 97 b && nat_le b 122
-
--- a word of the language, which names nothing
-abbrev pub is_keyword : List ℕ → Bool
-is_keyword text =
-    bytes_eq text (codes "data") || bytes_eq text (codes "fip") || bytes_eq text (codes "fbip")
-    || bytes_eq text (codes "fun") || bytes_eq text (codes "match") || bytes_eq text (codes "let")
-    || bytes_eq text (codes "if") || bytes_eq text (codes "else") || bytes_eq text (codes "int")
 
 -- a function's name: a small letter, and then letters, digits and _, but no keyword; or empty
 abbrev pub is_function_name : List ℕ → Bool

@@ -10,10 +10,11 @@ ghost use Rattle.code_file.specs.declared.error.ReadStop.TheVariants.{Left};
 ghost use Rattle.fip_language.specs.Character.{is_upper};
 
 use crate::error::ReadStop;
-use crate::names::{is_between, is_keyword, is_name_byte, is_upper, may_follow};
+use crate::names::{is_between, may_follow};
 use crate::tags::NO_REGISTER;
 use cell_code::Registers;
 use fip_base::plain::{Name, Types};
+use fip_language::characters::{is_keyword, is_name_byte, is_upper};
 use std::alloc::Global;
 use std::marker::Model;
 

@@ -10,6 +10,7 @@ use Rattle.cell_code.specs.declared.code.Function.{Function}
 use Rattle.cell_code.specs.declared.code.Instr.{Instr}
 use Rattle.cell_code.specs.declared.kind.Kind.{Kind}
 use Rattle.cell_code.specs.declared.kind.Label.{Label}
+pub use Rattle.cell_code.specs.fip_language.Kinds.{is_fip}
 
 -- what a function says of its registers before an instruction, on whatever way that is reached
 pub record LabelMap : Type 0 where
@@ -74,11 +75,6 @@ results_of (Some f) = f.results
 -- the types of the results of function g
 abbrev pub results : PlainCode → ℕ → List ℕ
 results c g = results_of (function_at c g)
-
-abbrev pub is_fip : FunKind → Bool
-is_fip Fip = true
-is_fip Fbip = false
-is_fip Fun = false
 
 abbrev pub is_weak : Option PlainFunction → Bool
 is_weak None = false

@@ -75,7 +75,7 @@ fn behind_line(
         AreDerived (V.program program.now) number (V.instance_of instance.now ∷ ds)
         (drop place (map entry lines.now)) → ⊥) }
 {
-    if !is_ruled(instance.kind) {
+    if !instance.kind.is_ruled() {
         return Some(place);
     }
     match line_at(lines, place) {
@@ -95,17 +95,6 @@ fn line_at<'a>(lines: &'a [Line], place: usize) -> Option<&'a Line>
     ensures inside { IfSome result (λ _. place < length lines.now) }
 {
     lines.get(place)
-}
-
-// Whether an instance of this kind has a line.
-fn is_ruled(kind: FunKind) -> bool
-    ensures ruled { result ≡ is_ruled kind }
-{
-    match kind {
-        FunKind::Fip => true,
-        FunKind::Fbip => true,
-        FunKind::Fun => false,
-    }
 }
 
 // Whether a line is that of an instance, and derives it.

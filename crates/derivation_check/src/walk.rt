@@ -23,17 +23,6 @@ pub struct Found<'a> {
     pub first: usize,
 }
 
-// Whether an instance is fip.
-fn is_fip(kind: FunKind) -> bool
-    ensures fip { result ≡ is_fip kind }
-{
-    match kind {
-        FunKind::Fip => true,
-        FunKind::Fbip => false,
-        FunKind::Fun => false,
-    }
-}
-
 // Whether a rule is WEAKEN.
 fn is_weaken(rule: RuleName) -> bool
     ensures weakens { result ≡ is_weaken rule }
@@ -89,7 +78,7 @@ fn below(nodes: &[Node], place: usize, kind: FunKind, next: usize) -> Option<usi
         if !is_weaken(node.rule) {
             return Some(place);
         }
-        if is_fip(kind) {
+        if kind.is_fip() {
             return None;
         }
         if !leaves(node, nodes, place + 1, next) {

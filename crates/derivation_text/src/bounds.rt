@@ -1,14 +1,6 @@
 // Numbers within bounds, digit by digit.
 ghost use Rattle.std.specs.Prelude.{◌≡◌, ◌+◌, ◌*◌, ◌<◌, ◌≤◌, ◌^◌};
-ghost use Rattle.fip_language.specs.Character.{is_digit};
 ghost use Rattle.derivation_text.specs.Machine.{reaches, begins};
-
-/// Whether a byte is a digit.
-pub fn is_digit(byte: u8) -> bool
-    ensures { result ≡ is_digit byte }
-{
-    (b'0'..=b'9').contains(&byte)
-}
 
 /// Whether a number from the least one to the greatest is written with the digits of this one first. So of those from
 /// 20 to 450 some begin with 2 and with 40, and none begins with 1 and two digits more.

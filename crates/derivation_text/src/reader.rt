@@ -10,11 +10,12 @@ ghost use Rattle.derivation_text.specs.Machine.{act_name, to_credits, act_variab
 ghost use Rattle.derivation_text.specs.Machine.{pass_size, pass_count, act_node, act_head, step, start, final, behind_first};
 ghost use Rattle.derivation_text.specs.Reading.{lines_made, Steps};
 
-use crate::bounds::{begins, is_digit};
+use crate::bounds::begins;
 use crate::error::ByteError;
 use crate::rules::{rule_at, rule_text};
 use crate::spot::Spot;
 use derivation_trees::{Builder, Credit, Line, RuleName};
+use fip_language::characters::is_digit;
 use fip_language::limits::MOST_FIELDS;
 use std::alloc::Global;
 use std::marker::Model;

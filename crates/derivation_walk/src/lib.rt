@@ -13,5 +13,5 @@ mod uses;
 pub use context::Context;
 pub use error::LineError;
 pub use found::{Bound, Found, Occurrence, found_in};
-pub use make::{derive, is_ruled, line_of};
+pub use make::{derive, line_of};
 pub use tables::Uses;

@@ -45,7 +45,7 @@ pub fn derive(alloc: Global, typed: &Typed, needs: &Needs) -> Result<Derivation,
     let scalars = Scalars::of(alloc, &program.types)?;
     let mut lines = Vec::new(alloc);
     for (number, instance) in program.instances.iter().enumerate() {
-        if is_ruled(instance.kind) {
+        if instance.kind.is_ruled() {
             let context = Context {
                 program,
                 scalars: &scalars,
@@ -65,17 +65,6 @@ pub fn derive(alloc: Global, typed: &Typed, needs: &Needs) -> Result<Derivation,
         }
     }
     Ok(Derivation::new(lines))
-}
-
-/// Whether the rules speak of an instance of this kind: fip and fbip ones have derivations.
-pub fn is_ruled(kind: FunKind) -> bool
-    ensures ruled { result ≡ is_ruled kind }
-{
-    match kind {
-        FunKind::Fip => true,
-        FunKind::Fbip => true,
-        FunKind::Fun => false,
-    }
 }
 
 /// The derivation of an instance, of what its expressions need. TooLong: its text has more bytes than there is room, so

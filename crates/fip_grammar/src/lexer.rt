@@ -13,6 +13,7 @@ ghost use Rattle.fip_grammar.specs.Claims.{IsFrontOf, IsFirstOf, double_start, f
 
 use crate::Sign;
 use crate::token::{Token, Tokens, Word};
+use fip_language::characters::{is_digit, is_lower, is_upper};
 use fip_language::{Operator, Place};
 use std::alloc::{AllocError, AllocFailed, Global};
 
@@ -43,24 +44,6 @@ impl<T: Drop> From<AllocFailed<T>> for LexError {
     fn from(_: AllocFailed<T>) -> LexError {
         LexError::Memory
     }
-}
-
-fn is_lower(byte: u8) -> bool
-    ensures { result ≡ C.is_lower byte }
-{
-    b'a' <= byte && byte <= b'z'
-}
-
-fn is_upper(byte: u8) -> bool
-    ensures { result ≡ C.is_upper byte }
-{
-    b'A' <= byte && byte <= b'Z'
-}
-
-fn is_digit(byte: u8) -> bool
-    ensures { result ≡ C.is_digit byte }
-{
-    b'0' <= byte && byte <= b'9'
 }
 
 fn is_name(byte: u8) -> bool

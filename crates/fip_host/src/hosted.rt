@@ -86,15 +86,6 @@ pub fn sealed(loader: Loader) -> Sealed
     seal(loader)
 }
 
-fn is_fip(kind: FunKind) -> bool
-    ensures is { result ≡ is_fip kind }
-{
-    match kind {
-        FunKind::Fip => true,
-        FunKind::Fbip | FunKind::Fun => false,
-    }
-}
-
 impl Hosted {
     /// A machine of a code, with no store and no run. It takes no memory.
     pub fn of(alloc: Global, verified: Verified) -> Hosted
@@ -139,7 +130,7 @@ impl Hosted {
         };
         let stack = self.verified.code_stack(number);
         Some(FipFunction {
-            fip: is_fip(function.kind),
+            fip: function.kind.is_fip(),
             parameters: function.params.as_slice().len(),
             credits: function.credits.as_slice().len(),
             results: function.results.as_slice().len(),

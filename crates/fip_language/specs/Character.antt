@@ -1,6 +1,7 @@
 -- What a byte is in a text of values, and the names of constructors.
 -- A space, a tab and a CR are blanks, an LF ends a line. A name has letters, digits and _ .
-use Rattle.std.specs.Prelude.{ℕ, ◌-◌, Bool, true, false, ◌&&◌, ◌||◌, nat_le, ◌==◌, if◌then◌else◌, List, [], ◌∷◌, map}
+use Rattle.std.specs.Prelude.{ℕ, ◌-◌, Bool, true, false, ◌&&◌, ◌||◌, nat_le, ◌==◌, if◌then◌else◌, List, [], ◌∷◌, map, codes}
+use Rattle.std.specs.Str.{bytes_eq}
 
 pub data Character : Type 0 where
   Blank : Character
@@ -23,6 +24,10 @@ is_digit b = nat_le 48 b && nat_le b 57
 
 abbrev pub is_upper : ℕ → Bool
 is_upper b = nat_le 65 b && nat_le b 90
+
+-- a small letter
+abbrev pub is_lower : ℕ → Bool
+is_lower b = nat_le 97 b && nat_le b 122
 
 abbrev pub is_letter : ℕ → Bool
 is_letter b = is_upper b || (nat_le 97 b && nat_le b 122) || (b == 95)
@@ -51,3 +56,10 @@ are_name_bytes (b ∷ bs) = (is_digit b || is_letter b) && are_name_bytes bs
 abbrev pub is_upper_name : List ℕ → Bool
 is_upper_name [] = false
 is_upper_name (b ∷ bs) = is_upper b && are_name_bytes bs
+
+-- a word of the language, which names nothing
+abbrev pub is_keyword : List ℕ → Bool
+is_keyword text =
+    bytes_eq text (codes "data") || bytes_eq text (codes "fip") || bytes_eq text (codes "fbip")
+    || bytes_eq text (codes "fun") || bytes_eq text (codes "match") || bytes_eq text (codes "let")
+    || bytes_eq text (codes "if") || bytes_eq text (codes "else") || bytes_eq text (codes "int")

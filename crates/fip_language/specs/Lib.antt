@@ -6,6 +6,7 @@ pub mod CoreForm
 pub mod Prefix
 pub mod Store
 pub mod Character
+pub mod Kinds
 pub mod SoundTable
 pub mod UpperNames
 pub mod ValueText

@@ -2,6 +2,10 @@
 // specs/; its laws are in `laws`.
 #![tactic(auto)]
 
+ghost use Rattle.std.specs.Prelude.{◌≡◌};
+ghost use Rattle.fip_language.specs.Kinds as K;
+
+pub mod characters;
 pub mod limits;
 mod rule;
 pub mod theorems;
@@ -31,6 +35,30 @@ pub enum FunKind {
     Fip,
     Fbip,
     Fun,
+}
+
+impl FunKind {
+    /// Whether functions of this kind make no cell and free none.
+    pub fn is_fip(self) -> bool
+        ensures fip { result ≡ K.is_fip self }
+    {
+        match self {
+            FunKind::Fip => true,
+            FunKind::Fbip => false,
+            FunKind::Fun => false,
+        }
+    }
+
+    /// Whether the rules of ownership and credits speak of functions of this kind: of fip and fbip ones.
+    pub fn is_ruled(self) -> bool
+        ensures ruled { result ≡ K.is_ruled self }
+    {
+        match self {
+            FunKind::Fip => true,
+            FunKind::Fbip => true,
+            FunKind::Fun => false,
+        }
+    }
 }
 
 /// Why an operator has no value.

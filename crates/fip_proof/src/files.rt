@@ -20,7 +20,7 @@ use crate::error::AuditError;
 use derivation_check::check;
 use derivation_text::{ProofError, Text, TextError, read_derivation};
 use derivation_trees::Derivation;
-use derivation_walk::{Context, LineError, is_ruled, line_of};
+use derivation_walk::{Context, LineError, line_of};
 use fip_language::limits::MOST_FILE_BYTES;
 use fip_trees::needs::{Need, Needs};
 use fip_trees::program::{Instance, Typed};
@@ -57,7 +57,7 @@ pub fn derivation_text(
     let scalars = Scalars::of(alloc, &program.types)?;
     let mut text = Text::new(alloc, limit);
     for (number, instance) in program.instances.iter().enumerate() {
-        if is_ruled(instance.kind) {
+        if instance.kind.is_ruled() {
             let context = Context {
                 program,
                 scalars: &scalars,

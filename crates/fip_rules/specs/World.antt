@@ -7,6 +7,7 @@ use Rattle.fip_base.specs.declared.plain.Param.{Param}
 use Rattle.fip_trees.specs.Tree.{Instance, Program}
 use Rattle.fip_rules.specs.declared.scope.Ownership.{Ownership}
 use Rattle.fip_rules.specs.declared.scope.Ownership.TheVariants.{Scalar, Borrowed, Owned}
+pub use Rattle.fip_trees.specs.fip_language.Kinds.{is_fip, is_ruled}
 
 pub record World : Type 0 where
   pub scalar : ℕ → Bool
@@ -49,14 +50,3 @@ weaker w g = weaker_than w.kind (slice_get w.instances g)
 -- how a variable of a type is bound where its value is taken, or only lent
 abbrev pub ownership : World → Bool → ℕ → Ownership
 ownership w taken t = if w.scalar t then Scalar else (if taken then Owned else Borrowed)
-
-abbrev pub is_fip : FunKind → Bool
-is_fip Fip = true
-is_fip Fbip = false
-is_fip Fun = false
-
--- the rules speak of fip and fbip instances
-abbrev pub is_ruled : FunKind → Bool
-is_ruled Fip = true
-is_ruled Fbip = true
-is_ruled Fun = false

@@ -93,10 +93,10 @@ fn check_instance(
     ensures { IfOk result (λ l. l ≡
         after least (map told (instance_notes (world_of world.now) number (V.instance_of instance.now)))) }
 {
-    if !is_ruled(instance.kind) {
+    if !instance.kind.is_ruled() {
         return Ok(least);
     }
-    let mut state = State::new(alloc, number, is_fip(instance.kind), least);
+    let mut state = State::new(alloc, number, instance.kind.is_fip(), least);
     bind_parameters(
         &mut state,
         world,
@@ -106,27 +106,6 @@ fn check_instance(
     block(&mut state, world, &instance.body)?;
     state.leave(0)?;
     Ok(state.into_least())
-}
-
-fn is_fip(kind: FunKind) -> bool
-    ensures { result ≡ W.is_fip kind }
-{
-    match kind {
-        FunKind::Fip => true,
-        FunKind::Fbip => false,
-        FunKind::Fun => false,
-    }
-}
-
-// Whether the rules speak of instances of a kind.
-fn is_ruled(kind: FunKind) -> bool
-    ensures { result ≡ W.is_ruled kind }
-{
-    match kind {
-        FunKind::Fip => true,
-        FunKind::Fbip => true,
-        FunKind::Fun => false,
-    }
 }
 
 // The parameters come into scope.

@@ -11,40 +11,13 @@ ghost use Rattle.session_lines.specs.Scanned.{left, IsSignOf};
 ghost use Rattle.session_lines.specs.Completed.{BeginsDigit, IsUnsigned, HasParts, Completes, GoesOn};
 ghost use Rattle.session_lines.specs.declared.scan.Step.TheVariants.{Wants, Read};
 
+use fip_language::characters::{is_keyword, is_name_byte, is_upper};
+
 // Whether the byte is a space, a tab or a CR.
 fn is_blank(byte: u8) -> bool
     ensures { result ≡ is_blank byte }
 {
     byte == b' ' || byte == b'\t' || byte == b'\r'
-}
-
-// Whether a name goes on with the byte.
-fn is_name_byte(byte: u8) -> bool
-    ensures { result ≡ (is_digit byte || is_letter byte) }
-{
-    byte.is_ascii_alphanumeric() || byte == b'_'
-}
-
-// Whether these bytes are a word of the language, which is no name.
-fn is_keyword(text: &[u8]) -> bool
-    ensures { result ≡ L.is_keyword text.now }
-{
-    text == b"data".as_slice()
-        || text == b"fip".as_slice()
-        || text == b"fbip".as_slice()
-        || text == b"fun".as_slice()
-        || text == b"match".as_slice()
-        || text == b"let".as_slice()
-        || text == b"if".as_slice()
-        || text == b"else".as_slice()
-        || text == b"int".as_slice()
-}
-
-// Whether the name of a constructor begins with the byte.
-fn is_capital(byte: u8) -> bool
-    ensures { result ≡ is_upper byte }
-{
-    byte.is_ascii_uppercase()
 }
 
 // The first place from `at` on where no blank stands, or the end.
@@ -264,7 +237,7 @@ impl<'l> Scanner<'l> {
         if start >= self.bytes.len() {
             return None;
         }
-        if is_capital(self.bytes[start]) {
+        if is_upper(self.bytes[start]) {
             self.at = behind_name(self.bytes, start);
             return Some(self.fields(depth));
         }

@@ -8,6 +8,7 @@ use Rattle.std.specs.Prelude.{ℤ, pos, neg_ℤ, List, [], ◌∷◌, map, codes
 use Rattle.command_outcome.specs.fip_language.Core.{Name}
 use Rattle.command_outcome.specs.fip_language.Declarations.{same_name}
 use Rattle.command_outcome.specs.fip_language.Character.{is_blank, is_digit, is_upper}
+pub use Rattle.command_outcome.specs.fip_language.Character.{is_keyword}
 
 -- the lines of a text: an LF ends each, and may miss behind the last
 abbrev pub put_before : ℕ → List (List ℕ) → List (List ℕ)
@@ -75,11 +76,6 @@ behind (Digit d ∷ cs) = behind cs
 behind (Small b ∷ cs) = behind cs
 behind (Capital b ∷ cs) = behind cs
 behind (c ∷ cs) = c ∷ cs
-
-abbrev pub is_keyword : Name → Bool
-is_keyword n = same_name n (codes "data") || same_name n (codes "fip") || same_name n (codes "fbip")
-    || same_name n (codes "fun") || same_name n (codes "match") || same_name n (codes "let")
-    || same_name n (codes "if") || same_name n (codes "else") || same_name n (codes "int")
 
 abbrev pub BeginsSmall : List Symbol → Type 0
 BeginsSmall (Small b ∷ cs) = Unit {0}

@@ -10,11 +10,7 @@ use Rattle.fip_trees.specs.Least.{violation, IsLeastOf, refusal}
 use Rattle.fip_trees.specs.Tree.{Instance, Program}
 use Rattle.call_groups.specs.CallGraph.{In, SameGroup}
 use Rattle.tail_groups.specs.Sites.{Site, instance_sites, call_rows}
-
-abbrev pub is_fip : FunKind → Bool
-is_fip Fip = true
-is_fip Fbip = false
-is_fip Fun = false
+pub use Rattle.fip_language.specs.Kinds.{is_fip}
 
 -- Instance d, of number i, is fip, and calls one of its own group at s, outside tail position. Two instances are of one
 -- group where each reaches the other by calls, or they are one.

@@ -11,7 +11,7 @@ ghost use Rattle.tail_groups.specs.Sites.{call_rows};
 
 use crate::calls::add_block;
 use crate::count::registers;
-use crate::notes::{is_fip, note_all};
+use crate::notes::note_all;
 use call_groups::{Call, Partition, partition_of, stacks};
 use fip_base::plain::{FunKind, NoMemory, Stack};
 use fip_base::refusal::PhaseError;
@@ -119,7 +119,7 @@ fn frames_of(alloc: Global, counts: &[Counted]) -> Result<Vec<Option<usize>>, No
 fn frame_of(count: Counted) -> Result<Option<usize>, NoMemory>
     ensures { IfOk result (λ words. words ≡ frame_by count) }
 {
-    if !is_fip(count.kind) {
+    if !count.kind.is_fip() {
         return Ok(None);
     }
     let words = count.registers.checked_add(FRAME_WORDS).ok_or(NoMemory)?;

@@ -42,22 +42,11 @@ fn note_instance(
     ensures { OnOk result (least.new ≡ after least.old
         (instance_notes groups.now number (V.instance_of instance.now))) }
 {
-    if !is_fip(instance.kind) {
+    if !instance.kind.is_fip() {
         return Ok(());
     }
     let caller = Caller { groups, number };
     note_block(least, &caller, true, &instance.body)
-}
-
-/// Whether instances of this kind are fip.
-pub fn is_fip(kind: FunKind) -> bool
-    ensures { result ≡ R.is_fip kind }
-{
-    match kind {
-        FunKind::Fip => true,
-        FunKind::Fbip => false,
-        FunKind::Fun => false,
-    }
 }
 
 // The instance whose calls are looked at, and the groups.

@@ -11,7 +11,7 @@ returns-clause-some c =
     record {
       function = c.in-Some.function.now;
       is = c.in-Some.ensures.some;
-      fip = c.is_fip.ensures.is;
+      fip = c.is_fip.ensures.fip;
       parameters = ap length c.as_slice.ensures.same;
       credits = ap length c.as_slice-2.ensures.value;
       results = ap length c.as_slice-3.ensures.same;

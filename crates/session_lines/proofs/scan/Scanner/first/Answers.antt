@@ -11,8 +11,8 @@ returns-then-start-self-clause-none c = λ e rest h.
     let s = c.args.self.now in
     nothing_there s.bytes.now c.behind_blanks-start.result c.args.depth.now (left s) rest c.behind_blanks-start.ensures.skips (let t = c.if-start-self.true in omega (arith, t)) h
 
-pub returns-then-is_capital-clause-alike : goal.returns-then-is_capital-clause-alike
-returns-then-is_capital-clause-alike c = λ few.
+pub returns-then-is_upper-clause-alike : goal.returns-then-is_upper-clause-alike
+returns-then-is_upper-clause-alike c = λ few.
     let n = c.args.depth.now in
     let bytes = c.args.self.now.bytes.now in
     let cs = left c.args.self.now in
@@ -20,7 +20,7 @@ returns-then-is_capital-clause-alike c = λ few.
     let skips = c.behind_blanks-start.ensures.skips in
     let lt : start < length bytes = (let f = c.if-start-self.false in omega (arith, f)) in
     let short = (let from = c.behind_blanks-start.ensures.from in let z : n < length bytes = omega (arith, few, from, lt) in z) in
-    let capital : BeginsCapital (skip cs) = subst BeginsCapital (sym skips) (capital_there bytes start lt (sym c.is_capital.ensures ∙ c.if-is_capital.true)) in
+    let capital : BeginsCapital (skip cs) = subst BeginsCapital (sym skips) (capital_there bytes start lt (sym c.is_upper.ensures.upper ∙ c.if-is_upper.true)) in
     let here = ap behind skips ∙ c.behind_name-self.ensures.behind in
     let parts = subst (λ x. GoesOn (Completes Wants n cs) (HasParts n x)) here (named n cs capital) in
     goes_further (Completes Wants n cs) (HasParts n (symbols (drop c.behind_name-self.result bytes))) (Completes c.fields.result c.fields.new.depth (left c.fields.new.self)) parts (c.fields.ensures.alike short)
@@ -44,4 +44,4 @@ returns-else-digits-clause-none c = λ e rest h.
     let lt : start < length bytes = (let f = c.if-start-self.false in omega (arith, f)) in
     let ds = symbols (drop c.behind_minus.result bytes) in
     let sign = subst (λ x. IsUnsigned x ds) (sym skips) c.behind_minus.ensures.digits in
-    no_value n cs ds rest sign (c.digits.ensures.none c.if-digits.false) (λ b. no_capital bytes start lt (sym c.is_capital.ensures ∙ c.if-is_capital.false) (subst BeginsCapital skips b)) h
+    no_value n cs ds rest sign (c.digits.ensures.none c.if-digits.false) (λ b. no_capital bytes start lt (sym c.is_upper.ensures.upper ∙ c.if-is_upper.false) (subst BeginsCapital skips b)) h

@@ -1,0 +1,16 @@
+-- The two questions that the rules ask of a function's kind.
+use Rattle.std.specs.Prelude.{Bool, true, false}
+use Rattle.fip_language.specs.declared.FunKind.{FunKind}
+use Rattle.fip_language.specs.declared.FunKind.TheVariants.{Fip, Fbip, Fun}
+
+-- it makes no cell and frees none
+abbrev pub is_fip : FunKind → Bool
+is_fip Fip = true
+is_fip Fbip = false
+is_fip Fun = false
+
+-- the rules of ownership and credits speak of it: fip and fbip functions
+abbrev pub is_ruled : FunKind → Bool
+is_ruled Fip = true
+is_ruled Fbip = true
+is_ruled Fun = false

@@ -1,3 +1,4 @@
+pub mod Groups
 pub mod CallGraph
 pub mod Stacks
 pub mod Search

@@ -7,7 +7,8 @@
 use Rattle.std.specs.Prelude.{◌≡◌, ◌≢◌, ◌≤◌, ◌+◌, ℕ, Bool, true, false, List, length, get_or, slice_get}
 use Rattle.std.specs.Prelude.{Option, Some, None}
 use Rattle.fip_base.specs.declared.plain.Stack.{Stack}
-use Rattle.call_groups.specs.CallGraph.{Calls, group_number, IsPartition}
+use Rattle.call_groups.specs.CallGraph.{group_number, IsPartition}
+use Rattle.call_groups.specs.Groups.{Calls}
 use Rattle.call_groups.specs.declared.search.Call.{Call}
 use Rattle.call_groups.specs.declared.search.Partition.{Partition}
 

@@ -4,10 +4,7 @@
 use Rattle.std.specs.Prelude.{ℕ, zero, suc, ◌+◌, ◌<◌, Bool, true, false, List, [], ◌∷◌, Option, Some, None, length, map}
 use Rattle.std.specs.Prelude.{nat_eq, if◌then◌else◌}
 use Rattle.fip_language.specs.Store.{Cell}
-
--- what begins at each number: a cell, or none
-abbrev pub Cells : Type 0
-Cells = List (Option Cell)
+pub use Rattle.cell_store.specs.StoredCells.{Cells}
 
 -- the cell at a place
 abbrev pub cell_at : Cells → ℕ → Option Cell

@@ -1,6 +1,7 @@
 pub mod Cells
 pub mod Flat
 pub mod Free
+pub mod StoredCells
 pub mod Made
 pub mod Told
 pub mod Marks

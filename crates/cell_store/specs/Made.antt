@@ -2,20 +2,14 @@
 use Rattle.std.specs.Prelude.{◌≡◌, ℕ, ◌+◌, Bool, true, false, List, ◌∷◌, ◌++◌, Some, None, length, replicate}
 use Rattle.std.specs.Prelude.{option_map, slice_get, slice_set}
 use Rattle.fip_language.specs.Store.{Cell}
-use Rattle.cell_store.specs.Cells.{Cells, cell_at, size_of}
+use Rattle.cell_store.specs.Cells.{cell_at, size_of}
+use Rattle.cell_store.specs.StoredCells.{Cells}
+pub use Rattle.cell_store.specs.StoredCells.{Stored}
 
 -- a store that takes cells: the cells, whether each is released, and the words that are left for more
 pub record Loading : Type 0 where
   pub cells : Cells
   pub released : List Bool
-  pub left : ℕ
-
--- a sealed store: the cells, whether each is released, the stack of words beside them, its top last, and the words that
--- are left for when it is opened again
-pub record Stored : Type 0 where
-  pub cells : Cells
-  pub released : List Bool
-  pub pushed : List ℕ
   pub left : ℕ
 
 -- A released cell of the same size takes the constructor and the words, and is released no more.

@@ -7,15 +7,16 @@
 use Rattle.std.specs.Prelude.{ℕ, suc, ◌+◌, ◌*◌, List, [], ◌∷◌}
 use Rattle.match_cover.specs.fip_language.Table.{Table}
 use Rattle.match_cover.specs.fip_trees.Tree as T
-use Rattle.match_cover.specs.fip_trees.Tree.{Argument, Variable, Literal, Constructor, Arguments, NoArguments, MoreArguments}
+use Rattle.match_cover.specs.fip_trees.Tree.{Argument, Variable, Literal, Constructor, Arguments, NoArguments}
+use Rattle.match_cover.specs.fip_trees.Tree.{MoreArguments}
 use Rattle.match_cover.specs.fip_trees.Tree.{BinderPattern, LiteralPattern, ConstructorPattern}
 use Rattle.match_cover.specs.fip_trees.Tree.{Expression, Give, Tuple, Operation, Call, Match, Nested, Block, Last, Let}
 use Rattle.match_cover.specs.fip_trees.Tree.{Clauses, NoClauses, MoreClauses, Instance}
 use Rattle.match_cover.specs.match_knowledge.declared.heads.Head.TheVariants.{Number, Tag}
 use Rattle.match_cover.specs.match_knowledge.Patterns.{Pattern, Any, Test, Patterns, NoPatterns, MorePatterns}
 use Rattle.match_cover.specs.match_knowledge.Known.{Open}
-use Rattle.match_cover.specs.PatternView.{pattern_nodes}
-use Rattle.match_cover.specs.DecisionTree.{branches, tree_at}
+use Rattle.match_cover.specs.MatchFaults.{pattern_nodes}
+use Rattle.match_cover.specs.TreeOfMatch.{branches, tree_at}
 
 -- a pattern without names
 abbrev mutual

@@ -1,9 +1,8 @@
--- What callers see of a code that was verified: the code, and for each function what it needs of the stack, where it is
--- fip; which tree an instruction releases; and that ints have 64 bits.
+-- What a verified code keeps to, beside being sound: its stack numbers, which tree an instruction releases, and that
+-- ints have 64 bits.
 use Rattle.std.specs.Prelude.{◌≡◌, ℕ, ℤ, true, List, Option, Some, None, slice_get, FitsSigned}
 use Rattle.std.specs.Int.{w64}
 use Rattle.fip_base.specs.declared.plain.Stack.{Stack}
-use Rattle.cell_code.specs.declared.code.Code.{Code}
 use Rattle.code_rules.specs.Codes.{PlainCode, PlainFunction, function_at}
 use Rattle.code_rules.specs.Headers.{is_formed}
 use Rattle.code_rules.specs.StackNumbers.{HasStack}
@@ -13,10 +12,7 @@ use Rattle.cell_code.specs.declared.kind.Kind.{Kind}
 use Rattle.cell_code.specs.declared.kind.Kind.TheVariants.{Owned}
 use Rattle.code_rules.specs.Kinds.{at}
 use Rattle.code_rules.specs.Flow.{IsInstr, IsReachedAt}
-
-pub record Checked : Type 0 where
-  pub code : Code
-  pub stacks : List (Option Stack)
+pub use Rattle.code_verify.specs.Verified.{Checked}
 
 -- An int that the instruction writes has 64 bits.
 abbrev pub HasMachineInt : Instr → Type 0

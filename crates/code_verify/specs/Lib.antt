@@ -1,3 +1,4 @@
+pub mod Verified
 pub mod Checked
 pub mod Steps
 pub mod Finding

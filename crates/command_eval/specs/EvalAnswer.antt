@@ -23,7 +23,7 @@ use Rattle.fip_language.specs.ValueText.{SpellsValues}
 use Rattle.command_source.specs.fip_trees.Tree.{Instance, Program}
 use Rattle.command_outcome.specs.declared.failure.Failure.{Failure}
 use Rattle.command_outcome.specs.declared.failure.Failure.TheVariants as F
-use Rattle.command_source.specs.type_safety.Soundness.{parameter_types}
+use Rattle.command_source.specs.type_safety.ParameterTypes.{parameter_types}
 use Rattle.command_source.specs.source_report.Report.{IsParsed, IsAccepted}
 use Rattle.command_source.specs.Roots.{root_named}
 

@@ -24,7 +24,8 @@ use Rattle.command_outcome.specs.declared.failure.Failure.{Failure}
 use Rattle.command_outcome.specs.declared.failure.Failure.TheVariants as F
 use Rattle.command_eval.specs.machine_correctness.code_file.Plain.{PlainCode}
 use Rattle.command_eval.specs.machine_correctness.machine_semantics.Gauges.{seen}
-use Rattle.command_eval.specs.machine_correctness.machine_semantics.Runs.{End, Ends, Value, Trap, Out, Deep, Unsound, begun}
+use Rattle.command_eval.specs.machine_correctness.machine_semantics.Runs.{End, Ends, Value, Trap, Out, Deep, Unsound}
+use Rattle.command_eval.specs.machine_correctness.machine_semantics.Runs.{begun}
 use Rattle.command_eval.specs.machine_correctness.machine_semantics.States.{State}
 use Rattle.command_eval.specs.machine_correctness.machine_semantics.Steps.{Kinds}
 use Rattle.command_eval.specs.machine_correctness.separation.Codes.{run_code}
@@ -32,11 +33,11 @@ use Rattle.command_eval.specs.machine_correctness.separation.Starts.{IsStart}
 use Rattle.command_eval.specs.machine_correctness.code_rules.Codes as S
 use Rattle.command_eval.specs.machine_correctness.code_rules.Codes.{PlainFunction, function_at}
 use Rattle.command_eval.specs.machine_correctness.code_rules.StackNumbers.{HasStack}
-use Rattle.command_eval.specs.machine_correctness.tree_refinement.Agreement.{AreWordsOf}
+use Rattle.command_eval.specs.machine_correctness.tree_refinement.Endings.{AreWordsOf}
 use Rattle.command_eval.specs.machine_correctness.tree_refinement.Runs.{BeginsWith}
 use Rattle.command_eval.specs.machine_correctness.run_loading.Loading.{words_of_credits}
 use Rattle.session_semantics.specs.Talk.{frames_of}
-use Rattle.value_text.specs.Loaded.{types_of}
+use Rattle.value_text.specs.ParameterTypes.{types_of}
 use Rattle.command_eval.specs.command_source.Codes.{sound_view, IsSoundFile}
 use Rattle.command_run.specs.GaugeText.{gauge_by_states, if_asked}
 

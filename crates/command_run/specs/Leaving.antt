@@ -5,7 +5,7 @@
 -- After that of Cons(1, Cons(2, Nil)) and Nil the cell at 0 holds 2 and the word of the one at 3, which holds 1 and Nil.
 -- As loaded it held 2 and Nil, so loaded cells are not those that a run leaves.
 use Rattle.std.specs.Prelude.{◌≡◌, ℕ, List}
-use Rattle.cell_store.specs.Made.{Stored}
+use Rattle.cell_store.specs.StoredCells.{Stored}
 use Rattle.command_words.specs.Words.{Room}
 use Rattle.fip_machine.specs.machine_cells.Small.{store_of}
 use Rattle.command_eval.specs.machine_correctness.code_rules.Codes.{plain}

@@ -20,9 +20,9 @@ use Rattle.command_eval.specs.machine_correctness.code_rules.Codes.{PlainCode, P
 use Rattle.command_eval.specs.machine_correctness.code_rules.StackNumbers.{HasStack}
 use Rattle.command_eval.specs.machine_correctness.run_loading.Loading.{first_store, first_words}
 use Rattle.command_eval.specs.machine_correctness.run_loading.Replaying.{trace_of}
-use Rattle.command_eval.specs.machine_correctness.run_loading.TraceText.{Trace}
+use Rattle.command_eval.specs.machine_correctness.run_loading.TraceFile.{Trace}
 use Rattle.session_semantics.specs.Talk.{frames_of}
-use Rattle.value_text.specs.Loaded.{types_of}
+use Rattle.value_text.specs.ParameterTypes.{types_of}
 use Rattle.command_run.specs.CodeRun.{words_for}
 
 -- Function n runs on these arguments, with cells for these credits, so many calls and free frames, from where they are

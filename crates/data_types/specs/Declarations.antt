@@ -6,9 +6,8 @@ use Rattle.std.specs.Prelude.{◌≡◌, ℕ, suc, ◌-◌, ◌==◌, List, [], 
 use Rattle.std.specs.Prelude.{if◌then◌else◌}
 use Rattle.fip_language.specs.Core.{Name, Written, WrittenInt, WrittenName, Writtens, NoWritten, MoreWritten}
 use Rattle.fip_language.specs.Core.{Static, TypeParameter, FunctionParameter, TypeName, DataConstructor, Data, Function}
-use Rattle.fip_language.specs.Core.{Core}
+use Rattle.fip_language.specs.Core.{Core, writtens_of}
 use Rattle.fip_language.specs.Declarations.{bool_type, data_types}
-use Rattle.fip_base.specs.CoreView.{writtens_of}
 use Rattle.fip_trees.specs.Names.{Names, meaning, with_meanings}
 use Rattle.fip_trees.specs.declared.decls.TypeHead.{TypeHead}
 use Rattle.fip_trees.specs.declared.decls.ConstructorId.{ConstructorId}

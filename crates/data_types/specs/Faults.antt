@@ -14,9 +14,8 @@ use Rattle.fip_language.specs.Core.{Arguments, NoArguments, MoreArguments, Patte
 use Rattle.fip_language.specs.Core.{ConstructorPattern, Patterns, NoPatterns, MorePatterns, Expression, Give, Tuple}
 use Rattle.fip_language.specs.Core.{Operation, Call, Match, Nested, Block, Last, Let, Clauses, NoClauses, MoreClauses}
 use Rattle.fip_language.specs.Core.{SignatureParameter, Static, TypeParameter, FunctionParameter, Parameter, Function}
-use Rattle.fip_language.specs.Core.{TypeName, DataConstructor, Data, Core}
+use Rattle.fip_language.specs.Core.{TypeName, DataConstructor, Data, Core, writtens_of}
 use Rattle.fip_language.specs.Mentions.{Mention, mention, all_of}
-use Rattle.fip_base.specs.CoreView.{writtens_of}
 use Rattle.fip_trees.specs.Names.{Names, meaning, is_among}
 use Rattle.fip_trees.specs.declared.decls.TypeHead.{TypeHead}
 use Rattle.fip_language.specs.declared.limits.TheConstants.{MOST_FIELDS, MOST_CREDITS}

@@ -3,8 +3,8 @@ use Rattle.std.specs.Prelude.{◌≡◌, ◌+◌, ℕ, suc, true, false, not, �
 use Rattle.fip_base.specs.declared.plain.Param.{Param}
 use Rattle.fip_trees.specs.Tree.{Instance, Program}
 use Rattle.fip_rules.specs.World.{World, world, is_ruled}
-use Rattle.ownership_calculus.specs.Terms.{Item, Own, Credit, given}
-use Rattle.derivation_trees.specs.Trees.{Tree, Entry}
+use Rattle.ownership_calculus.specs.Items.{Item, Own, Credit, given}
+use Rattle.derivation_trees.specs.Derivations.{Tree, Entry}
 use Rattle.derivation_check.specs.Owned.{root, IsOwned}
 use Rattle.derivation_check.specs.Scopes.{Scope, parameters, AreNumbered}
 use Rattle.derivation_check.specs.Calculus.{Choice, DerivesBlock}

@@ -13,10 +13,10 @@ use Rattle.fip_trees.specs.Tree.{Pattern, Instance, Expression, Give, Tuple, Ope
 use Rattle.fip_trees.specs.Tree.{Block, Last, Let, Clauses, NoClauses, MoreClauses}
 use Rattle.fip_rules.specs.World.{World, is_fip, is_weaker}
 use Rattle.fip_rules.specs.Shapes.{binders, takes}
-use Rattle.ownership_calculus.specs.Terms.{Item, Own, Credit, given, paid, charge, only}
+use Rattle.ownership_calculus.specs.Items.{Item, Own, Credit, given, paid, charge, only}
 use Rattle.derivation_trees.specs.declared.derivation.RuleName.TheVariants as R
 use Rattle.derivation_trees.specs.declared.derivation.Credit as D
-use Rattle.derivation_trees.specs.Trees.{Tree, Missing, Branch, Trees, NoTrees, MoreTrees}
+use Rattle.derivation_trees.specs.Derivations.{Tree, Missing, Branch, Trees, NoTrees, MoreTrees}
 use Rattle.derivation_check.specs.Owned.{owned, root, roots, IsOwned, AreOwned, Under, Leaf, Splits}
 use Rattle.derivation_check.specs.Patterns.{nodes}
 use Rattle.derivation_check.specs.Scopes.{Known, Scope, meant, binding, lending, AreNumbered, within, within_block}

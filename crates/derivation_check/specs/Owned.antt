@@ -1,10 +1,10 @@
 -- What the nodes of a derivation have: owned variables, each once, and for each size a number of credits.
 use Rattle.std.specs.Prelude.{◌≡◌, ◌⊎◌, ◌<◌, ◌≤◌, ◌+◌, ◌==◌, ℕ, suc, Bool, true, false, List, [], ◌∷◌, if◌then◌else◌}
-use Rattle.ownership_calculus.specs.Terms.{Item, Own, Credit, given}
+use Rattle.ownership_calculus.specs.Items.{Item, Own, Credit, given}
 use Rattle.derivation_trees.specs.declared.derivation.RuleName.{RuleName}
 use Rattle.derivation_trees.specs.declared.derivation.RuleName.TheVariants as R
 use Rattle.derivation_trees.specs.declared.derivation.Credit as D
-use Rattle.derivation_trees.specs.Trees.{Tree, Missing, Branch, Trees, NoTrees, MoreTrees}
+use Rattle.derivation_trees.specs.Derivations.{Tree, Missing, Branch, Trees, NoTrees, MoreTrees}
 
 -- how many credits of a size
 abbrev pub amount : ℕ → List D.Credit → ℕ

@@ -2,7 +2,7 @@
 use Rattle.std.specs.Prelude.{ℕ, zero, suc, ◌+◌}
 use Rattle.fip_trees.specs.Tree.{Pattern, BinderPattern, LiteralPattern, ConstructorPattern}
 use Rattle.fip_trees.specs.Tree.{Patterns, NoPatterns, MorePatterns, count_patterns}
-use Rattle.ownership_calculus.specs.Terms.{paid, Credit}
+use Rattle.ownership_calculus.specs.Items.{paid, Credit}
 
 abbrev mutual
   -- how many of size k

@@ -12,7 +12,7 @@ use Rattle.fip_trees.specs.Tree.{Argument, Variable, Literal, Constructor, Argum
 use Rattle.fip_trees.specs.Tree.{Expression, Give, Tuple, Operation, Call, Match, Nested, Block, Last, Let}
 use Rattle.fip_trees.specs.Tree.{Clauses, NoClauses, MoreClauses}
 use Rattle.fip_rules.specs.Shapes.{binders}
-use Rattle.ownership_calculus.specs.Terms.{has}
+use Rattle.ownership_calculus.specs.Items.{has}
 
 -- A variable: its binder's number in the program, its own in the derivation, its type, and whether it is bound as an
 -- owned one, where that isn't scalar.

@@ -9,8 +9,10 @@ use Rattle.std.specs.Prelude.{length, Option, Some, None, slice_get, nat_lt, ifâ
 use Rattle.type_check.specs.fip_language.declared.limits.TheConstants.{MOST_FIELDS}
 use Rattle.derivation_check.specs.fip_base.declared.plain.Param.{Param}
 use Rattle.derivation_check.specs.fip_trees.declared.program.Binder.{Binder}
-use Rattle.derivation_check.specs.fip_trees.Tree.{Argument, Variable, Literal, Constructor, Arguments, NoArguments, MoreArguments}
-use Rattle.derivation_check.specs.fip_trees.Tree.{Expression, Give, Tuple, Operation, Call, Match, Nested, Block, Last, Let}
+use Rattle.derivation_check.specs.fip_trees.Tree.{Argument, Variable, Literal, Constructor, Arguments, NoArguments}
+use Rattle.derivation_check.specs.fip_trees.Tree.{MoreArguments}
+use Rattle.derivation_check.specs.fip_trees.Tree.{Expression, Give, Tuple, Operation, Call, Match, Nested, Block, Last}
+use Rattle.derivation_check.specs.fip_trees.Tree.{Let}
 use Rattle.derivation_check.specs.fip_trees.Tree.{Clauses, NoClauses, MoreClauses, Instance, Program}
 use Rattle.ownership_agreement.specs.fip_rules.World.{World, world, is_ruled}
 use Rattle.ownership_agreement.specs.fip_rules.Shapes.{binders, takes}
@@ -18,7 +20,7 @@ use Rattle.ownership_agreement.specs.credit_check.Needs.{made, made_all, marked,
 use Rattle.derivation_check.specs.derivation_trees.declared.derivation.RuleName.{RuleName}
 use Rattle.derivation_check.specs.derivation_trees.declared.derivation.RuleName.TheVariants as R
 use Rattle.derivation_check.specs.derivation_trees.declared.derivation.Credit as D
-use Rattle.derivation_check.specs.derivation_trees.Trees.{Tree, Branch, Trees, NoTrees, MoreTrees, Entry}
+use Rattle.derivation_check.specs.derivation_trees.Derivations.{Tree, Branch, Trees, NoTrees, MoreTrees, Entry}
 use Rattle.derivation_check.specs.Scopes.{Known, meant, named, parameters, within, within_block}
 use Rattle.derivation_making.specs.Uses.{names, occurs_value, occurs_values, occurs, occurs_block, uses}
 

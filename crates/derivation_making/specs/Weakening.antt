@@ -1,9 +1,9 @@
 -- Derivations that weaken no more than they must: a node that weakens leaves out a variable or a credit, and its part
 -- is no such node. For example WEAKEN[0 1|](VAR[1|]) is so, and WEAKEN[1|](VAR[1|]) is not.
 use Rattle.std.specs.Prelude.{◌≡◌, ◌<◌, ℕ, Bool, false, List, [], ◌∷◌}
-use Rattle.ownership_agreement.specs.ownership_calculus.Terms.{Item}
+use Rattle.ownership_agreement.specs.ownership_calculus.Items.{Item}
 use Rattle.derivation_check.specs.derivation_trees.declared.derivation.Credit as D
-use Rattle.derivation_check.specs.derivation_trees.Trees.{Tree, Missing, Branch, Trees, NoTrees, MoreTrees, Entry}
+use Rattle.derivation_check.specs.derivation_trees.Derivations.{Tree, Missing, Branch, Trees, NoTrees, MoreTrees, Entry}
 use Rattle.derivation_check.specs.Owned.{owned, root, is_weaken}
 use Rattle.derivation_check.specs.Calculus.{Choice}
 

@@ -14,7 +14,7 @@ use Rattle.fip_language.specs.declared.limits.TheConstants.{MOST_FIELDS}
 use Rattle.derivation_trees.specs.declared.derivation.RuleName.{RuleName}
 use Rattle.derivation_trees.specs.declared.derivation.RuleName.TheVariants as R
 use Rattle.derivation_trees.specs.declared.derivation.Credit.{Credit}
-use Rattle.derivation_trees.specs.Trees.{Tree, Missing, Branch, Trees, NoTrees, MoreTrees, Entry}
+use Rattle.derivation_trees.specs.Derivations.{Tree, Missing, Branch, Trees, NoTrees, MoreTrees, Entry}
 
 -- the name of a rule
 abbrev pub rule_text : RuleName → List ℕ

@@ -1,3 +1,4 @@
+pub mod Derivations
 pub mod Trees
 pub mod WholeTrees
 pub mod Building

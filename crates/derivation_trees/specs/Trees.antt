@@ -1,26 +1,13 @@
--- Derivations as trees. A node has a rule, what it uses up, and its parts: the owned variables by their numbers, and
--- the credits by their sizes. For example MATCH![0|](VAR[1|]) is
--- Branch TakingMatch (0 ∷ []) [] (MoreTrees (Branch Variable (1 ∷ []) [] NoTrees) NoTrees).
---
--- In memory the nodes of a tree stand in a list, each before its parts, its first part directly behind it. A node keeps
--- how many parts it has, and its span, the number of the nodes of its tree: its next neighbour stands so many places
--- behind it.
+-- It serves the proofs on derivations: how trees lie in memory.
+-- The nodes of a tree stand in a list, each before its parts, its first part directly behind it. A node keeps how many
+-- parts it has, and its span, the number of the nodes of its tree: its next neighbour stands so many places behind it.
 use Rattle.std.specs.Prelude.{ℕ, zero, suc, ◌+◌, List, [], ◌∷◌, ◌++◌, Option, Some, None, map, length, slice_get}
 use Rattle.derivation_trees.specs.declared.derivation.RuleName.{RuleName}
 use Rattle.derivation_trees.specs.declared.derivation.Credit.{Credit}
 use Rattle.derivation_trees.specs.declared.derivation.Node.{Node}
 use Rattle.derivation_trees.specs.declared.derivation.Line.{Line}
 use Rattle.derivation_trees.specs.declared.derivation.Derivation.{Derivation}
-
--- Missing stands for a part that a list of nodes doesn't have; no rule speaks of it
-mutual
-  pub data Tree : Type 0 where
-    Missing : Tree
-    Branch : (rule : RuleName) (variables : List ℕ) (credits : List Credit) (parts : Trees) → Tree
-
-  pub data Trees : Type 0 where
-    NoTrees : Trees
-    MoreTrees : (t : Tree) (rest : Trees) → Trees
+pub use Rattle.derivation_trees.specs.Derivations.{Tree, Missing, Branch, Trees, NoTrees, MoreTrees, Entry}
 
 abbrev pub count : Trees → ℕ
 count NoTrees = 0
@@ -93,11 +80,6 @@ abbrev pub tree_at : List Head → ℕ → Tree
 tree_at hs i = cut_at (length hs) hs i
 
 -- ---- derivations
-
--- the derivation of the instance of this number
-pub record Entry : Type 0 where
-  pub instance : ℕ
-  pub tree : Tree
 
 abbrev pub entry : Line → Entry
 entry l = record { instance = l.instance; tree = tree_at (heads l.nodes.items) 0 }

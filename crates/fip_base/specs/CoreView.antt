@@ -1,6 +1,7 @@
 -- The core program that a tree of the code stands for: the same tree, without where its lists lie in memory.
 use Rattle.std.specs.Prelude.{Bool, true, false, List, [], ◌∷◌, map, option_map}
 use Rattle.fip_language.specs.Core as C
+pub use Rattle.fip_language.specs.Core.{writtens_of}
 use Rattle.fip_base.specs.declared.core_form.Written.{Written}
 use Rattle.fip_base.specs.declared.core_form.Written.TheOpen as W
 use Rattle.fip_base.specs.declared.core_form.Written.TheFolds.{fold-Written}
@@ -33,10 +34,6 @@ use Rattle.fip_base.specs.declared.core_form.Data.{Data}
 use Rattle.fip_base.specs.declared.core_form.Core.{Core}
 
 -- types
-
-abbrev pub writtens_of : List C.Written → C.Writtens
-writtens_of [] = C.NoWritten
-writtens_of (t ∷ ts) = C.MoreWritten t (writtens_of ts)
 
 abbrev pub written_step : W.Written-F C.Written → C.Written
 written_step (W.Int p) = C.WrittenInt p

@@ -13,7 +13,7 @@ use Rattle.fip_language.specs.declared.limits.TheConstants.{MOST_BRACKETS}
 use Rattle.fip_language.specs.declared.rule.Rule.{Rule}
 use Rattle.fip_language.specs.declared.rule.Rule.TheVariants as R
 use Rattle.fip_language.specs.Prefix.{IsPlace}
-use Rattle.fip_language.specs.RuleOrder.{number}
+use Rattle.fip_language.specs.RuleNumber.{number}
 use Rattle.fip_language.specs.Surface.{Program}
 use Rattle.fip_grammar.specs.declared.Sign.TheVariants as S
 use Rattle.fip_grammar.specs.Token.{Word, Lower, Upper, Number, Operate, Mark, Token, value_of}

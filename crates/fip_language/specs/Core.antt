@@ -1,7 +1,7 @@
 -- The core form of a program: all rules and the meaning stand on it.
 -- An argument is a variable, a literal or a constructor applied to arguments; calls, tuples, operators and
 -- scrutinees have only arguments as parts; all else is bound by a let before.
-use Rattle.std.specs.Prelude.{ℕ, ℤ, Bool, List, Option}
+use Rattle.std.specs.Prelude.{ℕ, ℤ, Bool, List, [], ◌∷◌, Option}
 use Rattle.fip_language.specs.declared.Place.{Place}
 use Rattle.fip_language.specs.declared.FunKind.{FunKind}
 use Rattle.fip_language.specs.declared.CreditMark.{CreditMark}
@@ -20,6 +20,10 @@ mutual
   pub data Writtens : Type 0 where
     NoWritten : Writtens
     MoreWritten : (t : Written) (ts : Writtens) → Writtens
+
+abbrev pub writtens_of : List Written → Writtens
+writtens_of [] = NoWritten
+writtens_of (t ∷ ts) = MoreWritten t (writtens_of ts)
 
 -- What a function gives: one value, or a tuple, whose place is its bracket.
 pub data Result : Type 0 where

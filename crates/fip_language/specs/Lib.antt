@@ -20,7 +20,9 @@ pub mod Meaning
 pub mod Every
 pub mod Mentions
 pub mod RuleText
+pub mod RuleNumber
 pub mod RuleOrder
+pub mod CallSites
 pub mod Stack
 pub mod Gauge
 pub mod Laws

@@ -4,7 +4,7 @@ use Rattle.std.specs.Prelude.{◌≡◌, ◌⊎◌, ℕ, Bool, true, false, List
 use Rattle.std.specs.Prelude.{◌==◌, nat_lt, if◌then◌else◌}
 use Rattle.fip_base.specs.fip_language.declared.Place.{Place}
 use Rattle.fip_base.specs.fip_language.declared.rule.Rule.{Rule}
-use Rattle.fip_base.specs.fip_language.RuleOrder.{number}
+use Rattle.fip_base.specs.fip_language.RuleNumber.{number}
 use Rattle.fip_base.specs.declared.refusal.Refusal.{Refusal}
 use Rattle.fip_trees.specs.declared.least.Violation.{Violation}
 

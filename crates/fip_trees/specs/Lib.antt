@@ -1,6 +1,7 @@
 pub mod Least
 pub mod Names
 pub mod NeedsView
+pub mod Numbers
 pub mod Sizes
 pub mod Tree
 pub mod TreeView

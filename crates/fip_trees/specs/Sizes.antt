@@ -1,7 +1,8 @@
 -- Numbers of cells or credits by size: a list that has at place k the number of size k. Sizes are 1 to 16; place 0 is
 -- of no use.
-use Rattle.std.specs.Prelude.{ℕ, zero, suc, ◌+◌, ◌-◌, Bool, true, false, ◌&&◌, List, [], ◌∷◌, get_or, set, nat_lt}
+use Rattle.std.specs.Prelude.{ℕ, zero, suc, ◌+◌, ◌-◌, Bool, ◌&&◌, List, [], ◌∷◌, get_or, set, nat_lt}
 use Rattle.std.specs.Prelude.{if◌then◌else◌}
+pub use Rattle.fip_trees.specs.Numbers.{one_if, greater}
 
 abbrev pub number : List ℕ → ℕ → ℕ
 number xs k = get_or xs k 0
@@ -20,18 +21,10 @@ is_size k = nat_lt 0 k && nat_lt k 17
 abbrev pub one_more : ℕ → List ℕ → List ℕ
 one_more k xs = if is_size k then set xs k (number xs k + 1) else xs
 
--- 1 where it holds
-abbrev pub one_if : Bool → ℕ
-one_if true = 1
-one_if false = 0
-
 abbrev pub by_size : (ℕ → ℕ → ℕ) → List ℕ → List ℕ → List ℕ
 by_size f [] ys = []
 by_size f (x ∷ xs) [] = []
 by_size f (x ∷ xs) (y ∷ ys) = f x y ∷ by_size f xs ys
-
-abbrev pub greater : ℕ → ℕ → ℕ
-greater m n = if nat_lt m n then n else m
 
 -- of each size the sum, the difference (never below 0), the greater number
 abbrev pub plus : List ℕ → List ℕ → List ℕ

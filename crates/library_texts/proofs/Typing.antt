@@ -21,7 +21,6 @@ use Rattle.source_report.specs.reached_instances.Instances.{roots, all_faults}
 use Rattle.source_report.specs.static_params.FlatProgram.{flat_program}
 use Rattle.source_report.specs.static_params.FlatSource.{flat_source}
 use Rattle.source_report.specs.type_check.Faults.{type_faults}
-use Rattle.source_report.proofs.type_check.Exact.{typed_exactly}
 use Rattle.source_report.specs.Report.{IsParsed, IsDeclared, IsFlat, IsTyped}
 use Rattle.library_texts.proofs.Cutting.{all_pieces, tokens_in}
 use Rattle.library_texts.proofs.Deriving.{tree_in, at_most, IsPlain, numbers_of, plain_few, program_of}
@@ -69,7 +68,7 @@ is_typed text r core is ts h p e =
     record {
       untyped = flat_program (flat_source core) (numbers_of (flat_source core) ts);
       flat = flat;
-      typed = (typed_exactly (flat_program (flat_source core) (numbers_of (flat_source core) ts))).1 h.types;
+      typed = h.types;
       is = refl;
     } in
     subst (λ q. IsTyped text q) e typed

@@ -22,7 +22,6 @@ use Rattle.static_params.specs.reached_instances.SourceView as S
 use Rattle.static_params.proofs.CoreSources.{source_is}
 use Rattle.type_check.specs.Answers as Typing
 use Rattle.type_check.specs.Faults.{type_faults, filled}
-use Rattle.type_check.proofs.Exact.{typed_exactly}
 use Rattle.source_report.specs.Report.{IsParsed, IsFlat, IsTyped}
 use Rattle.source_report.proofs.Once.{parsed_once, flat_once, none_in, statics_broken}
 use Rattle.source_report.proofs.Steps.{flat_made}
@@ -53,4 +52,4 @@ flat_is source core decls p (Err e) d h k a s = not_specialised source core decl
 
 pub typed_is : (source : List ℕ) (p q : Program) (r : Result RustTyped.Typed PhaseError) (h : IsTyped source p) → q ≡ h.untyped → IfOk r (λ t. program t.program ≡ filled q) → IfErr r (λ e. Typing.Says q e) → MatchResult r (λ t. program t.program ≡ p) (λ e. e ≡ NoMemory)
 typed_is source p q (Ok t) h e a s = a ∙ ap filled e ∙ sym h.is
-typed_is source p q (Err x) h e a s = not_typed q x (ap type_faults e ∙ (typed_exactly h.untyped).0 h.typed) s
+typed_is source p q (Err x) h e a s = not_typed q x (ap type_faults e ∙ h.typed) s

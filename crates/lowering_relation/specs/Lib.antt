@@ -2,6 +2,7 @@ pub mod Known
 pub mod Values
 pub mod Tidy
 pub mod Choosing
+pub mod FunctionNumbers
 pub mod LoweredBodies
 pub mod LoweredFunctions
 pub mod LoweredExample

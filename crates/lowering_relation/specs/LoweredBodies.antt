@@ -6,12 +6,10 @@
 -- where x is in register 0 and 1 is the next one, is lowered to Const 2 1; Arith 1 + 0 2; Tail f [1].
 -- Of the instructions that choose the clause of a match it says only what they come to; each clause has its body
 -- once.
-use Rattle.std.specs.Prelude.{◌≡◌, ◌⊎◌, ◌<◌, ◌≤◌, ◌+◌, ℕ, zero, suc, Bool}
+use Rattle.std.specs.Prelude.{◌≡◌, ◌⊎◌, ◌<◌, ◌≤◌, ◌+◌, ℕ, suc, Bool}
 use Rattle.std.specs.Prelude.{true, false, List, [], ◌∷◌, ◌++◌, Option, Some, None}
 use Rattle.std.specs.Prelude.{length, slice_get, slice_set, get_or, if◌then◌else◌}
 use Rattle.tree_semantics.specs.fip_language.declared.Place.{Place}
-use Rattle.tree_semantics.specs.fip_language.declared.FunKind.{FunKind}
-use Rattle.tree_semantics.specs.fip_language.declared.FunKind.TheVariants.{Fip, Fbip, Fun}
 use Rattle.tree_semantics.specs.fip_language.declared.Operator.{Operator}
 use Rattle.tree_semantics.specs.fip_language.declared.Operator.TheVariants as O
 use Rattle.credit_check.specs.fip_base.declared.plain.Param.{Param}
@@ -26,6 +24,7 @@ use Rattle.lowering_relation.specs.declared.held.Credit.{Credit}
 use Rattle.lowering_relation.specs.Known.{Known, joined, named, holding, with_next, used, IsTaken}
 use Rattle.lowering_relation.specs.Choosing.{Entry, IsChoice, Opens, Meets, MeetsFirst}
 use Rattle.lowering_relation.specs.Values.{Setting, is_scalar, Stands, ArgumentAt, ArgumentsAt}
+pub use Rattle.lowering_relation.specs.FunctionNumbers.{has_function, one_more, if_function, function_of}
 
 pub data Target : Type 0 where
   -- they are the function's
@@ -135,26 +134,6 @@ pub record IsOperation (code : List Instr) (at : ℕ) (k : Known) (o : Operator)
   pub given : GivenAt code (suc at) holds (destination ∷ []) target end after
 
 -- a call
-
-abbrev pub has_function : FunKind → Bool
-has_function Fip = true
-has_function Fbip = true
-has_function Fun = false
-
-abbrev pub one_more : Bool → Option ℕ → Option ℕ
-one_more b None = None
-one_more false (Some f) = Some f
-one_more true (Some f) = Some (suc f)
-
-abbrev pub if_function : Bool → Option ℕ
-if_function true = Some 0
-if_function false = None
-
--- the number of the function of an instance: instances that aren't plain have one, in their order
-abbrev pub function_of : List Instance → ℕ → Option ℕ
-function_of [] g = None
-function_of (d ∷ ds) zero = if_function (has_function d.kind)
-function_of (d ∷ ds) (suc g) = one_more (has_function d.kind) (function_of ds g)
 
 -- what isn't lent is used up
 abbrev pub handed : List Held → List Param → List ℕ → List Held

@@ -8,9 +8,9 @@ use Rattle.lowering_relation.specs.machine_semantics.Steps.{Kinds}
 use Rattle.lowering_relation.specs.machine_semantics.States.{State}
 use Rattle.lowering_relation.specs.machine_semantics.Runs.{End, Ends}
 use Rattle.lowering_relation.specs.code_rules.Codes.{PlainCode, params, results}
-use Rattle.lowering_relation.specs.LoweredBodies.{function_of}
+use Rattle.lowering_relation.specs.FunctionNumbers.{function_of}
 use Rattle.tree_refinement.specs.separation.Codes.{run_code}
-use Rattle.tree_refinement.specs.Runs.{IsSameEnd}
+use Rattle.tree_refinement.specs.Endings.{IsSameEnd}
 
 -- The run of function n from this state, with so many calls, is over after enough steps, as this answer says: with
 -- words that stand for its values and with the calls that it leaves, in the same trap, or out of calls or frames.

@@ -1,6 +1,6 @@
 -- Stores whose places have 32 bits.
 use Rattle.std.specs.Prelude.{ℕ, ◌≤◌, Bool, List, length}
-use Rattle.cell_store.specs.Cells.{Cells}
+use Rattle.cell_store.specs.StoredCells.{Cells}
 use Rattle.machine_semantics.specs.Cells.{Store}
 
 abbrev pub IsSmall : Cells → Type 0

@@ -6,23 +6,24 @@
 -- after its arguments were used up, for a frame that waits.
 -- After Take 0 [2, 3] of Cons(1, Nil) in cell 0, register 0 is a credit of size 2 and holds cell 0; registers 2 and 3
 -- hold the trees 1 and Nil, which have no cell.
-use Rattle.std.specs.Prelude.{◌≡◌, ◌⊎◌, ℕ, zero, suc, ◌+◌, ◌≤◌, List, [], ◌∷◌, ◌++◌, Option, Some, None, length, map}
+use Rattle.std.specs.Prelude.{◌≡◌, ◌⊎◌, ℕ, ◌+◌, ◌≤◌, List, [], ◌∷◌, ◌++◌, Option, Some, None, length, map}
 use Rattle.std.specs.Prelude.{slice_get, Contains}
 use Rattle.cell_code.specs.fip_language.Table.{Table}
 use Rattle.cell_code.specs.fip_language.Every.{Every}
-use Rattle.cell_code.specs.fip_language.Store.{Cell, Placed, PlacedInt, Bare, At, Parts, words_of, uses, uses_of_all, one_at}
+use Rattle.cell_code.specs.fip_language.Store.{Cell, Placed, PlacedInt, Bare, At, uses, one_at}
 use Rattle.cell_code.specs.fip_language.Store.{count}
 use Rattle.cell_code.specs.declared.code.Instr.TheVariants as I
 use Rattle.cell_code.specs.declared.kind.From.{From}
 use Rattle.cell_code.specs.declared.kind.Kind.{Kind}
 use Rattle.cell_code.specs.declared.kind.Kind.TheVariants as K
-use Rattle.machine_semantics.specs.Codes.{PlainFunction, PlainCode, function_at, instr_at, results_of}
+use Rattle.machine_semantics.specs.Codes.{PlainCode, instr_at, results_of}
 use Rattle.machine_semantics.specs.Words.{place_word}
 use Rattle.machine_semantics.specs.Cells.{Store, IsStore, cell_at, size_of, there, released_at}
-use Rattle.machine_semantics.specs.Trees.{IsTree, StandAll}
+use Rattle.machine_semantics.specs.Trees.{IsTree}
 use Rattle.machine_semantics.specs.States.{Frame, Typed, State}
 use Rattle.machine_semantics.specs.Rows.{named}
 use Rattle.machine_semantics.specs.Steps.{Kinds}
+pub use Rattle.machine_semantics.specs.Given.{AreSpare, IsGiven}
 
 -- what a register holds
 pub data Holding : Type 0 where
@@ -214,21 +215,3 @@ pub record GivesApart (code : PlainCode) (f : ℕ) (kept : List ℕ) (s : State)
   pub arguments : AreTrees code.types s.store s.lent lent
   pub once : (q : ℕ) → trees_uses q results + (trees_uses q lent + (count q kept + released_at s.store q))
       ≡ there s.store q
-
--- A cell of its size for each credit.
-abbrev pub AreSpare : Store → List ℕ → List ℕ → Type 0
-AreSpare s [] [] = Unit {0}
-AreSpare s [] (p ∷ ps) = ⊥
-AreSpare s (k ∷ ks) [] = ⊥
-AreSpare s (k ∷ ks) (p ∷ ps) = ((c : Cell) × (cell_at s p ≡ Some c) × (size_of c ≡ k)) × AreSpare s ks ps
-
--- What the entry g asks of the words that it is given: they stand for arguments of its parameters' types and name a
--- cell of its size for each of its credits; these, the kept and the released cells are apart, and together all cells.
-pub record IsGiven (tb : Table) (g : PlainFunction) (s : Store) (kept ws : List ℕ) : Type 0 where
-  pub store : IsStore s
-  pub arguments : Parts
-  pub spares : List ℕ
-  pub words : ws ≡ words_of arguments ++ map (λ p. place_word p) spares
-  pub stand : StandAll tb s (map (λ p. p.ty) g.params) arguments
-  pub credits : AreSpare s g.credits spares
-  pub once : (q : ℕ) → uses_of_all q arguments + (count q spares + (count q kept + released_at s q)) ≡ there s q

@@ -8,6 +8,7 @@ pub mod Rows
 pub mod Steps
 pub mod Runs
 pub mod Gauges
+pub mod Given
 pub mod Apart
 pub mod Kept
 pub mod Traces

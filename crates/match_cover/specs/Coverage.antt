@@ -2,33 +2,20 @@
 -- Example: data ints { Nil; Cons(int, ints) }. The clauses Nil and Cons(_, Cons(_, _)) leave the values Cons(i, Nil),
 -- so the match breaks E40 with the text Cons(_, Nil). Of _, 1 the second clause breaks E41. Of 0, 1, 2 the match breaks
 -- E40 with the text 3: literals never are all of int. Behind Cons(0, _) a clause Cons(_, Nil) is reached.
-use Rattle.std.specs.Prelude.{◌≡◌, ◌⊎◌, ℕ, suc, true, List, [], ◌∷◌, ◌++◌}
-use Rattle.fip_language.specs.declared.Place.{Place}
-use Rattle.fip_language.specs.declared.rule.Rule.TheVariants.{E40, E41}
+use Rattle.std.specs.Prelude.{◌⊎◌, ℕ, suc, List, [], ◌∷◌, ◌++◌}
 use Rattle.fip_language.specs.Values.{Value}
 use Rattle.fip_language.specs.Table.{Table, HasType}
 use Rattle.fip_trees.specs.declared.least.Violation.{Violation}
 use Rattle.fip_trees.specs.declared.program.Instance.{Instance}
 use Rattle.fip_trees.specs.declared.program.Pattern.{Pattern as Named}
-use Rattle.fip_trees.specs.Least.{violation}
 use Rattle.match_knowledge.specs.ValueHeads.{IsTidy}
-use Rattle.match_knowledge.specs.Patterns.{Pattern, AreRows, some_fits}
-use Rattle.match_knowledge.specs.Left.{Missed, Reached}
+use Rattle.match_knowledge.specs.Patterns.{Pattern, AreRows}
+use Rattle.match_knowledge.specs.Unmatched.{Reached}
 use Rattle.match_cover.specs.PatternView.{erased, pattern_place}
 use Rattle.match_cover.specs.Matches.{Match, rows_of, block_matches}
-use Rattle.match_cover.specs.Missing.{IsMissingOf}
-use Rattle.match_cover.specs.PatternText.{pattern_text}
+pub use Rattle.match_cover.specs.MatchFaults.{Uncovered, Unreached, AllFit}
 
 -- ---- what is broken, in instance i
-
--- E40 at a place: values of type t are matched by no row; the detail is the text of the missing pattern
-abbrev pub Uncovered : Table → ℕ → Place → ℕ → List Pattern → Violation → Type 0
-Uncovered tb i p t rows v =
-    Missed tb t rows × (q : Pattern) × IsMissingOf tb t rows q × (v ≡ violation E40 p i 0 (pattern_text tb q))
-
--- E41 at the place of a clause behind these rows
-abbrev pub Unreached : Table → ℕ → Place → ℕ → List Pattern → Pattern → Violation → Type 0
-Unreached tb i at t before p v = (Reached tb t before p → ⊥) × (v ≡ violation E41 at i 0 [])
 
 -- E41 at one of these clauses, each behind those before it
 abbrev pub SomeUnreached : Table → ℕ → ℕ → List Pattern → List Named → Violation → Type 0
@@ -53,10 +40,6 @@ CoverFault tb i (d ∷ ds) v = SomeBreaks tb i (block_matches d.body) v ⊎ Cove
 abbrev pub AreReached : Table → ℕ → List Pattern → List Named → Type 0
 AreReached tb t before [] = Unit {0}
 AreReached tb t before (p ∷ ps) = Reached tb t before (erased p) × AreReached tb t (before ++ erased p ∷ []) ps
-
--- each value is matched by a clause
-abbrev pub AllFit : Table → ℕ → List Pattern → Type 0
-AllFit tb t rows = (v : Value) → HasType tb t v → some_fits rows v ≡ true
 
 -- each value is matched by a clause, and by each clause some value is matched first
 abbrev pub IsCovered : Table → Match → Type 0

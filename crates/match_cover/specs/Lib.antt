@@ -1,10 +1,13 @@
 pub mod Matches
 pub mod Lets
+pub mod MatchFaults
 pub mod Shapes
 pub mod PatternView
 pub mod FoundView
+pub mod TreeOfMatch
 pub mod DecisionTree
 pub mod TreeView
+pub mod MissingPattern
 pub mod Missing
 pub mod MissingView
 pub mod MissingSearch

@@ -1,5 +1,5 @@
 -- The patterns of a program's trees: without names, and what is read off them.
-use Rattle.std.specs.Prelude.{ℕ, suc, ◌+◌, List, [], ◌∷◌, ◌++◌, map}
+use Rattle.std.specs.Prelude.{◌+◌, List, [], ◌∷◌, ◌++◌, map}
 use Rattle.fip_language.specs.declared.Place.{Place}
 use Rattle.fip_trees.specs.declared.program.Binder.{Binder}
 use Rattle.fip_trees.specs.declared.program.Pattern.{Pattern as Named}
@@ -7,8 +7,9 @@ use Rattle.fip_trees.specs.declared.program.Pattern.TheOpen as N
 use Rattle.fip_trees.specs.declared.program.Pattern.TheFolds.{fold-Pattern}
 use Rattle.fip_trees.specs.declared.program.Clause.{Clause, out-Clause}
 use Rattle.match_knowledge.specs.declared.heads.Head.TheVariants.{Number, Tag}
-use Rattle.match_knowledge.specs.Patterns.{Pattern, Any, Test, Patterns, NoPatterns, MorePatterns}
-use Rattle.match_knowledge.specs.View.{patterns_of}
+use Rattle.match_knowledge.specs.Patterns.{Pattern, Any, Test, NoPatterns}
+use Rattle.match_knowledge.specs.Patterns.{patterns_of}
+pub use Rattle.match_cover.specs.MatchFaults.{pattern_nodes, parts_nodes}
 
 -- The pattern without names. A literal is a test of an int, type 0, without parts.
 abbrev pub erase_step : N.Pattern-F Pattern → Pattern
@@ -18,16 +19,6 @@ erase_step (N.Constructor t d c name p ps) = Test t (Tag c) (patterns_of ps.item
 
 abbrev pub erased : Named → Pattern
 erased = fold-Pattern Pattern erase_step
-
--- the number of its nodes: each variable, literal and constructor is one
-abbrev mutual
-  pub pattern_nodes : Pattern → ℕ
-  pattern_nodes Any = 1
-  pattern_nodes (Test t h ps) = suc (parts_nodes ps)
-
-  pub parts_nodes : Patterns → ℕ
-  parts_nodes NoPatterns = 0
-  parts_nodes (MorePatterns p ps) = pattern_nodes p + parts_nodes ps
 
 abbrev pub joined : {A : Type 0} → List (List A) → List A
 joined [] = []

@@ -1,21 +1,16 @@
--- The values that no row matches.
-use Rattle.std.specs.Prelude.{◌≡◌, ℕ, ◌+◌, ◌<◌, ◌^◌, nat_lt, if◌then◌else◌, Bool, true, false}
-use Rattle.std.specs.Prelude.{List, [], ◌∷◌, Some, slice_get}
+-- It serves the search for values that no row matches: what is asked of it, and what it answers.
+use Rattle.std.specs.Prelude.{◌≡◌, ℕ, ◌+◌, ◌<◌, ◌^◌, nat_lt, if◌then◌else◌, Bool, true, false, List, [], ◌∷◌, Some}
+use Rattle.std.specs.Prelude.{slice_get}
 use Rattle.fip_base.specs.fip_language.Values.{Value}
 use Rattle.fip_base.specs.fip_language.Table.{Table, HasType}
 use Rattle.match_knowledge.specs.ValueHeads.{IsTidy}
-use Rattle.match_knowledge.specs.Patterns.{Pattern, Any, Test, Patterns, NoPatterns, MorePatterns}
-use Rattle.match_knowledge.specs.Patterns.{fits, some_fits, IsPattern, AreRows, row_nodes}
+use Rattle.match_knowledge.specs.Patterns.{Pattern, IsPattern, AreRows, row_nodes}
 use Rattle.match_knowledge.specs.declared.verdicts.Verdict.{Verdict}
 use Rattle.match_knowledge.specs.declared.verdicts.Verdict.TheVariants.{Fits, Misses, Asks}
 use Rattle.match_knowledge.specs.declared.unmatched.Choice.{Choice}
 use Rattle.match_knowledge.specs.declared.unmatched.Choice.TheVariants.{Covered, Nothing, Ask}
-use Rattle.match_knowledge.specs.Known.{Known, Open, Is, Knowns, NoKnowns, MoreKnowns}
-use Rattle.match_knowledge.specs.Known.{agrees, compare, row_tests, Alive}
-
--- some value of the type agrees with what is known, and no row matches it
-abbrev pub Left : Table → ℕ → List Pattern → Known → Type 0
-Left tb t rows k = (v : Value) × HasType tb t v × (agrees k v ≡ true) × (some_fits rows v ≡ false)
+use Rattle.match_knowledge.specs.Known.{Known, compare, row_tests, Alive}
+pub use Rattle.match_knowledge.specs.Unmatched.{Left, Missed, Reached, known_of, all_known}
 
 abbrev pub Tells : Bool → Type 0 → Type 0
 Tells b P = (b ≡ true → P) × (b ≡ false → P → ⊥)
@@ -62,24 +57,6 @@ pub record IsSearch (tb : Table) (t : ℕ) (rows : List Pattern) (k : Known) : T
 -- an answer to the search
 abbrev pub AnswersLeft : Table → List Pattern → Known → Bool → Type 0
 AnswersLeft tb rows k b = (t : ℕ) → IsSearch tb t rows k → Tells b (Left tb t rows k)
-
--- Some value of the type is matched by no row.
-abbrev pub Missed : Table → ℕ → List Pattern → Type 0
-Missed tb t rows = (v : Value) × HasType tb t v × (some_fits rows v ≡ false)
-
--- Some value of the type is matched by the pattern and by none of the rows before it.
-abbrev pub Reached : Table → ℕ → List Pattern → Pattern → Type 0
-Reached tb t before p = (v : Value) × HasType tb t v × (fits p v ≡ true) × (some_fits before v ≡ false)
-
--- what the pattern asks, as what is known
-abbrev mutual
-  pub known_of : Pattern → Known
-  known_of Any = Open []
-  known_of (Test t h ps) = Is h (all_known ps)
-
-  pub all_known : Patterns → Knowns
-  all_known NoPatterns = NoKnowns
-  all_known (MorePatterns p ps) = MoreKnowns (known_of p) (all_known ps)
 
 -- what is asked of a match before its rows are looked at
 pub record IsMatch (tb : Table) (t : ℕ) (rows : List Pattern) : Type 0 where

@@ -59,3 +59,7 @@ abbrev mutual
 abbrev pub row_nodes : List Pattern → ℕ
 row_nodes [] = 0
 row_nodes (p ∷ ps) = nodes p + row_nodes ps
+
+abbrev pub patterns_of : List Pattern → Patterns
+patterns_of [] = NoPatterns
+patterns_of (p ∷ ps) = MorePatterns p (patterns_of ps)

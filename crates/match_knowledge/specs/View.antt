@@ -8,10 +8,7 @@ use Rattle.match_knowledge.specs.declared.rows.Row.TheFolds.{fold-Row}
 use Rattle.match_knowledge.specs.declared.knowledge.Knowledge.{Knowledge}
 use Rattle.match_knowledge.specs.declared.knowledge.Knowledge.TheOpen as K
 use Rattle.match_knowledge.specs.declared.knowledge.Knowledge.TheFolds.{fold-Knowledge}
-
-abbrev pub patterns_of : List Pattern → Patterns
-patterns_of [] = NoPatterns
-patterns_of (p ∷ ps) = MorePatterns p (patterns_of ps)
+pub use Rattle.match_knowledge.specs.Patterns.{patterns_of}
 
 abbrev pub row_step : R.Row-F Pattern → Pattern
 row_step R.Any = Any

@@ -1,3 +1,4 @@
+pub mod Items
 pub mod Terms
 pub mod Rules
 pub mod ByCases

@@ -2,8 +2,8 @@
 -- binders of scalar variables are left out. So match! xs { Cons(x, t) -> rev(t, Cons(x, acc)); .. }, where x is an int,
 -- is Take (Named xs) of a clause with the variable t, a credit of size 2 and the body Call true of t and of
 -- Built (Scalar, acc).
-use Rattle.std.specs.Prelude.{ℕ, zero, suc, List, [], ◌∷◌, Bool, ◌+◌, if◌then◌else◌, ◌==◌}
-use Rattle.std.specs.List.{list_any}
+use Rattle.std.specs.Prelude.{ℕ, suc, List, Bool}
+pub use Rattle.ownership_calculus.specs.Items.{Item, Own, Credit, has, one, only, paid, given, charge}
 
 -- an argument: a variable, a scalar, or a constructor with fields
 mutual
@@ -37,38 +37,6 @@ mutual
     LastClause : (variables nodes : List ℕ) (body : Term) → Clauses
     MoreClauses : (variables nodes : List ℕ) (body : Term) (rest : Clauses) → Clauses
 
--- what an owned environment counts: how often it has a variable, and how many credits of a size
-pub data Item : Type 0 where
-  Own : (x : ℕ) → Item
-  Credit : (k : ℕ) → Item
-
-abbrev pub has : List ℕ → ℕ → Bool
-has xs x = list_any (λ y. y == x) xs
-
-abbrev pub one : ℕ → ℕ → ℕ
-one x y = if x == y then 1 else 0
-
--- x once, and nothing else
-abbrev pub only : ℕ → Item → ℕ
-only x (Own y) = one x y
-only x (Credit k) = 0
-
 abbrev pub size : Values → ℕ
 size NoValues = 0
 size (MoreValues a as') = suc (size as')
-
--- the credit that a constructor of this size uses up; none where it has no field
-abbrev pub paid : ℕ → Item → ℕ
-paid zero i = 0
-paid (suc n) (Own y) = 0
-paid (suc n) (Credit k) = one (suc n) k
-
--- how often k stands in a list of sizes
-abbrev pub given : ℕ → List ℕ → ℕ
-given k [] = 0
-given k (j ∷ ks) = one j k + given k ks
-
--- the credits of a header, and no variable
-abbrev pub charge : List ℕ → Item → ℕ
-charge ks (Own y) = 0
-charge ks (Credit k) = given k ks

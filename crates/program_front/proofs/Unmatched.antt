@@ -40,10 +40,12 @@ use Rattle.type_check.specs.Faults.{type_faults}
 use Rattle.match_cover.specs.Answers as Covering
 use Rattle.match_cover.specs.Coverage.{CoverFault}
 use Rattle.match_cover.specs.Shapes.{shape_faults}
-use Rattle.source_report.specs.Report.{at, AreOf, IsParsed, IsFlat, IsTyped, IsMatched}
-use Rattle.source_report.proofs.Memory.{shapes_are, plain_shapes, fault_forth, fault_back, PlainFault}
+use Rattle.source_report.specs.Report.{at, IsParsed, IsFlat, IsTyped, IsMatched}
+use Rattle.source_report.specs.InMemory.{AreOf}
+use Rattle.source_report.specs.MatchRules.{shape_faults as plain_shapes, CoverFault as PlainFault}
+use Rattle.source_report.proofs.Memory.{shapes_are, fault_forth}
 use Rattle.source_report.proofs.Numbered.{numbered_once, not_more}
-use Rattle.source_report.proofs.Once.{none_in, parsed_once, flat_once, typed_once, statics_broken, shapes_same, fault_same}
+use Rattle.source_report.proofs.Once.{none_in, parsed_once, flat_once, typed_once, statics_broken}
 use Rattle.source_report.proofs.Ready.{typed_ready}
 use Rattle.source_report.proofs.Steps.{IsChecked, if_err}
 use Rattle.program_front.specs.Unmatched.{IsUnmatched}
@@ -81,7 +83,7 @@ flat_unmatched source core decls r d p h =
 pub types_unmatched : (source : List ℕ) (p : Program) (e : PhaseError) → IsFlat source p → Types.Says p e → IsUnmatched source e
 types_unmatched source p (Refused r) flat k = λ q h.
     let same = flat_once source p h.typed.untyped flat h.typed.flat in
-    none_in (type_faults p) k.0 (ap type_faults same ∙ (typed_exactly h.typed.untyped).0 h.typed.typed) k.1
+    none_in (type_faults p) k.0 (ap type_faults same ∙ h.typed.typed) k.1
 types_unmatched source p NoMemory flat k = tt
 
 -- a typed program whose matches have violations
@@ -89,20 +91,18 @@ module _ (source : List ℕ) (p : Program) (ds : List Instance) (typed : IsTyped
   shapes_unmatched : (v : Violation) → IsLeast (shape_faults 0 ds) v → (q : Program) → IsMatched source q → ⊥
   shapes_unmatched v least q h =
       let same = typed_once source p q typed h.typed in
-      let of_it : AreOf p h.instances = subst (λ p. AreOf p h.instances) (sym same) h.of' in
-      none_in (shape_faults 0 ds) v (shapes_same p ds h.instances of' of_it ∙ h.shapes) least
+      none_in (shape_faults 0 ds) v (shapes_are 0 ds ∙ ap (plain_shapes 0) of' ∙ ap (λ (p : Program). plain_shapes 0 p.instances) same ∙ h.shapes) least
 
   coverage_unmatched : (v : Violation) → CoverFault p.types 0 ds v → (q : Program) → IsMatched source q → ⊥
   coverage_unmatched v fault q h =
       let same = typed_once source p q typed h.typed in
-      let of_it : AreOf q ds = subst (λ p. AreOf p ds) same of' in
-      h.right.unbroken v (fault_same q ds h.instances v of_it h.of' (subst (λ (p : Program). CoverFault p.types 0 ds v) same fault))
+      h.right.unbroken v (subst (λ (p : Program). PlainFault p.types 0 p.instances v) same (subst (λ is. PlainFault p.types 0 is v) of' (fault_forth p.types 0 ds v fault)))
 
 pub cover_unmatched : (source : List ℕ) (flat typed : Typed.Program) (e : PhaseError) → IsChecked flat typed → IsFlat source (program flat) → Covering.Says typed.types typed.instances.items e → IsUnmatched source e
 cover_unmatched source flat typed e c h k = by e k
   where
     is_typed : IsTyped source (program typed)
-    is_typed = record { untyped = program flat; flat = h; typed = c.typed; is = c.tree }
+    is_typed = record { untyped = program flat; flat = h; typed = (typed_exactly (program flat)).0 c.typed; is = c.tree }
 
     by : (e : PhaseError) → Covering.Says typed.types typed.instances.items e → IsUnmatched source e
     by NoMemory k = tt

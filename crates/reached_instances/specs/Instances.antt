@@ -7,7 +7,7 @@ use Rattle.std.specs.Prelude.{if◌then◌else◌}
 use Rattle.fip_base.specs.fip_language.declared.Place.{Place}
 use Rattle.fip_base.specs.fip_language.Core.{Written, WrittenInt, WrittenName, Static, Function}
 use Rattle.fip_base.specs.fip_language.Mentions.{all_of}
-use Rattle.fip_base.specs.fip_language.Stack.{CallSite, sites_in_block}
+use Rattle.fip_base.specs.fip_language.CallSites.{CallSite, sites_in_block}
 use Rattle.fip_trees.specs.declared.least.Violation.{Violation}
 use Rattle.reached_instances.specs.declared.closed.Head.TheVariants as H
 use Rattle.reached_instances.specs.Closed.{Closed, Closeds, Int, Applied, NoClosed, MoreClosed, same_closed}

@@ -1,4 +1,5 @@
 pub mod Loading
+pub mod TraceFile
 pub mod TraceText
 pub mod TraceReading
 pub mod Replaying

@@ -1,5 +1,4 @@
--- For the theorem that a machine begins where its text says: how the arguments of a run, and the cells of its entry's
--- credits, lie in a new store.
+-- The loaded state of a run: how its arguments, and the cells of its entry's credits, lie in a new store.
 --
 -- Each node with children is a cell, in the order of the ) in the text of the arguments: so a value's cells stand
 -- before the cell of the value that it is a field of. A cell with k fields takes k + 1 places, its own and one for each

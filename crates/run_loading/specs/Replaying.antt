@@ -1,5 +1,5 @@
--- For the theorems on `replay` and on `trace`, whose trace is that of a run: a line for each cell of a trace in order
--- of place, as it is after so many steps, or after the last where the run took fewer.
+-- What `replay` shows of a trace, and which trace a run has: a line for each cell of a trace in order of place, as it
+-- is after so many steps, or after the last where the run took fewer.
 --
 -- For the trace of one step that writes Cons(2, Nil) over Cons(1, Nil) in cell 0 the line is `cell 0: tag 1 fields 1 0`
 -- after no step, and `cell 0: tag 1 fields 2 0` after one or a million. Behind a step that releases it, it is `free 0`.
@@ -14,7 +14,7 @@ use Rattle.tree_refinement.specs.machine_semantics.Steps.{Kinds}
 use Rattle.tree_refinement.specs.machine_semantics.Runs.{begun}
 use Rattle.tree_refinement.specs.machine_semantics.Traces.{events, replay}
 use Rattle.run_loading.specs.Loading.{unreleased}
-use Rattle.run_loading.specs.TraceText.{Loaded, Trace}
+use Rattle.run_loading.specs.TraceFile.{Loaded, Trace}
 
 -- ---- the lines of a store
 

@@ -1,4 +1,4 @@
--- For the theorem on what `replay` refuses: which byte of a file that is no trace's is named.
+-- What `replay` refuses: which byte of a file that is no trace's is named.
 --
 -- The file is read from the front, and each number is asked for what is said of it as soon as it is read. Where the
 -- file ends early, its length is named; a byte of the first six, and the byte of an event that is neither 0 nor 1, by
@@ -13,7 +13,7 @@ use Rattle.tree_refinement.specs.fip_language.declared.limits.TheConstants.{MOST
 use Rattle.tree_refinement.specs.fip_language.Every.{Every}
 use Rattle.tree_refinement.specs.machine_semantics.Cells.{Write, Release}
 use Rattle.tree_refinement.specs.machine_semantics.Traces.{Event}
-use Rattle.run_loading.specs.TraceText.{Loaded, Trace, size_at, left_by}
+use Rattle.run_loading.specs.TraceFile.{Loaded, Trace, size_at, left_by}
 
 -- what reading gives: something that ends at an offset, with the bytes behind it; or the offset that is bad
 pub data Read (A : Type 0) : Type 0 where

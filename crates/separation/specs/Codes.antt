@@ -2,7 +2,8 @@
 --
 -- Of the reversal of a list, register 0 owns a list with constructor 0 or 1 before instruction 0, and register 0 is a
 -- credit of size 2 before instruction 4. At a Call the kinds that wait are those behind its arguments.
-use Rattle.std.specs.Prelude.{◌≡◌, ℕ, false, List, Some, map}
+use Rattle.std.specs.Prelude.{◌≡◌, ℕ, false, List, Some, map, FitsSigned}
+use Rattle.std.specs.Int.{w64}
 use Rattle.separation_kinds.specs.cell_code.declared.code.Instr.{Instr}
 use Rattle.separation_kinds.specs.cell_code.declared.code.Instr.TheVariants as I
 use Rattle.separation_kinds.specs.cell_code.declared.kind.Kind.{Kind}
@@ -11,7 +12,24 @@ use Rattle.separation_kinds.specs.machine_semantics.Steps.{Kinds}
 use Rattle.separation_kinds.specs.code_rules.Codes.{PlainCode, PlainFunction, function_at}
 use Rattle.separation_kinds.specs.code_rules.Handing.{arguments}
 use Rattle.separation_kinds.specs.code_rules.Flow.{IsInstr, KnownAt}
-use Rattle.separation.specs.Rows.{FitsLiteral}
+
+-- An int that an instruction writes has 64 bits.
+abbrev pub FitsLiteral : Instr → Type 0
+FitsLiteral (I.Const d v) = FitsSigned w64 v
+FitsLiteral (I.Atom d t k) = Unit {0}
+FitsLiteral (I.Move d r) = Unit {0}
+FitsLiteral (I.Arith d o x y line col) = Unit {0}
+FitsLiteral (I.Test r k target) = Unit {0}
+FitsLiteral (I.TestInt r v target) = Unit {0}
+FitsLiteral (I.Peek d r i) = Unit {0}
+FitsLiteral (I.Take r ds) = Unit {0}
+FitsLiteral (I.Put d t k rs) = Unit {0}
+FitsLiteral (I.Drop r) = Unit {0}
+FitsLiteral (I.Free r) = Unit {0}
+FitsLiteral (I.Call g rs ds) = Unit {0}
+FitsLiteral (I.Tail g rs) = Unit {0}
+FitsLiteral (I.Ret rs) = Unit {0}
+FitsLiteral (I.Jump target) = Unit {0}
 
 -- what a run reads of a function
 abbrev pub run_function : PlainFunction → R.PlainFunction

@@ -3,12 +3,10 @@
 --
 -- Before Take 0 [2, 3] register 0 owns a tree with a cell; behind it register 0 is a credit that holds this cell, and
 -- registers 2 and 3 hold the parts. Each cell is owned as often as before.
-use Rattle.std.specs.Prelude.{◌≡◌, ℕ, ◌+◌, ◌≤◌, true, List, [], Some, length, slice_get, FitsSigned}
-use Rattle.std.specs.Int.{w64}
+use Rattle.std.specs.Prelude.{◌≡◌, ℕ, ◌+◌, ◌≤◌, true, List, [], Some, length, slice_get}
 use Rattle.separation_kinds.specs.fip_language.Table.{Shape, Table, constructors}
 use Rattle.separation_kinds.specs.fip_language.Store.{Placed}
 use Rattle.separation_kinds.specs.cell_code.declared.code.Instr.{Instr}
-use Rattle.separation_kinds.specs.cell_code.declared.code.Instr.TheVariants as I
 use Rattle.separation_kinds.specs.cell_code.declared.kind.Kind.{Kind}
 use Rattle.separation_kinds.specs.machine_semantics.Cells.{Store, IsStore, cell_at, there, released_at, changed_by}
 use Rattle.separation_kinds.specs.machine_semantics.States.{State}
@@ -20,24 +18,7 @@ use Rattle.separation_kinds.specs.code_rules.Ranges.{in_range}
 use Rattle.separation_kinds.specs.code_rules.Asked.{sources, destinations}
 use Rattle.separation_kinds.specs.code_rules.Flow.{IsReachedAt, GoesTo}
 use Rattle.separation_kinds.specs.Meanings.{AreMeant, owned_by, word_at}
-
--- An int that an instruction writes has 64 bits.
-abbrev pub FitsLiteral : Instr → Type 0
-FitsLiteral (I.Const d v) = FitsSigned w64 v
-FitsLiteral (I.Atom d t k) = Unit {0}
-FitsLiteral (I.Move d r) = Unit {0}
-FitsLiteral (I.Arith d o x y line col) = Unit {0}
-FitsLiteral (I.Test r k target) = Unit {0}
-FitsLiteral (I.TestInt r v target) = Unit {0}
-FitsLiteral (I.Peek d r i) = Unit {0}
-FitsLiteral (I.Take r ds) = Unit {0}
-FitsLiteral (I.Put d t k rs) = Unit {0}
-FitsLiteral (I.Drop r) = Unit {0}
-FitsLiteral (I.Free r) = Unit {0}
-FitsLiteral (I.Call g rs ds) = Unit {0}
-FitsLiteral (I.Tail g rs) = Unit {0}
-FitsLiteral (I.Ret rs) = Unit {0}
-FitsLiteral (I.Jump target) = Unit {0}
+pub use Rattle.separation.specs.Codes.{FitsLiteral}
 
 -- Constructor k of bool is there, and has no field.
 abbrev pub IsTruth : Table → ℕ → Type 0

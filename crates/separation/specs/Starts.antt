@@ -6,7 +6,7 @@ use Rattle.std.specs.Prelude.{◌≡◌, ℕ, List, Some}
 use Rattle.separation_kinds.specs.machine_semantics.Steps.{Kinds}
 use Rattle.separation_kinds.specs.machine_semantics.States.{State}
 use Rattle.separation_kinds.specs.machine_semantics.Runs.{loaded}
-use Rattle.separation_kinds.specs.machine_semantics.Apart.{IsGiven}
+use Rattle.separation_kinds.specs.machine_semantics.Given.{IsGiven}
 use Rattle.separation_kinds.specs.code_rules.Codes.{PlainCode, PlainFunction, function_at}
 use Rattle.separation_kinds.specs.code_rules.Breaks.{IsSound}
 use Rattle.separation.specs.Codes.{run_function, run_code, HasLiterals, AreKinds}

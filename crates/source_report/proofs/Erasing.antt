@@ -5,20 +5,11 @@ use Rattle.cell_lower.specs.fip_trees.TreeView as V
 use Rattle.cell_lower.specs.fip_trees.declared.program.Pattern.{Pattern, roll-Pattern}
 use Rattle.cell_lower.specs.fip_trees.declared.program.Pattern.TheOpen as N
 use Rattle.cell_lower.specs.fip_trees.declared.program.Pattern.TheFolds.{fold-roll-Pattern, map-Pattern, ind-Pattern}
-use Rattle.cell_lower.specs.match_knowledge.declared.heads.Head.TheVariants.{Number, Tag}
+use Rattle.cell_lower.specs.match_knowledge.declared.heads.Head.TheVariants.{Tag}
 use Rattle.cell_lower.specs.match_knowledge.Patterns as K
 use Rattle.cell_lower.specs.match_knowledge.View.{patterns_of}
 use Rattle.cell_lower.specs.match_cover.PatternView.{erased, erase_step}
-
-abbrev mutual
-  pub plain : T.Pattern → K.Pattern
-  plain (T.BinderPattern b) = K.Any
-  plain (T.LiteralPattern v p) = K.Test 0 (Number v) K.NoPatterns
-  plain (T.ConstructorPattern t d c n p ps) = K.Test t (Tag c) (plain_all ps)
-
-  pub plain_all : T.Patterns → K.Patterns
-  plain_all T.NoPatterns = K.NoPatterns
-  plain_all (T.MorePatterns p ps) = K.MorePatterns (plain p) (plain_all ps)
+use Rattle.source_report.specs.TreeMatches.{bare as plain, bare_all as plain_all}
 
 erased_roll : (x : N.Pattern-F Pattern) → erased (roll-Pattern x) ≡ erase_step (map-Pattern Pattern K.Pattern erased x)
 erased_roll x = fold-roll-Pattern K.Pattern erase_step x

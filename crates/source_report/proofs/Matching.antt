@@ -1,6 +1,5 @@
 -- The matches of a body, by the trees that they stand for: an induction over the tree in memory.
 use Rattle.std.proofs.Common.{◌≡◌, ℕ, List, [], ◌∷◌, ◌++◌, refl, sym, ap, ap₂, ◌∙◌, map, subst, append_assoc}
-use Rattle.cell_lower.specs.fip_language.declared.Place.{Place}
 use Rattle.cell_lower.specs.fip_trees.Tree as T
 use Rattle.cell_lower.specs.fip_trees.TreeView as V
 use Rattle.cell_lower.specs.fip_trees.declared.program.Expression.{Expression, roll-Expression}
@@ -11,37 +10,11 @@ use Rattle.cell_lower.specs.fip_trees.declared.program.Binding.{Binding, roll-Bi
 use Rattle.cell_lower.specs.fip_trees.declared.program.Clause.{Clause, roll-Clause}
 use Rattle.cell_lower.specs.match_cover.PatternView.{joined}
 use Rattle.cell_lower.specs.match_cover.Matches.{Match, Arm, arm_pattern, below_arms, expression_step, binding_step, block_step, clause_step, expression_matches, binding_matches, block_matches, arm}
+use Rattle.source_report.specs.TreeMatches.{Match as PlainMatch, clause_patterns, matches, matches_block, matches_clauses}
 use Rattle.cell_lower.proofs.fip_language.Facts.{map_append}
-
--- a match, and the patterns of its clauses
-pub record PlainMatch : Type 0 where
-  pub place : Place
-  pub ty : ℕ
-  pub patterns : List T.Pattern
 
 abbrev pub match_view : Match → PlainMatch
 match_view m = record { place = m.place; ty = m.ty; patterns = map V.pattern m.clauses }
-
-abbrev pub clause_patterns : T.Clauses → List T.Pattern
-clause_patterns T.NoClauses = []
-clause_patterns (T.MoreClauses q b cs) = q ∷ clause_patterns cs
-
-abbrev mutual
-  pub matches : T.Expression → List PlainMatch
-  matches (T.Give a) = []
-  matches (T.Tuple p as') = []
-  matches (T.Operation o p l r) = []
-  matches (T.Call g n p as') = []
-  matches (T.Match k u p a q b cs) = record { place = p; ty = u; patterns = q ∷ clause_patterns cs } ∷ (matches_block b ++ matches_clauses cs)
-  matches (T.Nested b) = matches_block b
-
-  pub matches_block : T.Block → List PlainMatch
-  matches_block (T.Last e) = matches e
-  matches_block (T.Let bs e rest) = matches e ++ matches_block rest
-
-  pub matches_clauses : T.Clauses → List PlainMatch
-  matches_clauses T.NoClauses = []
-  matches_clauses (T.MoreClauses q b cs) = matches_block b ++ matches_clauses cs
 
 abbrev IsExpression : Expression → Type 0
 IsExpression x = map match_view (expression_matches x) ≡ matches (V.expression x)

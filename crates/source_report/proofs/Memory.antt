@@ -23,10 +23,14 @@ use Rattle.cell_lower.specs.match_cover.PatternView.{erased, pattern_place, plac
 use Rattle.cell_lower.specs.match_cover.Matches.{Match, block_matches}
 use Rattle.cell_lower.specs.match_cover.Lets.{Lets, expression_step, binding_step, block_step, clause_step, expression_lets, binding_lets, block_lets, clause_lets}
 use Rattle.cell_lower.specs.match_cover.Shapes.{is_large, twice_faults, patterns_faults, matches_faults, lets_faults, shape_faults}
-use Rattle.cell_lower.specs.match_cover.Coverage.{Uncovered, Unreached, SomeUnreached, SomeBreaks, CoverFault}
-use Rattle.cell_lower.specs.match_cover.Answers.{IsLeastCoverFault}
-use Rattle.source_report.proofs.Erasing.{plain, erased_is}
-use Rattle.source_report.proofs.Matching.{PlainMatch, match_view, matches_block, matches_are}
+use Rattle.cell_lower.specs.match_cover.Coverage.{Uncovered, Unreached, SomeUnreached, SomeBreaks, CoverFault, AllFit, AreReached, IsCovered, AreCovered, AllCovered}
+use Rattle.cell_lower.specs.match_knowledge.Left.{Reached}
+use Rattle.cell_lower.specs.match_cover.Answers.{IsLeastCoverFault, IsRight}
+use Rattle.source_report.specs.TreeMatches.{bare as plain, binders, binders_all, Match as PlainMatch, matches_block, lets, lets_block, lets_clauses}
+use Rattle.source_report.specs.MatchRules as R
+use Rattle.source_report.specs.MatchRules.{patterns_faults as plain_twice, matches_faults as plain_matches, shape_faults as plain_shapes, SomeUnreached as PlainUnreached, SomeBreaks as SomePlain, CoverFault as PlainFault}
+use Rattle.source_report.proofs.Erasing.{erased_is}
+use Rattle.source_report.proofs.Matching.{match_view, matches_are}
 
 -- ---- patterns: their places and their binders
 
@@ -40,16 +44,6 @@ place_is q = ind-Pattern (λ q. pattern_place q ≡ T.pattern_place (V.pattern q
 
     by : (x : N.Pattern-F Pattern) → pattern_place (roll-Pattern x) ≡ T.pattern_place (V.pattern (roll-Pattern x))
     by x = fold-roll-Pattern Place place_step x ∙ layer x ∙ sym (ap T.pattern_place (fold-roll-Pattern T.Pattern V.pattern_step x))
-
-abbrev mutual
-  pub binders : T.Pattern → List Binder
-  binders (T.BinderPattern b) = b ∷ []
-  binders (T.LiteralPattern i p) = []
-  binders (T.ConstructorPattern t d c n p ps) = binders_all ps
-
-  pub binders_all : T.Patterns → List Binder
-  binders_all T.NoPatterns = []
-  binders_all (T.MorePatterns p ps) = binders p ++ binders_all ps
 
 module _ {S : Type 0} (f : S → Pattern) (ok : (s : S) → pattern_binders (f s) ≡ binders (V.pattern (f s))) where
   rows_bind : (ss : List S) → joined (map pattern_binders (map f ss)) ≡ binders_all (V.patterns_of (map V.pattern (map f ss)))
@@ -68,23 +62,6 @@ binders_are : (q : Pattern) → pattern_binders q ≡ binders (V.pattern q)
 binders_are q = ind-Pattern (λ q. pattern_binders q ≡ binders (V.pattern q)) (λ x y e. subst (λ x. pattern_binders (roll-Pattern x) ≡ binders (V.pattern (roll-Pattern x))) e (step_binds (λ e. e.0) (λ e. e.1) y)) q
 
 -- ---- lets
-
-abbrev mutual
-  pub lets : T.Expression → Lets
-  lets (T.Give a) = []
-  lets (T.Tuple p as') = []
-  lets (T.Operation o p l r) = []
-  lets (T.Call g n p as') = []
-  lets (T.Match k u p a q b cs) = lets_block b ++ lets_clauses cs
-  lets (T.Nested b) = lets_block b
-
-  pub lets_block : T.Block → Lets
-  lets_block (T.Last e) = lets e
-  lets_block (T.Let bs e rest) = (bs ∷ lets e) ++ lets_block rest
-
-  pub lets_clauses : T.Clauses → Lets
-  lets_clauses T.NoClauses = []
-  lets_clauses (T.MoreClauses q b cs) = lets_block b ++ lets_clauses cs
 
 abbrev IsExpression : Expression → Type 0
 IsExpression x = expression_lets x ≡ lets (V.expression x)
@@ -168,21 +145,6 @@ rows_are : (qs : List Pattern) → map erased qs ≡ map plain (map V.pattern qs
 rows_are [] = refl
 rows_are (q ∷ qs) = ap₂ (λ p ps. p ∷ ps) (erased_is q) (rows_are qs)
 
-abbrev pub plain_size : ℕ → PlainMatch → List Violation
-plain_size i m = if is_large (map plain m.patterns) then violation E43 m.place i 0 [] ∷ [] else []
-
-abbrev pub plain_twice : ℕ → List T.Pattern → List Violation
-plain_twice i [] = []
-plain_twice i (q ∷ qs) = twice_faults i [] (binders q) ++ plain_twice i qs
-
-abbrev pub plain_matches : ℕ → List PlainMatch → List Violation
-plain_matches i [] = []
-plain_matches i (m ∷ ms) = plain_size i m ++ (plain_twice i m.patterns ++ plain_matches i ms)
-
-abbrev pub plain_shapes : ℕ → List T.Instance → List Violation
-plain_shapes i [] = []
-plain_shapes i (d ∷ ds) = (plain_matches i (matches_block d.body) ++ lets_faults i (lets_block d.body)) ++ plain_shapes (suc i) ds
-
 twice_are : (i : ℕ) (qs : List Pattern) → patterns_faults i qs ≡ plain_twice i (map V.pattern qs)
 twice_are i [] = refl
 twice_are i (q ∷ qs) = ap₂ (λ xs ys. xs ++ ys) (ap (twice_faults i []) (binders_are q)) (twice_are i qs)
@@ -201,21 +163,6 @@ shapes_are i (d ∷ ds) =
     (shapes_are (suc i) ds)
 
 -- ---- E40 and E41
-
-abbrev PlainUnreached : Table → ℕ → ℕ → List K.Pattern → List T.Pattern → Violation → Type 0
-PlainUnreached tb i t before [] v = ⊥
-PlainUnreached tb i t before (q ∷ qs) v = Unreached tb i (T.pattern_place q) t before (plain q) v ⊎ PlainUnreached tb i t (before ++ plain q ∷ []) qs v
-
-abbrev PlainBreaks : Table → ℕ → PlainMatch → Violation → Type 0
-PlainBreaks tb i m v = PlainUnreached tb i m.ty [] m.patterns v ⊎ Uncovered tb i m.place m.ty (map plain m.patterns) v
-
-abbrev SomePlain : Table → ℕ → List PlainMatch → Violation → Type 0
-SomePlain tb i [] v = ⊥
-SomePlain tb i (m ∷ ms) v = PlainBreaks tb i m v ⊎ SomePlain tb i ms v
-
-abbrev pub PlainFault : Table → ℕ → List T.Instance → Violation → Type 0
-PlainFault tb i [] v = ⊥
-PlainFault tb i (d ∷ ds) v = SomePlain tb i (matches_block d.body) v ⊎ PlainFault tb (suc i) ds v
 
 unreached_forth : (tb : Table) (i t : ℕ) (before : List K.Pattern) (qs : List Pattern) (v : Violation) → SomeUnreached tb i t before qs v → PlainUnreached tb i t before (map V.pattern qs) v
 unreached_forth tb i t before [] v h = absurd h
@@ -259,3 +206,43 @@ least_plain tb ds v h =
       violated = fault_forth tb 0 ds v h.violated;
       least = λ w k. h.least w (fault_back tb 0 ds w k);
     }
+
+-- ---- what is right
+
+reached_forth : (tb : Table) (t : ℕ) (before : List K.Pattern) (qs : List Pattern) → AreReached tb t before qs → R.AreReached tb t before (map V.pattern qs)
+reached_forth tb t before [] h = tt
+reached_forth tb t before (q ∷ qs) h =
+    (subst (Reached tb t before) (erased_is q) h.0, reached_forth tb t (before ++ plain (V.pattern q) ∷ []) qs (subst (λ r. AreReached tb t (before ++ r ∷ []) qs) (erased_is q) h.1))
+
+reached_back : (tb : Table) (t : ℕ) (before : List K.Pattern) (qs : List Pattern) → R.AreReached tb t before (map V.pattern qs) → AreReached tb t before qs
+reached_back tb t before [] h = tt
+reached_back tb t before (q ∷ qs) h =
+    (subst (Reached tb t before) (sym (erased_is q)) h.0, subst (λ r. AreReached tb t (before ++ r ∷ []) qs) (sym (erased_is q)) (reached_back tb t (before ++ plain (V.pattern q) ∷ []) qs h.1))
+
+match_forth : (tb : Table) (m : Match) → IsCovered tb m → R.IsCovered tb (match_view m)
+match_forth tb m h = (reached_forth tb m.ty [] m.clauses h.0, subst (AllFit tb m.ty) (rows_are m.clauses) h.1)
+
+match_back : (tb : Table) (m : Match) → R.IsCovered tb (match_view m) → IsCovered tb m
+match_back tb m h = (reached_back tb m.ty [] m.clauses h.0, subst (AllFit tb m.ty) (sym (rows_are m.clauses)) h.1)
+
+each_forth : (tb : Table) (ms : List Match) → AreCovered tb ms → R.AreCovered tb (map match_view ms)
+each_forth tb [] h = tt
+each_forth tb (m ∷ ms) h = (match_forth tb m h.0, each_forth tb ms h.1)
+
+each_back : (tb : Table) (ms : List Match) → R.AreCovered tb (map match_view ms) → AreCovered tb ms
+each_back tb [] h = tt
+each_back tb (m ∷ ms) h = (match_back tb m h.0, each_back tb ms h.1)
+
+covered_forth : (tb : Table) (ds : List Instance) → AllCovered tb ds → R.AllCovered tb (V.instances ds)
+covered_forth tb [] h = tt
+covered_forth tb (d ∷ ds) h = (subst (R.AreCovered tb) (matches_are d.body) (each_forth tb (block_matches d.body) h.0), covered_forth tb ds h.1)
+
+covered_back : (tb : Table) (ds : List Instance) → R.AllCovered tb (V.instances ds) → AllCovered tb ds
+covered_back tb [] h = tt
+covered_back tb (d ∷ ds) h = (each_back tb (block_matches d.body) (subst (R.AreCovered tb) (sym (matches_are d.body)) h.0), covered_back tb ds h.1)
+
+pub right_forth : (tb : Table) (ds : List Instance) → IsRight tb ds → R.IsRight tb (V.instances ds)
+right_forth tb ds h = record { covered = covered_forth tb ds h.covered; unbroken = λ v k. h.unbroken v (fault_back tb 0 ds v k) }
+
+pub right_back : (tb : Table) (ds : List Instance) → R.IsRight tb (V.instances ds) → IsRight tb ds
+right_back tb ds h = record { covered = covered_back tb ds h.covered; unbroken = λ v k. h.unbroken v (fault_forth tb 0 ds v k) }

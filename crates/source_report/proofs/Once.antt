@@ -15,7 +15,6 @@ use Rattle.fip_grammar.specs.Limits.{IsMisspelt}
 use Rattle.fip_grammar.proofs.Least.{misspelt_once, spelt_once, spelt_or_misspelt}
 use Rattle.cell_lower.specs.fip_trees.declared.groups.Member.{Member}
 use Rattle.cell_lower.specs.fip_trees.declared.least.Violation.{Violation}
-use Rattle.cell_lower.specs.fip_trees.declared.program.Instance.{Instance}
 use Rattle.cell_lower.specs.fip_trees.Least.{In, smaller, rank, comes_before, IsLeast, IsLeastOf, refusal}
 use Rattle.cell_lower.specs.fip_trees.Tree as T
 use Rattle.cell_lower.specs.fip_trees.Tree.{Program}
@@ -27,11 +26,8 @@ use Rattle.static_params.specs.reached_instances.Instances.{roots, calls_from, a
 use Rattle.static_params.specs.reached_instances.TypeInstances.{type_roots, parts_of}
 use Rattle.static_params.specs.reached_instances.Source.{Source}
 use Rattle.static_params.specs.reached_instances.Numbering.{AreMore}
-use Rattle.lowering_simulation.proofs.type_check.Exact.{typed_exactly}
 use Rattle.lowering_simulation.specs.type_check.Faults.{type_faults, filled}
-use Rattle.cell_lower.specs.match_cover.Answers.{IsLeastCoverFault}
-use Rattle.cell_lower.specs.match_cover.Coverage.{CoverFault}
-use Rattle.cell_lower.specs.match_cover.Shapes.{shape_faults}
+use Rattle.source_report.specs.MatchRules.{shape_faults, CoverFault}
 use Rattle.ownership_agreement.specs.fip_rules.Checks as Owning
 use Rattle.ownership_agreement.specs.credit_check.Credits as Credits
 use Rattle.cell_lower.specs.tail_groups.Members.{AreMembers}
@@ -39,11 +35,10 @@ use Rattle.cell_lower.specs.tail_groups.Rules as Calls
 use Rattle.cell_lower.specs.Limits as Limits
 use Rattle.static_params.specs.FlatSource.{flat_source}
 use Rattle.source_report.specs.Report
-use Rattle.source_report.specs.Report.{bare, at, AreOf, IsParsed, IsDeclared, IsFlat, IsTyped, IsMatched, IsOwned, IsCredited, IsTailed, IsAccepted, Reports}
+use Rattle.source_report.specs.Report.{bare, at, IsParsed, IsDeclared, IsFlat, IsTyped, IsMatched, IsOwned, IsCredited, IsTailed, IsAccepted, Reports}
 use Rattle.source_report.specs.Same.{AreSame}
 use Rattle.source_report.proofs.RuleNumbers.{rule_once}
 use Rattle.source_report.proofs.Numbered.{numbered_once, not_more}
-use Rattle.source_report.proofs.Memory.{shapes_are, plain_shapes, fault_forth, fault_back, least_plain, PlainFault}
 use Rattle.cell_lower.proofs.fip_language.Facts.{get_there as there, get_within as below, same_number}
 
 -- ---- two least violations have one rank
@@ -138,14 +133,6 @@ typed_of_tailed source p h = h.credited.owned.matched.typed
 pub accepted_once : (source : List ℕ) (p q : Program) → IsAccepted source p → IsAccepted source q → p ≡ q
 accepted_once source p q h k = typed_once source p q (typed_of_tailed source p h.tailed) (typed_of_tailed source q k.tailed)
 
--- ---- the rules on matches, of the program
-
-pub shapes_same : (p : Program) (ds es : List Instance) → AreOf p ds → AreOf p es → shape_faults 0 ds ≡ shape_faults 0 es
-shapes_same p ds es h k = shapes_are 0 ds ∙ ap (plain_shapes 0) (h ∙ sym k) ∙ sym (shapes_are 0 es)
-
-pub fault_same : (p : Program) (ds es : List Instance) (v : Violation) → AreOf p ds → AreOf p es → CoverFault p.types 0 ds v → CoverFault p.types 0 es v
-fault_same p ds es v h k f = fault_back p.types 0 es v (subst (λ is. PlainFault p.types 0 is v) (h ∙ sym k) (fault_forth p.types 0 ds v f))
-
 -- ---- the limits of code don't depend on how the groups are numbered
 
 registers_same : (ds : List T.Instance) (ms ns : List Member) (i : ℕ) (d : T.Instance) → AreMembers ds ms → AreMembers ds ns → slice_get ds i ≡ Some d → Limits.registers ms i ≡ Limits.registers ns i
@@ -176,7 +163,7 @@ Passes source (suc (suc zero)) = (core : Core) × IsParsed source core
 Passes source (suc (suc (suc zero))) = (core : Core) × IsDeclared source core
 Passes source (suc (suc (suc (suc zero)))) = (p : Program) × IsFlat source p
 Passes source (suc (suc (suc (suc (suc zero))))) = (p : Program) × IsTyped source p
-Passes source (suc (suc (suc (suc (suc (suc zero)))))) = (p : Program) × (ds : List Instance) × IsTyped source p × AreOf p ds × (shape_faults 0 ds ≡ [])
+Passes source (suc (suc (suc (suc (suc (suc zero)))))) = (p : Program) × IsTyped source p × (shape_faults 0 p.instances ≡ [])
 Passes source (suc (suc (suc (suc (suc (suc (suc zero))))))) = (p : Program) × IsMatched source p
 Passes source (suc (suc (suc (suc (suc (suc (suc (suc zero)))))))) = (p : Program) × IsOwned source p
 Passes source (suc (suc (suc (suc (suc (suc (suc (suc (suc zero))))))))) = (p : Program) × IsCredited source p
@@ -189,8 +176,8 @@ passes_before source (suc zero) h = h.1.short
 passes_before source (suc (suc zero)) h = (h.0, h.1.parsed)
 passes_before source (suc (suc (suc zero))) h = (h.1.core, h.1.declared)
 passes_before source (suc (suc (suc (suc zero)))) h = (h.1.untyped, h.1.flat)
-passes_before source (suc (suc (suc (suc (suc zero))))) h = (h.0, h.2)
-passes_before source (suc (suc (suc (suc (suc (suc zero)))))) h = (h.0, h.1.instances, h.1.typed, h.1.of', h.1.shapes)
+passes_before source (suc (suc (suc (suc (suc zero))))) h = (h.0, h.1)
+passes_before source (suc (suc (suc (suc (suc (suc zero)))))) h = (h.0, h.1.typed, h.1.shapes)
 passes_before source (suc (suc (suc (suc (suc (suc (suc zero))))))) h = (h.0, h.1.matched)
 passes_before source (suc (suc (suc (suc (suc (suc (suc (suc zero)))))))) h = (h.0, h.1.owned)
 passes_before source (suc (suc (suc (suc (suc (suc (suc (suc (suc zero))))))))) h = (h.0, h.1.credited)
@@ -208,8 +195,8 @@ Breaks source (suc zero) r = (rule : Rule) × (p : Place) × (length source ≤ 
 Breaks source (suc (suc zero)) r = (core : Core) × (v : Violation) × IsParsed source core × Declaring.IsFirst core v × (r ≡ refusal v)
 Breaks source (suc (suc (suc zero))) r = (core : Core) × (v : Violation) × IsDeclared source core × Statics.Names (flat_source core) v × (r ≡ refusal v)
 Breaks source (suc (suc (suc (suc zero)))) r = (p : Program) × (v : Violation) × IsFlat source p × IsLeast (type_faults p) v × (r ≡ refusal v)
-Breaks source (suc (suc (suc (suc (suc zero))))) r = (p : Program) × (ds : List Instance) × (v : Violation) × IsTyped source p × AreOf p ds × IsLeast (shape_faults 0 ds) v × (r ≡ refusal v)
-Breaks source (suc (suc (suc (suc (suc (suc zero)))))) r = (p : Program) × (ds : List Instance) × (v : Violation) × IsTyped source p × AreOf p ds × (shape_faults 0 ds ≡ []) × IsLeastCoverFault p.types ds v × (r ≡ refusal v)
+Breaks source (suc (suc (suc (suc (suc zero))))) r = (p : Program) × (v : Violation) × IsTyped source p × IsLeast (shape_faults 0 p.instances) v × (r ≡ refusal v)
+Breaks source (suc (suc (suc (suc (suc (suc zero)))))) r = (p : Program) × (v : Violation) × IsTyped source p × (shape_faults 0 p.instances ≡ []) × IsLeastOf (CoverFault p.types 0 p.instances) v × (r ≡ refusal v)
 Breaks source (suc (suc (suc (suc (suc (suc (suc zero))))))) r = (p : Program) × (v : Violation) × IsMatched source p × IsLeastOf (Owning.Violates p) v × (r ≡ refusal v)
 Breaks source (suc (suc (suc (suc (suc (suc (suc (suc zero)))))))) r = (p : Program) × (v : Violation) × IsOwned source p × IsLeastOf (Credits.Violates p) v × (r ≡ refusal v)
 Breaks source (suc (suc (suc (suc (suc (suc (suc (suc (suc zero))))))))) r = (p : Program) × (v : Violation) × IsCredited source p × IsLeastOf (Calls.Violates p) v × (r ≡ refusal v)
@@ -241,15 +228,13 @@ not_passed source (suc (suc (suc zero))) r b h =
     statics_broken (flat_source h.1.core) b.1 h.1.numbers (subst (λ c. Statics.Names (flat_source c) b.1) same b.3) h.1.few h.1.unbroken
 not_passed source (suc (suc (suc (suc zero)))) r b h =
     let same = flat_once source b.0 h.1.untyped b.2 h.1.flat in
-    none_in (type_faults b.0) b.1 (ap type_faults same ∙ (typed_exactly h.1.untyped).0 h.1.typed) b.3
+    none_in (type_faults b.0) b.1 (ap type_faults same ∙ h.1.typed) b.3
 not_passed source (suc (suc (suc (suc (suc zero))))) r b h =
-    let same = typed_once source b.0 h.0 b.3 h.2 in
-    let of' : AreOf b.0 h.1 = subst (λ p. AreOf p h.1) (sym same) h.3 in
-    none_in (shape_faults 0 b.1) b.2 (shapes_same b.0 b.1 h.1 b.4 of' ∙ h.4) b.5
+    let same = typed_once source b.0 h.0 b.2 h.1 in
+    none_in (shape_faults 0 b.0.instances) b.1 (ap (λ (p : Program). shape_faults 0 p.instances) same ∙ h.2) b.3
 not_passed source (suc (suc (suc (suc (suc (suc zero)))))) r b h =
-    let same = typed_once source b.0 h.0 b.3 h.1.typed in
-    let of' : AreOf h.0 b.1 = subst (λ p. AreOf p b.1) same b.4 in
-    h.1.right.unbroken b.2 (fault_same h.0 b.1 h.1.instances b.2 of' h.1.of' (subst (λ (p : Program). CoverFault p.types 0 b.1 b.2) same b.6.violated))
+    let same = typed_once source b.0 h.0 b.2 h.1.typed in
+    h.1.right.unbroken b.1 (subst (λ (p : Program). CoverFault p.types 0 p.instances b.1) same b.4.violated)
 not_passed source (suc (suc (suc (suc (suc (suc (suc zero))))))) r b h =
     let same = typed_once source b.0 h.0 b.2.typed h.1.matched.typed in
     h.1.unbroken b.1 (subst (λ p. Owning.Violates p b.1) same b.3.violated)
@@ -317,15 +302,11 @@ phase_once source (suc (suc (suc (suc zero)))) q r b h =
     let same = flat_once source b.0 h.0 b.2 h.2 in
     by_refusals b.1 h.1 q r b.4 h.4 (list_once (type_faults b.0) b.1 h.1 b.3 (subst (λ p. IsLeast (type_faults p) h.1) (sym same) h.3))
 phase_once source (suc (suc (suc (suc (suc zero))))) q r b h =
-    let same = typed_once source b.0 h.0 b.3 h.3 in
-    let of' : AreOf b.0 h.1 = subst (λ p. AreOf p h.1) (sym same) h.4 in
-    by_refusals b.2 h.2 q r b.6 h.6 (list_once (shape_faults 0 b.1) b.2 h.2 b.5 (subst (λ vs. IsLeast vs h.2) (shapes_same b.0 h.1 b.1 of' b.4) h.5))
+    let same = typed_once source b.0 h.0 b.2 h.2 in
+    by_refusals b.1 h.1 q r b.4 h.4 (list_once (shape_faults 0 b.0.instances) b.1 h.1 b.3 (subst (λ (p : Program). IsLeast (shape_faults 0 p.instances) h.1) (sym same) h.3))
 phase_once source (suc (suc (suc (suc (suc (suc zero)))))) q r b h =
-    let same = typed_once source b.0 h.0 b.3 h.3 in
-    let one : IsLeastOf (PlainFault b.0.types 0 b.0.instances) b.2 = subst (λ is. IsLeastOf (PlainFault b.0.types 0 is) b.2) b.4 (least_plain b.0.types b.1 b.2 b.6) in
-    let two : IsLeastOf (PlainFault h.0.types 0 h.0.instances) h.2 = subst (λ is. IsLeastOf (PlainFault h.0.types 0 is) h.2) h.4 (least_plain h.0.types h.1 h.2 h.6) in
-    by_refusals b.2 h.2 q r b.7 h.7
-    (least_of_once (PlainFault b.0.types 0 b.0.instances) b.2 h.2 one (subst (λ (p : Program). IsLeastOf (PlainFault p.types 0 p.instances) h.2) (sym same) two))
+    let same = typed_once source b.0 h.0 b.2 h.2 in
+    by_refusals b.1 h.1 q r b.5 h.5 (least_of_once (CoverFault b.0.types 0 b.0.instances) b.1 h.1 b.4 (subst (λ (p : Program). IsLeastOf (CoverFault p.types 0 p.instances) h.1) (sym same) h.4))
 phase_once source (suc (suc (suc (suc (suc (suc (suc zero))))))) q r b h =
     let same = typed_once source b.0 h.0 b.2.typed h.2.typed in
     by_refusals b.1 h.1 q r b.4 h.4 (least_of_once (Owning.Violates b.0) b.1 h.1 b.3 (subst (λ p. IsLeastOf (Owning.Violates p) h.1) (sym same) h.3))
@@ -358,8 +339,8 @@ broken source _ (Report.Misspelt r p few m) = record { phase = 1; passes = few; 
 broken source _ (Report.Declaration core v h first) = record { phase = 2; passes = (core, h); breaks = (core, v, h, first, refl); within = omega arith }
 broken source _ (Report.StaticParameter core v h named) = record { phase = 3; passes = (core, h); breaks = (core, v, h, named, refl); within = omega arith }
 broken source _ (Report.Typing p v h least) = record { phase = 4; passes = (p, h); breaks = (p, v, h, least, refl); within = omega arith }
-broken source _ (Report.Shape p ds v h of' least) = record { phase = 5; passes = (p, h); breaks = (p, ds, v, h, of', least, refl); within = omega arith }
-broken source _ (Report.Coverage p ds v h of' none least) = record { phase = 6; passes = (p, ds, h, of', none); breaks = (p, ds, v, h, of', none, least, refl); within = omega arith }
+broken source _ (Report.Shape p v h least) = record { phase = 5; passes = (p, h); breaks = (p, v, h, least, refl); within = omega arith }
+broken source _ (Report.Coverage p v h none least) = record { phase = 6; passes = (p, h, none); breaks = (p, v, h, none, least, refl); within = omega arith }
 broken source _ (Report.Ownership p v h least) = record { phase = 7; passes = (p, h); breaks = (p, v, h, least, refl); within = omega arith }
 broken source _ (Report.Credit p v h least) = record { phase = 8; passes = (p, h); breaks = (p, v, h, least, refl); within = omega arith }
 broken source _ (Report.TailCall p v h least) = record { phase = 9; passes = (p, h); breaks = (p, v, h, least, refl); within = omega arith }

@@ -1,5 +1,5 @@
 -- What each phase answers, as the report of the source.
-use Rattle.std.proofs.Common.{◌≡◌, ◌≤◌, ◌<◌, inl, inr, ℕ, List, length, sym, subst}
+use Rattle.std.proofs.Common.{◌≡◌, ◌≤◌, ◌<◌, inl, inr, ℕ, List, length, sym, subst, ap, ◌∙◌}
 use Rattle.cell_lower.specs.fip_language.declared.Place.{Place}
 use Rattle.cell_lower.specs.fip_language.declared.limits.TheConstants.{MOST_SOURCE_BYTES}
 use Rattle.cell_lower.specs.fip_language.declared.rule.Rule.{Rule}
@@ -23,7 +23,11 @@ use Rattle.cell_lower.specs.tail_groups.Members.{AreMembers}
 use Rattle.cell_lower.specs.tail_groups.Rules as Calls
 use Rattle.cell_lower.specs.Limits as Limits
 use Rattle.static_params.specs.FlatSource.{flat_source}
-use Rattle.source_report.specs.Report.{bare, at, Reports, TooLong, Misspelt, Declaration, StaticParameter, Typing, Shape, Coverage, Ownership, Credit, TailCall, Limit, IsParsed, IsDeclared, IsFlat, IsTyped, AreOf, IsMatched, IsOwned, IsCredited, IsTailed, Says}
+use Rattle.cell_lower.specs.fip_trees.Least.{IsLeast, IsLeastOf}
+use Rattle.source_report.specs.InMemory.{AreOf}
+use Rattle.source_report.specs.MatchRules.{shape_faults, CoverFault}
+use Rattle.source_report.proofs.Memory.{shapes_are, least_plain}
+use Rattle.source_report.specs.Report.{bare, at, Reports, TooLong, Misspelt, Declaration, StaticParameter, Typing, Shape, Coverage, Ownership, Credit, TailCall, Limit, IsParsed, IsDeclared, IsFlat, IsTyped, IsMatched, IsOwned, IsCredited, IsTailed, Says}
 
 pub too_long : (source : List ℕ) (r : Refusal) → MOST_SOURCE_BYTES < length source → r ≡ bare E05 → Reports source r
 too_long source r h e = subst (Reports source) (sym e) (TooLong h)
@@ -45,10 +49,12 @@ by_types source p NoMemory h k = tt
 
 pub by_matches : (source : List ℕ) (p : Program) (ds : List Instance) (e : PhaseError) → IsTyped source p → AreOf p ds → IsReady p.types ds → Covering.Says p.types ds e → Says source e
 by_matches source p ds NoMemory h o ready k = tt
-by_matches source p ds (Refused r) h o ready (inl k) = subst (Reports source) (sym k.2) (Shape p ds k.0 h o k.1)
+by_matches source p ds (Refused r) h o ready (inl k) =
+    subst (Reports source) (sym k.2) (Shape p k.0 h (subst (λ vs. IsLeast vs k.0) (shapes_are 0 ds ∙ ap (shape_faults 0) o) k.1))
 by_matches source p ds (Refused r) h o ready (inr k) =
     let says = k.1 ready in
-    subst (Reports source) (sym says.2) (Coverage p ds says.0 h o k.0 says.1)
+    subst (Reports source) (sym says.2)
+    (Coverage p says.0 h (sym (shapes_are 0 ds ∙ ap (shape_faults 0) o) ∙ k.0) (subst (λ is. IsLeastOf (CoverFault p.types 0 is) says.0) o (least_plain p.types ds says.0 says.1)))
 
 pub by_ownership : (source : List ℕ) (p : Program) (e : PhaseError) → IsMatched source p → Owning.Says p e → Says source e
 by_ownership source p (Refused r) h k = subst (Reports source) (sym k.2) (Ownership p k.0 h k.1)

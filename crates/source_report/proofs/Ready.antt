@@ -6,7 +6,8 @@ use Rattle.cell_lower.specs.fip_trees.Tree.{Program}
 use Rattle.lowering_simulation.specs.type_check.Typing.{IsFilled}
 use Rattle.cell_lower.specs.match_cover.Coverage.{IsReady}
 use Rattle.source_report.specs.Literals.{LiteralsFit}
-use Rattle.source_report.specs.Report.{IsParsed, IsFlat, IsTyped, AreOf}
+use Rattle.source_report.specs.InMemory.{AreOf}
+use Rattle.source_report.specs.Report.{IsParsed, IsFlat, IsTyped}
 use Rattle.source_report.specs.WellFormed.{IsWellFormed}
 use Rattle.source_report.proofs.CoreLiterals.{CoreFits, core_fits, program_fits}
 use Rattle.source_report.proofs.Filling.{stays_formed, stays_fitting}

@@ -28,7 +28,7 @@ use Rattle.static_params.specs.reached_instances.Closed.{Closed, Closeds, Applie
 use Rattle.static_params.specs.reached_instances.Source.{Instance}
 use Rattle.static_params.specs.reached_instances.TypeInstances.{field_types}
 use Rattle.static_params.specs.FlatProgram.{Numbers, numbers_of, flat_constructor, credit_size, flat_argument, flat_block, flat_expression, flat_clauses, instance_if, instances_of, flat_program}
-use Rattle.lowering_simulation.proofs.type_check.Exact.{typed_exactly, filled_right}
+use Rattle.lowering_simulation.proofs.type_check.Exact.{filled_right}
 use Rattle.lowering_simulation.specs.type_check.Scope.{Scope}
 use Rattle.lowering_simulation.specs.type_check.Found.{wanted_next}
 use Rattle.lowering_simulation.specs.type_check.Binders.{all_annotated, annotations, entries}
@@ -362,7 +362,7 @@ from_map P f (x ∷ xs) h y (inl e) = subst P (sym e) (h x (inl refl))
 from_map P f (x ∷ xs) h y (inr a) = from_map P f xs (λ z b. h z (inr b)) y a
 
 pub typed_filled : (source : List ℕ) (p : Program) → IsTyped source p → Y.IsFilled p
-typed_filled source p h = subst Y.IsFilled (sym h.is) (filled_right h.untyped ((typed_exactly h.untyped).0 h.typed))
+typed_filled source p h = subst Y.IsFilled (sym h.is) (filled_right h.untyped h.typed)
 
 filled_sized : (source : List ℕ) (q : Program) → IsFlat source q → Y.IsFilled (filled q) → AreSized (filled q) (filled q).instances
 filled_sized source q flat y =

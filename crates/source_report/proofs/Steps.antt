@@ -1,5 +1,5 @@
 -- What each phase gives where it accepts, as a step of the source towards its typed program.
-use Rattle.std.proofs.Common.{◌≡◌, ℕ, List, Result, Ok, Err, IfOk, IfErr, refl, subst}
+use Rattle.std.proofs.Common.{◌≡◌, ℕ, List, Result, Ok, Err, IfOk, IfErr, refl, subst, sym, ◌∙◌}
 use Rattle.cell_lower.specs.fip_base.CoreView as V
 use Rattle.cell_lower.specs.fip_base.declared.core_form.Core.{Core}
 use Rattle.cell_lower.specs.fip_base.declared.refusal.PhaseError.{PhaseError}
@@ -16,7 +16,9 @@ use Rattle.cell_lower.specs.match_cover.Answers as Covering
 use Rattle.static_params.specs.FlatSource.{flat_source}
 use Rattle.source_report.specs.Report.{IsParsed, IsDeclared, IsFlat, IsTyped, IsMatched, Says}
 use Rattle.source_report.proofs.Phases.{by_statics, by_matches}
+use Rattle.source_report.proofs.Memory.{shapes_are, right_forth}
 use Rattle.source_report.proofs.Ready.{typed_ready}
+use Rattle.lowering_simulation.proofs.type_check.Exact.{typed_exactly}
 use Rattle.static_params.proofs.CoreSources.{source_is}
 
 pub if_ok : {A E : Type 0} (r : Result A E) (P Q : A → Type 0) → ((a : A) → P a → Q a) → IfOk r P → IfOk r Q
@@ -59,16 +61,14 @@ pub record IsChecked (flat filled_in : Program) : Type 0 where
   pub slots : Types.IsFilled (program filled_in)
 
 typed_from : (source : List ℕ) (flat typed : Program) → IsChecked flat typed → IsFlat source (program flat) → IsTyped source (program typed)
-typed_from source flat typed c h = record { untyped = program flat; flat = h; typed = c.typed; is = c.tree }
+typed_from source flat typed c h = record { untyped = program flat; flat = h; typed = (typed_exactly (program flat)).0 c.typed; is = c.tree }
 
 pub matched_from : (source : List ℕ) (flat typed : Program) → IsChecked flat typed → IsFlat source (program flat) → Accepts typed.types typed.instances.items → IsMatched source (program typed)
 matched_from source flat typed c h a =
     record {
       typed = typed_from source flat typed c h;
-      instances = typed.instances.items;
-      of' = refl;
-      shapes = a.shapes;
-      right = a.coverage (typed_ready source (program typed) typed.instances.items (typed_from source flat typed c h) c.slots refl);
+      shapes = sym (shapes_are 0 typed.instances.items) ∙ a.shapes;
+      right = right_forth typed.types typed.instances.items (a.coverage (typed_ready source (program typed) typed.instances.items (typed_from source flat typed c h) c.slots refl));
     }
 
 pub cover_refused : (source : List ℕ) (flat typed : Program) (e : PhaseError) → IsChecked flat typed → IsFlat source (program flat) → Covering.Says typed.types typed.instances.items e → Says source e

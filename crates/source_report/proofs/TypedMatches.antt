@@ -32,8 +32,9 @@ use Rattle.lowering_simulation.specs.type_check.Typing.{bound_by, bound_by_all, 
 use Rattle.lowering_simulation.specs.type_check.World.{world, is_of, is_number, numbered, first_declared, plain_type, chosen, fields_of, field_types, head_of, head_or_none, result_of}
 use Rattle.source_report.specs.WellFormed as F
 use Rattle.source_report.specs.Literals as L
-use Rattle.source_report.proofs.Erasing.{plain, plain_all, erased_is}
-use Rattle.source_report.proofs.Matching.{PlainMatch, match_view, clause_patterns, matches, matches_block, matches_clauses, matches_are}
+use Rattle.source_report.specs.TreeMatches.{bare as plain, bare_all as plain_all, Match as PlainMatch, clause_patterns, matches, matches_block, matches_clauses}
+use Rattle.source_report.proofs.Erasing.{erased_is}
+use Rattle.source_report.proofs.Matching.{match_view, matches_are}
 use Rattle.cell_lower.proofs.fip_language.Facts.{get_within as within, same_number}
 
 -- ---- lists

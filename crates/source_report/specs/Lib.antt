@@ -1,5 +1,8 @@
 pub mod Literals
+pub mod TreeMatches
+pub mod MatchRules
 pub mod Report
+pub mod InMemory
 pub mod Same
 pub mod WellFormed
 pub mod Order

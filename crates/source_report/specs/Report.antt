@@ -30,26 +30,22 @@ use Rattle.cell_lower.specs.fip_base.declared.refusal.Refusal.{Refusal}
 use Rattle.fip_grammar.specs.Limits.{IsSpelt, IsMisspelt}
 use Rattle.cell_lower.specs.fip_trees.declared.groups.Member.{Member}
 use Rattle.cell_lower.specs.fip_trees.declared.least.Violation.{Violation}
-use Rattle.cell_lower.specs.fip_trees.declared.program.Instance.{Instance}
 use Rattle.cell_lower.specs.fip_trees.Least.{IsLeast, IsLeastOf, refusal}
 use Rattle.cell_lower.specs.fip_trees.Tree.{Program}
-use Rattle.cell_lower.specs.fip_trees.TreeView.{instances}
 use Rattle.static_params.specs.data_types.Answers as Declaring
 use Rattle.static_params.specs.data_types.Declarations.{declarations}
 use Rattle.static_params.specs.data_types.Types.{IsValued}
 use Rattle.static_params.specs.Answers as Statics
 use Rattle.static_params.specs.FlatProgram.{Numbers, flat_program}
 use Rattle.static_params.specs.reached_instances.Instances.{all_faults}
-use Rattle.lowering_simulation.specs.type_check.Typing as Types
 use Rattle.lowering_simulation.specs.type_check.Faults.{type_faults, filled}
-use Rattle.cell_lower.specs.match_cover.Answers.{IsLeastCoverFault, IsRight}
-use Rattle.cell_lower.specs.match_cover.Shapes.{shape_faults}
 use Rattle.ownership_agreement.specs.fip_rules.Checks as Owning
 use Rattle.ownership_agreement.specs.credit_check.Credits as Credits
 use Rattle.cell_lower.specs.tail_groups.Members.{AreMembers}
 use Rattle.cell_lower.specs.tail_groups.Rules as Calls
 use Rattle.cell_lower.specs.Limits as Limits
 use Rattle.static_params.specs.FlatSource.{flat_source}
+use Rattle.source_report.specs.MatchRules.{shape_faults, CoverFault, IsRight}
 
 -- ---- what a source becomes where it breaks no rule
 
@@ -75,23 +71,17 @@ pub record IsFlat (source : List ℕ) (p : Program) : Type 0 where
   pub unbroken : all_faults (flat_source core) numbers.instances ≡ []
   pub is : p ≡ flat_program (flat_source core) numbers
 
--- with the typed program: the same, each node's type in its slot
+-- with the typed program: no rule on types is broken, and it is the same with each node's type in its slot
 pub record IsTyped (source : List ℕ) (p : Program) : Type 0 where
   pub untyped : Program
   pub flat : IsFlat source untyped
-  pub typed : Types.IsTyped untyped
+  pub typed : type_faults untyped ≡ []
   pub is : p ≡ filled untyped
-
--- The rules on matches speak of instances as they lie in memory; these are the program's.
-abbrev pub AreOf : Program → List Instance → Type 0
-AreOf p ds = instances ds ≡ p.instances
 
 pub record IsMatched (source : List ℕ) (p : Program) : Type 0 where
   pub typed : IsTyped source p
-  pub instances : List Instance
-  pub of' : AreOf p instances
-  pub shapes : shape_faults 0 instances ≡ []
-  pub right : IsRight p.types instances
+  pub shapes : shape_faults 0 p.instances ≡ []
+  pub right : IsRight p.types p.instances
 
 pub record IsOwned (source : List ℕ) (p : Program) : Type 0 where
   pub matched : IsMatched source p
@@ -130,10 +120,10 @@ pub data Reports (source : List ℕ) : Refusal → Type 0 where
   StaticParameter : (core : Core) (v : Violation) → IsDeclared source core → Statics.Names (flat_source core) v →
       Reports source (refusal v)
   Typing : (p : Program) (v : Violation) → IsFlat source p → IsLeast (type_faults p) v → Reports source (refusal v)
-  Shape : (p : Program) (ds : List Instance) (v : Violation) → IsTyped source p → AreOf p ds →
-      IsLeast (shape_faults 0 ds) v → Reports source (refusal v)
-  Coverage : (p : Program) (ds : List Instance) (v : Violation) → IsTyped source p → AreOf p ds →
-      shape_faults 0 ds ≡ [] → IsLeastCoverFault p.types ds v → Reports source (refusal v)
+  Shape : (p : Program) (v : Violation) → IsTyped source p → IsLeast (shape_faults 0 p.instances) v →
+      Reports source (refusal v)
+  Coverage : (p : Program) (v : Violation) → IsTyped source p → shape_faults 0 p.instances ≡ [] →
+      IsLeastOf (CoverFault p.types 0 p.instances) v → Reports source (refusal v)
   Ownership : (p : Program) (v : Violation) → IsMatched source p → IsLeastOf (Owning.Violates p) v →
       Reports source (refusal v)
   Credit : (p : Program) (v : Violation) → IsOwned source p → IsLeastOf (Credits.Violates p) v →

@@ -1,12 +1,19 @@
 // Laws of the report.
-ghost use Rattle.std.specs.Prelude.{◌≡◌, ℕ, List};
+ghost use Rattle.std.specs.Prelude.{◌≡◌, ◌↔◌, ℕ, List};
 ghost use Rattle.cell_lower.specs.fip_base.declared.refusal.Refusal.{Refusal};
 ghost use Rattle.cell_lower.specs.fip_trees.Tree.{Program};
 ghost use Rattle.cell_lower.specs.fip_trees.declared.program.Instance.{Instance};
-ghost use Rattle.cell_lower.specs.match_cover.Coverage.{IsReady};
+ghost use Rattle.cell_lower.specs.fip_language.Table.{Table};
+ghost use Rattle.cell_lower.specs.fip_trees.TreeView.{instances};
+ghost use Rattle.cell_lower.specs.fip_trees.declared.least.Violation.{Violation};
+ghost use Rattle.cell_lower.specs.match_cover.Answers.{IsRight};
+ghost use Rattle.cell_lower.specs.match_cover.Coverage.{CoverFault, IsReady};
+ghost use Rattle.cell_lower.specs.match_cover.Shapes.{shape_faults};
 ghost use Rattle.ownership_agreement.specs.Agreement.{AreSized, AreDerived};
 ghost use Rattle.source_report.specs.Literals.{LiteralsFit};
-ghost use Rattle.source_report.specs.Report.{AreOf, IsTyped, IsOwned, IsCredited, IsAccepted, Reports};
+ghost use Rattle.source_report.specs.InMemory.{AreOf};
+ghost use Rattle.source_report.specs.MatchRules as R;
+ghost use Rattle.source_report.specs.Report.{IsTyped, IsOwned, IsCredited, IsAccepted, Reports};
 ghost use Rattle.source_report.specs.Same.{AreSame};
 ghost use Rattle.source_report.specs.WellFormed.{IsWellFormed};
 ghost use Rattle.cell_lower.specs.tail_groups.Members.{FipCallsFip};
@@ -47,4 +54,12 @@ pub fn fip_calls_fip()
 pub fn accepted_programs_are_derived()
     ensures sized { (source : List ℕ) (p : Program) → IsTyped source p → AreSized p p.instances }
     ensures derived { (source : List ℕ) (p : Program) → IsCredited source p → AreDerived p p.instances }
+{}
+
+/// The rules on matches, which the report asks of trees, are those that are looked for where the trees lie in memory.
+pub fn matches_are_judged_as_in_memory()
+    ensures shapes { (ds : List Instance) → shape_faults 0 ds ≡ R.shape_faults 0 (instances ds) }
+    ensures faults { (tb : Table) (ds : List Instance) (v : Violation) →
+        (CoverFault tb 0 ds v ↔ R.CoverFault tb 0 (instances ds) v) }
+    ensures right { (tb : Table) (ds : List Instance) → (IsRight tb ds ↔ R.IsRight tb (instances ds)) }
 {}

@@ -8,7 +8,6 @@ use Rattle.in_place_safety.specs.fip_trees.declared.groups.Member.{Member}
 use Rattle.in_place_safety.specs.fip_trees.Tree.{Instance, Program}
 use Rattle.in_place_safety.specs.instance_semantics.Meaning.{flat_meaning}
 use Rattle.in_place_safety.specs.tail_groups.Members.{AreMembers}
-use Rattle.in_place_safety.proofs.type_safety.Covering.{covered_exhaustive}
 use Rattle.in_place_safety.proofs.type_safety.WellTyped.{meaning_sound}
 use Rattle.in_place_safety.specs.type_safety.Exhaustive.{AreExhaustive}
 use Rattle.in_place_safety.specs.type_safety.Soundness.{IsSoundAnswer, parameter_types, IsWellTyped}
@@ -16,11 +15,12 @@ use Rattle.in_place_safety.proofs.Checked.{runs_in_place, has_stack}
 use Rattle.in_place_safety.specs.InPlace.{RunsInPlace, IsChecked}
 use Rattle.specialisation_correctness.proofs.source_report.Sizing.{typed_filled, typed_sized}
 use Rattle.specialisation_correctness.specs.source_report.Report.{IsMatched, IsCredited, IsAccepted}
+use Rattle.source_safety.proofs.Covered.{covered_exhaustive}
 use Rattle.source_safety.proofs.Formed.{typed_is_formed}
 
 matched_exhaustive : (source : List ℕ) (p : Program) → IsMatched source p → AreExhaustive p.types p.instances
 matched_exhaustive source p h =
-    subst (λ is. AreExhaustive p.types is) h.of' (covered_exhaustive p.types h.instances h.right.covered)
+    covered_exhaustive p.types p.instances h.right.covered
 
 pub matched_well_typed : (source : List ℕ) (p : Program) → IsMatched source p → IsWellTyped p
 matched_well_typed source p h =

@@ -3,6 +3,7 @@ pub mod CoreArguments
 pub mod Arguments
 pub mod Flat
 pub mod Formed
+pub mod Covered
 pub mod Accepted
 pub mod Functions
 pub use Rattle.specialisation_correctness.proofs.fip_grammar as fip_grammar

@@ -7,7 +7,7 @@ use Rattle.fip_base.specs.declared.plain.Stack.{Stack}
 use Rattle.fip_trees.specs.declared.groups.Member.{Member}
 use Rattle.fip_language.specs.declared.limits.TheConstants.{FRAME_WORDS}
 use Rattle.fip_trees.specs.Tree.{Instance}
-use Rattle.call_groups.specs.CallGraph.{In, SameGroup}
+use Rattle.call_groups.specs.Groups.{In, SameGroup}
 use Rattle.call_groups.specs.Stacks.{AreStacks}
 use Rattle.tail_groups.specs.Sites.{Site, instance_sites, call_rows}
 use Rattle.tail_groups.specs.Registers.{registers}

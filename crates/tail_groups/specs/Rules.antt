@@ -8,7 +8,7 @@ use Rattle.fip_base.specs.declared.refusal.PhaseError.TheVariants.{Refused, NoMe
 use Rattle.fip_trees.specs.declared.least.Violation.{Violation}
 use Rattle.fip_trees.specs.Least.{violation, IsLeastOf, refusal}
 use Rattle.fip_trees.specs.Tree.{Instance, Program}
-use Rattle.call_groups.specs.CallGraph.{In, SameGroup}
+use Rattle.call_groups.specs.Groups.{In, SameGroup}
 use Rattle.tail_groups.specs.Sites.{Site, instance_sites, call_rows}
 pub use Rattle.fip_language.specs.Kinds.{is_fip}
 

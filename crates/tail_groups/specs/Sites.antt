@@ -8,7 +8,7 @@ use Rattle.fip_language.specs.declared.Place.{Place}
 use Rattle.fip_trees.specs.Tree.{Name, Expression, Give, Tuple, Operation, Call, Match, Nested, Block, Last, Let}
 use Rattle.fip_trees.specs.Tree.{Clauses}
 use Rattle.fip_trees.specs.Tree.{NoClauses, MoreClauses, Instance}
-use Rattle.call_groups.specs.CallGraph.{call}
+use Rattle.call_groups.specs.Groups.{call}
 use Rattle.call_groups.specs.declared.search.Call as C
 
 -- a call: the number of the instance that is called, its name as written, where, and whether in tail position

@@ -1,4 +1,4 @@
--- For the theorem on `tasks`, that whatever turns are drawn, no answer shows it: which task has each turn.
+-- The turns that are drawn, which no answer of `tasks` shows: which task has each turn.
 --
 -- A seed gives numbers, each of which is made of the one before it: x becomes (1103515245 x + 12345) mod 2^31. A turn
 -- goes to the task (x / 65536) mod m, where there are m tasks; where there is none, there is no turn. The first number

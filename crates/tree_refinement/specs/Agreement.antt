@@ -5,27 +5,24 @@
 -- With Cons(1, Nil) in cell 0 and register 0 owned: its word is 1, and on trees it holds Cons(1, Nil). After a Take the
 -- register is a credit, and on trees it holds Cons(1, Nil) still.
 use Rattle.std.specs.Prelude.{◌≡◌, ℕ, List, [], ◌∷◌, Option, Some, None}
-use Rattle.tree_semantics.specs.fip_language.Values.{Value, Values}
+use Rattle.tree_semantics.specs.fip_language.Values.{Value}
 use Rattle.tree_semantics.specs.fip_language.Table.{Table}
-use Rattle.tree_semantics.specs.fip_language.Store.{Placed, Parts, value_of, values_of, words_of}
+use Rattle.tree_semantics.specs.fip_language.Store.{Placed, value_of}
 use Rattle.separation_bounds.specs.cell_code.declared.kind.Kind.{Kind}
 use Rattle.separation_bounds.specs.cell_code.declared.kind.Kind.TheVariants.{Gone, Scalar, Owned, Lent, Credit}
 use Rattle.tree_semantics.specs.machine_semantics.Cells.{Store}
-use Rattle.tree_semantics.specs.machine_semantics.Trees.{StandAll, IsTree}
+use Rattle.tree_semantics.specs.machine_semantics.Trees.{IsTree}
 use Rattle.tree_semantics.specs.machine_semantics.Steps.{Kinds}
 use Rattle.tree_semantics.specs.machine_semantics.States.{Frame, State, Next, Went, Entered, Gave, Trapped, TooDeep}
 use Rattle.tree_semantics.specs.Contents.{Contents}
 use Rattle.tree_semantics.specs.States as T
 use Rattle.separation_bounds.specs.code_rules.Kinds.{at}
 use Rattle.separation_bounds.specs.separation_kinds.Meanings.{word_at}
+pub use Rattle.tree_refinement.specs.Endings.{AreWordsOf}
 
 -- The word of this type stands for the value.
 abbrev pub IsWordOf : Table → Store → ℕ → ℕ → Value → Type 0
 IsWordOf tb s t w v = (x : Placed) × IsTree tb s t w x × (value_of x ≡ v)
-
--- The words of these types stand for the values.
-abbrev pub AreWordsOf : Table → Store → List ℕ → List ℕ → Values → Type 0
-AreWordsOf tb s ts ws vs = (xs : Parts) × (ws ≡ words_of xs) × StandAll tb s ts xs × (values_of xs ≡ vs)
 
 -- the type of the tree that a register of this kind stands for
 abbrev pub type_in : Kind → Option ℕ

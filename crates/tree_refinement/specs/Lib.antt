@@ -1,3 +1,4 @@
+pub mod Endings
 pub mod Agreement
 pub mod Runs
 pub mod Alike

@@ -6,27 +6,19 @@
 use Rattle.std.specs.Prelude.{◌≡◌, ℕ, List, length, map, take}
 use Rattle.tree_semantics.specs.fip_language.Table.{Table}
 use Rattle.tree_semantics.specs.fip_language.Values.{Values}
-use Rattle.tree_semantics.specs.fip_language.Meaning as M
 use Rattle.tree_semantics.specs.machine_semantics.Steps.{Kinds}
 use Rattle.tree_semantics.specs.machine_semantics.States.{State}
-use Rattle.tree_semantics.specs.machine_semantics.Runs.{End, Value, Trap, Out, Deep, Run, Going, Over}
+use Rattle.tree_semantics.specs.machine_semantics.Runs.{Run, Going, Over}
 use Rattle.tree_semantics.specs.Runs as T
 use Rattle.separation_bounds.specs.code_rules.Codes.{PlainCode, params}
-use Rattle.tree_refinement.specs.Agreement.{AreWordsOf, IsSame}
+use Rattle.tree_refinement.specs.Agreement.{IsSame}
+use Rattle.tree_refinement.specs.Endings.{AreWordsOf}
+pub use Rattle.tree_refinement.specs.Endings.{IsSameEnd}
 
 -- The registers with which function n begins in state s stand for these arguments.
 abbrev pub BeginsWith : PlainCode → ℕ → State → Values → Type 0
 BeginsWith c n s vs = AreWordsOf c.types s.store (map (λ p. p.ty) (params c n))
     (take (length (params c n)) s.running.words) vs
-
--- The end of a run on cells, in this last state, with so many calls left, is the answer of a run on trees, where the
--- entry gives results of these types.
-abbrev pub IsSameEnd : Table → List ℕ → State → ℕ → End → M.Answer → Type 0
-IsSameEnd tb types s left (Value ws) (M.Gives vs l) = AreWordsOf tb s.store types ws vs × (left ≡ l)
-IsSameEnd tb types s left (Trap k line col) (M.Trap l row at) = (k ≡ l) × (line ≡ row) × (col ≡ at)
-IsSameEnd tb types s left Out M.Out = Unit {0}
-IsSameEnd tb types s left Deep M.Deep = Unit {0}
-IsSameEnd tb types s left e a = ⊥
 
 -- The runs are the same, where registers have these kinds before an instruction and at a Call that waits.
 abbrev pub IsSameRun : Table → Kinds → Kinds → List ℕ → Run → T.Run → Type 0

@@ -23,7 +23,7 @@ use Rattle.type_check.specs.Found.{some_differ, or_found, wanted_next}
 use Rattle.type_check.specs.Binders.{all_annotated, annotations, entries, typed}
 use Rattle.type_check.specs.Scope.{Scope, of_binder}
 use Rattle.type_check.specs.World.{World, world, is_of, plain_type, chosen, field_types, field_count, head, result_of}
-use Rattle.type_check.specs.Typing.{bound_by, parameter_scope}
+use Rattle.type_check.specs.BoundVariables.{bound_by, parameter_scope}
 
 abbrev pub broken : Rule → Place → ℕ → Name → Violation
 broken r p i n = record { rule = r; place = p; instance = i; size = 0; detail = n }

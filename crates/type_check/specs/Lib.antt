@@ -5,6 +5,7 @@ pub mod Binders
 pub mod Wanted
 pub mod World
 pub mod Plain
+pub mod BoundVariables
 pub mod Typing
 pub mod Faults
 pub mod Bound

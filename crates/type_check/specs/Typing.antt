@@ -1,8 +1,11 @@
--- Which bodies are typed. Every type is known from headers, annotations and constructors: the types expected come from
--- a function's results, from parameters, from fields and from operators, which expect int. A let whose binders all have
--- annotations expects these of its bound expression, and any other let expects nothing. A block hands what is expected
--- of it to its last expression, and a match to its clauses; where nothing is expected of a match, its first clause's
--- types are expected of the others. A constructor of a data type with parameters has a type only where one is expected.
+-- It serves proofs: which bodies are typed, as a relation. A program is typed just where it breaks no rule on types
+-- (`typed_exactly`), and the report asks that.
+--
+-- Every type is known from headers, annotations and constructors: the types expected come from a function's results,
+-- from parameters, from fields and from operators, which expect int. A let whose binders all have annotations expects
+-- these of its bound expression, and any other let expects nothing. A block hands what is expected of it to its last
+-- expression, and a match to its clauses; where nothing is expected of a match, its first clause's types are expected
+-- of the others. A constructor of a data type with parameters has a type only where one is expected.
 --
 -- In each relation `f` tells whether the slots are asked to be filled, and `b` whether the types are expected: if not,
 -- they are only found. So with `f` false these are the rules, and with `f` true the same rules say that a tree is well
@@ -17,21 +20,10 @@ use Rattle.fip_trees.specs.Tree.{Pattern, BinderPattern, LiteralPattern, Constru
 use Rattle.fip_trees.specs.Tree.{MorePatterns, Expression, Give, Tuple, Operation, Call, Match, Nested}
 use Rattle.fip_trees.specs.Tree.{Block, Last, Let}
 use Rattle.fip_trees.specs.Tree.{Clauses, NoClauses, MoreClauses, Instance, Program}
-use Rattle.type_check.specs.Found.{first_type, others}
-use Rattle.type_check.specs.Binders.{all_annotated, entries, entry}
+use Rattle.type_check.specs.Binders.{all_annotated, entries}
 use Rattle.type_check.specs.Scope.{Scope, of_binder}
-use Rattle.type_check.specs.World.{World, world, is_of, plain_type, chosen, fields_of, field_types, head, result_of}
-
--- the variables of a pattern for values of a type, which isn't known where a violation hides it
-abbrev mutual
-  pub bound_by : World → Option ℕ → Pattern → Scope
-  bound_by w t (BinderPattern b) = entry t b ∷ []
-  bound_by w t (LiteralPattern i p) = []
-  bound_by w t (ConstructorPattern u d c n p ps) = bound_by_all w (field_types w (chosen w (Some t) d) c) ps
-
-  pub bound_by_all : World → List (Option ℕ) → Patterns → Scope
-  bound_by_all w ts NoPatterns = []
-  bound_by_all w ts (MorePatterns p ps) = bound_by w (first_type ts) p ++ bound_by_all w (others ts) ps
+use Rattle.type_check.specs.World.{World, world, is_of, plain_type, fields_of, head, result_of}
+pub use Rattle.type_check.specs.BoundVariables.{bound_by, bound_by_all, parameter_entries, parameter_scope}
 
 -- a slot that is asked to be filled holds the type
 abbrev pub Slot : Bool → ℕ → ℕ → Type 0
@@ -105,15 +97,6 @@ abbrev mutual
   TypesClauses f w s t NoClauses ts = Unit {0}
   TypesClauses f w s t (MoreClauses q body cs) ts =
       IsPattern f w t q × TypesBlock f w (s ++ bound_by w (Some t) q) true body ts × TypesClauses f w s t cs ts
-
--- the variables of the parameters
-abbrev pub parameter_entries : List Param → List Binder → Scope
-parameter_entries [] bs = []
-parameter_entries (p ∷ ps) [] = []
-parameter_entries (p ∷ ps) (b ∷ bs) = entry (Some p.ty) b ∷ parameter_entries ps bs
-
-abbrev pub parameter_scope : Instance → Scope
-parameter_scope d = parameter_entries d.params d.binders
 
 abbrev pub Parameters : Bool → List Param → List Binder → Type 0
 Parameters f [] bs = Unit {0}

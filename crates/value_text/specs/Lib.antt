@@ -1,5 +1,6 @@
 pub mod Standing
 pub mod FirstStore
+pub mod ParameterTypes
 pub mod Loaded
 pub mod Machine
 pub mod Scan

@@ -3,21 +3,18 @@
 -- Cons(1, Cons(2, Nil)) needs 6 words of an empty store, 3 where one cell of 2 fields is released, and none where two
 -- are.
 use Rattle.std.specs.Prelude.{◌≡◌, ℕ, zero, suc, ◌+◌, ◌-◌, ◌*◌, ◌^◌, ◌<◌, ◌≤◌, Bool, true, false, List, []}
-use Rattle.std.specs.Prelude.{◌∷◌, ◌++◌, Option, Some, None, length, map, replicate, slice_get}
-use Rattle.fip_base.specs.declared.plain.Param.{Param}
+use Rattle.std.specs.Prelude.{◌∷◌, ◌++◌, Option, Some, None, length, replicate, slice_get}
 use Rattle.fip_language.specs.Values.{Values, cells_of_all}
 use Rattle.fip_language.specs.Table.{Table}
 use Rattle.fip_language.specs.declared.limits.TheConstants.{MOST_CREDITS, MOST_FIELDS}
 use Rattle.fip_language.specs.SoundTable.{AreTypes, IsSoundTable}
 use Rattle.fip_language.specs.Store.{Cell, Parts, values_of, words_of, count, uses_of_all}
 use Rattle.fip_language.specs.ValueText.{SpellsValues}
-use Rattle.cell_store.specs.Cells.{Cells, cell_at, count_free}
+use Rattle.cell_store.specs.Cells.{cell_at, count_free}
+use Rattle.cell_store.specs.StoredCells.{Cells}
 use Rattle.cell_store.specs.Made.{Loading}
 use Rattle.value_text.specs.Standing.{StandAll}
-
--- the types of parameters
-abbrev pub types_of : List Param → List ℕ
-types_of params = map (λ (p : Param). p.ty) params
+pub use Rattle.value_text.specs.ParameterTypes.{types_of}
 
 -- the sizes of credits: 1 to 16 each
 abbrev pub AreSizes : List ℕ → Type 0

@@ -17,7 +17,6 @@ use Rattle.source_report.specs.static_params.FlatSource.{flat_source}
 use Rattle.source_report.specs.reached_instances.Numbering.{Reached}
 use Rattle.source_report.specs.reached_instances.TypeInstances.{type_roots, parts_of}
 use Rattle.source_report.specs.static_params.Answers as Statics
-use Rattle.source_report.proofs.type_check.Exact.{typed_exactly}
 use Rattle.source_report.specs.call_groups.Stacks.{HasFrame, frames_in, words_in, frame_words, AreStacks}
 use Rattle.source_report.specs.tail_groups.Members.{AreMembers}
 use Rattle.source_report.specs.tail_groups.Rules as Tails
@@ -81,15 +80,13 @@ flat : IsFlat [] empty_program
 flat = record { core = nothing; declared = declared; numbers = numbers; few = few; unbroken = refl; is = refl }
 
 typed : IsTyped [] empty_program
-typed = record { untyped = empty_program; flat = flat; typed = (typed_exactly empty_program).1 refl; is = refl }
+typed = record { untyped = empty_program; flat = flat; typed = refl; is = refl }
 
 -- ---- what is asked of instances
 
 pub matched : IsMatched [] empty_program
 matched = record {
   typed = typed;
-  instances = [];
-  of' = refl;
   shapes = refl;
   right = record { covered = tt; unbroken = λ v h. h };
 }

@@ -145,19 +145,9 @@ fn type_within<'a>(
     let constructors = constructors_of(alloc, scope, &written.constructors, least)?;
     note_sizes(&written.constructors, least)?;
     Ok(DeclaredType {
-        arity: arity_of(&written.parameters)?,
+        arity: written.parameters.len(),
         constructors,
     })
-}
-
-// How many type parameters there are; never more than memory holds.
-fn arity_of(parameters: &[TypeName]) -> Result<u32, NoMemory>
-    ensures { IfOk result (λ n. n ≡ length parameters.now) }
-{
-    match u32::try_from(parameters.len()) {
-        Ok(arity) => Ok(arity),
-        Err(_) => Err(NoMemory),
-    }
 }
 
 #[tactic(auto, using(crate::proofs::Shared::noting))]

@@ -35,7 +35,7 @@ fn marks_of(
     Ok(found)
 }
 
-fn trues(alloc: Global, n: u32) -> Result<Vec<bool>, NoMemory>
+fn trues(alloc: Global, n: usize) -> Result<Vec<bool>, NoMemory>
     ensures { IfOk result (λ f. f.items ≡ m.trues n) }
 {
     let mut bits = Vec::new(alloc);

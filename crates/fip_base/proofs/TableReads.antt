@@ -2,7 +2,7 @@
 use Rattle.std.proofs.Common.{◌≡◌, ◌≢◌, ℕ, zero, suc, ◌+◌, ◌<◌, ◌≤◌, ◌-◌, ◌⊎◌, List, [], ◌∷◌, length, get_or, refl, arith, sym, ◌∙◌, ap, subst, inl, inr}
 use Rattle.std.proofs.lemmas.Option.{slice_get_within, get_or_from_slice_get}
 use Rattle.std.proofs.lemmas.Bool.{cases_lt}
-use Rattle.fip_language.specs.Table.{Shape, Table, constructors, shapes}
+use Rattle.fip_language.specs.Table.{Shape, Table, all_bare, constructors, is_scalar, shapes}
 use Rattle.fip_base.specs.TableView.{fields_at, IsNamed}
 use Rattle.fip_language.proofs.Facts.{below_next}
 
@@ -10,6 +10,14 @@ pub shapes_read : (tb : Table) (t : ℕ) (d : List Shape) → t < length tb → 
 shapes_read [] t d h = absurd (omega (arith, h))
 shapes_read (row ∷ rows) zero d h = refl
 shapes_read (row ∷ rows) (suc t) d h = shapes_read rows t d (omega (arith, h))
+
+pub scalar_read : (tb : Table) (t : ℕ) (d : List Shape) → t < length tb → all_bare (get_or tb t d) ≡ is_scalar tb (t + 1)
+scalar_read tb t d h = ap all_bare (sym (shapes_read tb t d h)) ∙ ap (is_scalar tb) next
+  where
+    next : suc t ≡ t + 1
+    next = omega arith
+
+pub ruleset reading = (scalar_read)
 
 less_one : (t : ℕ) → suc t - 1 ≡ t
 less_one t = omega arith

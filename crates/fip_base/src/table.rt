@@ -1,5 +1,5 @@
 // The table of types: type 0 is int, the others are data types, numbered from 1.
-ghost use Rattle.std.specs.Prelude.{◌≡◌, ◌≢◌, ℕ, ◌<◌, ◌≤◌, ◌^◌, List, [], ◌∷◌, ◌++◌, length, None, IfSome, OnOk, OnErr};
+ghost use Rattle.std.specs.Prelude.{◌≡◌, ◌≢◌, ℕ, ◌+◌, ◌<◌, ◌≤◌, ◌^◌, List, [], ◌∷◌, ◌++◌, length, None, IfSome, OnOk, OnErr};
 ghost use Rattle.std.specs.Prelude.{IfNone, slice_get, slice_index};
 ghost use Rattle.fip_language.specs.Table.{Shape, Table, constructors, is_scalar, all_bare};
 ghost use Rattle.fip_base.specs.TableView.{IsNamed, fields_at};
@@ -151,6 +151,15 @@ impl TypeTable {
         ensures scalar { result ≡ is_scalar self.now ty }
     {
         are_bare(self.constructors_of(ty))
+    }
+
+    /// Whether the data type at a place of the list, from 0, has no constructor with fields.
+    #[tactic(auto, using(crate::proofs::TableReads::reading))]
+    pub fn is_scalar_at(&self, place: usize) -> bool
+        requires of_table { place < length self.now }
+        ensures scalar { result ≡ is_scalar self.now (place + 1) }
+    {
+        are_bare(self.types[place].constructors())
     }
 
     /// The number of the type's first constructor of this name; none where no constructor has it. The empty name

@@ -28,7 +28,7 @@ pub struct DeclaredConstructor<'a> {
 #[derive(Drop)]
 pub struct DeclaredType<'a> {
     /// How many type parameters it has.
-    pub arity: u32,
+    pub arity: usize,
     /// Its constructors, in the order of their numbers from 0.
     pub constructors: Vec<DeclaredConstructor<'a>>,
 }
@@ -150,7 +150,7 @@ impl<'a> Decls<'a> {
     /// How many type parameters the data type of a number has; int has none.
     pub fn arity(&self, number: u32) -> usize {
         match self.data_type(number) {
-            Some(declared) => declared.arity as usize,
+            Some(declared) => declared.arity,
             None => 0,
         }
     }

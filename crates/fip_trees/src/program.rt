@@ -173,7 +173,7 @@ pub struct Program {
     /// those of the program follow in text order.
     pub declaring: Vec<u32>,
     /// For each data type the number of its type parameters, that of data type `d` at `d - 1`.
-    pub arities: Vec<u32>,
+    pub arities: Vec<usize>,
     /// For each data type the numbers of its constructors' fields as it declares them, those of data type `d` at
     /// `d - 1`. It speaks also of data types that declare no type of the table.
     pub field_counts: Vec<Vec<usize>>,

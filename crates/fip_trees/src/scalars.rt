@@ -22,17 +22,14 @@ impl Model for Scalars {
 }
 
 impl Scalars {
-    /// Looks through the types; an error where no memory is left, or there are too many types for their numbers.
+    /// Looks through the types; an error where no memory is left.
     pub fn of(alloc: Global, types: &TypeTable) -> Result<Scalars, NoMemory>
         ensures exact { IfOk result (λ s. (t : ℕ) → get_or s t true ≡ is_scalar types.now t) }
     {
         let mut flags = Vec::new(alloc);
         flags.push(true)?;
         for place in 0..types.len() {
-            match u32::try_from(place + 1) {
-                Ok(ty) => flags.push(types.is_scalar(ty))?,
-                Err(_) => return Err(NoMemory),
-            }
+            flags.push(types.is_scalar_at(place))?;
         }
         Ok(Scalars { flags })
     }

@@ -293,7 +293,7 @@ fn arity_of(decls: &Decls<'_>, number: u32) -> usize
     ensures { result ≡ arity (S.declared_with decls.now []) number }
 {
     match data_type_of(decls, number) {
-        Some(declared) => declared.arity as usize,
+        Some(declared) => declared.arity,
         None => 0,
     }
 }

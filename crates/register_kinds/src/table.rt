@@ -100,10 +100,7 @@ fn scalars_of(alloc: Global, types: &TypeTable) -> Result<Vec<bool>, NoMemory>
     let mut scalars = Vec::new(alloc);
     scalars.push(true)?;
     for place in 0..types.len() {
-        match u32::try_from(place + 1) {
-            Ok(ty) => scalars.push(types.is_scalar(ty))?,
-            Err(_) => return Err(NoMemory),
-        }
+        scalars.push(types.is_scalar_at(place))?;
     }
     Ok(scalars)
 }

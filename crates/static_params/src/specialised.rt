@@ -274,7 +274,7 @@ fn program_with(
 }
 
 // How many type parameters each data type has.
-fn arities_of(alloc: Global, types: &[DeclaredType<'_>]) -> Result<Vec<u32>, NoMemory>
+fn arities_of(alloc: Global, types: &[DeclaredType<'_>]) -> Result<Vec<usize>, NoMemory>
     ensures { IfOk result (λ v. v.items ≡ map (λ (d : Declared). d.arity) (map S.declared types.now)) }
 {
     let mut arities = Vec::new(alloc);

@@ -32,7 +32,7 @@ impl Model for Head {
 pub(crate) struct Tables {
     pub(crate) types: TypeTable,
     pub(crate) declaring: Vec<u32>,
-    pub(crate) arities: Vec<u32>,
+    pub(crate) arities: Vec<usize>,
     pub(crate) field_counts: Vec<Vec<usize>>,
     /// For each data type without parameters its type, that of data type `d` at `d`.
     pub(crate) plain_types: Vec<Found>,
@@ -177,6 +177,17 @@ fn at_number(list: &[u32], number: u32) -> Option<u32>
     }
 }
 
+// How many type parameters the data type of a number from 1 has.
+fn arity_of(arities: &[usize], number: u32) -> Option<usize>
+    ensures { result ≡ numbered arities.now number }
+{
+    if number == 0 {
+        None
+    } else {
+        arities.get(number as usize - 1).copied()
+    }
+}
+
 // The row of a number from 1; an empty one where there is none.
 #[tactic(auto, using(crate::proofs::Worlds::row_past, crate::proofs::Worlds::row_here))]
 fn row_of(rows: &[Vec<usize>], number: u32) -> &[usize]
@@ -198,7 +209,7 @@ fn row_of(rows: &[Vec<usize>], number: u32) -> &[usize]
 pub(crate) fn plain_types(
     alloc: Global,
     declaring: &[u32],
-    arities: &[u32],
+    arities: &[usize],
 ) -> Result<Vec<Found>, NoMemory>
     ensures { IfOk result (λ v. IsPlain arities.now declaring.now v.items) }
 {
@@ -212,7 +223,7 @@ pub(crate) fn plain_types(
 }
 
 // No type for 0, and none for each data type.
-fn nothing_found(alloc: Global, arities: &[u32]) -> Result<Vec<Found>, NoMemory>
+fn nothing_found(alloc: Global, arities: &[usize]) -> Result<Vec<Found>, NoMemory>
     ensures { IfOk result (λ v. v.items ≡ nothing arities.now) }
 {
     let mut found = Vec::new(alloc);
@@ -224,17 +235,17 @@ fn nothing_found(alloc: Global, arities: &[u32]) -> Result<Vec<Found>, NoMemory>
 }
 
 // No type.
-fn not_found(_arity: u32) -> Found
+fn not_found(_arity: usize) -> Found
     ensures { result ≡ None }
 {
     None
 }
 
 // Notes a type that a data type declares, where the data type has no parameters and no earlier type.
-fn put_plain(arities: &[u32], data_type: u32, number: usize, found: &mut Vec<Found>)
+fn put_plain(arities: &[usize], data_type: u32, number: usize, found: &mut Vec<Found>)
     ensures { found.new.items ≡ put_plain arities.now data_type number found.old.items }
 {
-    if at_number(arities, data_type) == Some(0) {
+    if arity_of(arities, data_type) == Some(0) {
         put_first(found, data_type, u32::try_from(number).ok());
     }
 }

@@ -22,11 +22,11 @@ use Rattle.worked_examples.specs.type_safety.Soundness.{IsSoundAnswer, parameter
 use Rattle.command_answers.specs.command_library.command_words.Words.{Room, IsTextName}
 use Rattle.command_answers.specs.command_library.command_outcome.declared.failure.Failure.{Failure}
 use Rattle.command_answers.specs.command_library.command_outcome.declared.failure.Failure.TheVariants as F
-use Rattle.command_answers.specs.command_library.fip_library.declared.list.TheConstants as List'
-use Rattle.command_answers.specs.command_library.fip_library.declared.tree.TheConstants as Tree'
-use Rattle.command_answers.specs.command_library.fip_library.declared.rbtree.TheConstants as RedBlackTree'
-use Rattle.command_answers.specs.command_library.fip_library.declared.finger.TheConstants as FingerTree'
-use Rattle.command_answers.specs.command_library.fip_library.Texts.{IsText, OfList, OfTree, OfRedBlackTree, OfFingerTree}
+use Rattle.command_answers.specs.command_library.library_sources.declared.list.TheConstants as List'
+use Rattle.command_answers.specs.command_library.library_sources.declared.tree.TheConstants as Tree'
+use Rattle.command_answers.specs.command_library.library_sources.declared.rbtree.TheConstants as RedBlackTree'
+use Rattle.command_answers.specs.command_library.library_sources.declared.finger.TheConstants as FingerTree'
+use Rattle.command_answers.specs.command_library.library_sources.Texts.{IsText, OfList, OfTree, OfRedBlackTree, OfFingerTree}
 use Rattle.command_answers.specs.command_library.derivation_text.ProofText.{lines_text}
 use Rattle.command_answers.specs.command_library.value_text.Machine.{step, final, start}
 use Rattle.command_answers.proofs.command_library.value_text.Exact.{accepted_text, stopped_text}

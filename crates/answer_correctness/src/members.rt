@@ -8,7 +8,7 @@ ghost use Rattle.command_answers.specs.command_library.fip_language.Prefix.{IsPl
 ghost use Rattle.command_answers.specs.command_library.fip_language.Values.{Value, Values, End, More};
 ghost use Rattle.command_answers.specs.fip_outside.Files.{File, file_of};
 ghost use Rattle.command_answers.specs.command_library.fip_base.declared.refusal.Refusal.{Refusal as a_refusal};
-ghost use Rattle.command_answers.specs.command_library.fip_library.declared.list.TheConstants as list;
+ghost use Rattle.command_answers.specs.command_library.library_sources.declared.list.TheConstants as list;
 ghost use Rattle.worked_examples.specs.fip_trees.Tree.{Program};
 ghost use Rattle.command_answers.specs.command_library.derivation_trees.Trees.{Entry};
 ghost use Rattle.command_answers.specs.command_library.derivation_text.ProofText.{IsProofText};

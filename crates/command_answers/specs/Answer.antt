@@ -20,7 +20,7 @@ use Rattle.command_library.specs.command_outcome.Texts.{not_understood_text, no_
 use Rattle.command_library.specs.command_outcome.declared.failure.Failure.TheVariants as F
 use Rattle.command_library.specs.command_outcome.declared.failure.Object.TheVariants as O
 use Rattle.command_library.specs.command_source.Wanted.{Wanted}
-use Rattle.command_library.specs.fip_library.Texts.{IsText}
+use Rattle.command_library.specs.library_sources.Texts.{IsText}
 use Rattle.command_answers.specs.Asks.{fetched_name, stored_name, wanted}
 use Rattle.command_answers.specs.Ends.{OnSource, OnCode, Audits, Replays}
 use Rattle.command_answers.specs.Exec.{End}

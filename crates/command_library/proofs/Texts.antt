@@ -1,11 +1,11 @@
 -- A name of the library has one text.
 use Rattle.std.proofs.Common.{◌≡◌, ◌∙◌, ◌==◌, ℕ, List, refl, sym, ap, slice_index, if◌then◌else◌}
 use Rattle.std.specs.Prelude.{codes}
-use Rattle.fip_library.specs.Texts.{IsText, OfList, OfTree, OfRedBlackTree, OfFingerTree}
-use Rattle.fip_library.specs.declared.list.TheConstants as List'
-use Rattle.fip_library.specs.declared.tree.TheConstants as Tree
-use Rattle.fip_library.specs.declared.rbtree.TheConstants as RedBlackTree
-use Rattle.fip_library.specs.declared.finger.TheConstants as FingerTree
+use Rattle.library_sources.specs.Texts.{IsText, OfList, OfTree, OfRedBlackTree, OfFingerTree}
+use Rattle.library_sources.specs.declared.list.TheConstants as List'
+use Rattle.library_sources.specs.declared.tree.TheConstants as Tree
+use Rattle.library_sources.specs.declared.rbtree.TheConstants as RedBlackTree
+use Rattle.library_sources.specs.declared.finger.TheConstants as FingerTree
 use Rattle.command_library.specs.GenAnswer.{tree_source}
 
 -- the names differ by their first letters

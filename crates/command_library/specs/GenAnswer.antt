@@ -13,7 +13,7 @@ use Rattle.std.specs.Prelude.{◌≡◌, ◌<◌, ◌≤◌, ℕ, false, List, l
 use Rattle.fip_language.specs.Meaning.{Gives}
 use Rattle.fip_language.specs.Values.{Values}
 use Rattle.fip_language.specs.declared.limits.TheConstants.{MOST_FILE_BYTES, MOST_STORE_WORDS}
-use Rattle.fip_library.specs.declared.rbtree.TheConstants.{TEXT}
+use Rattle.library_sources.specs.declared.rbtree.TheConstants.{TEXT}
 use Rattle.command_words.specs.Words.{Room}
 use Rattle.command_outcome.specs.declared.failure.Failure.{Failure}
 use Rattle.command_outcome.specs.declared.failure.Failure.TheVariants as F

@@ -12,7 +12,7 @@ pub use Rattle.command_tasks.specs.command_run.derivation_text as derivation_tex
 pub use Rattle.command_tasks.specs.command_run.derivation_trees as derivation_trees
 pub use Rattle.fip_base.specs as fip_base
 pub use Rattle.fip_language.specs as fip_language
-pub use Rattle.fip_library.specs as fip_library
+pub use Rattle.library_sources.specs as library_sources
 pub use Rattle.command_tasks.specs.command_run.machine_correctness as machine_correctness
 pub use Rattle.task_semantics.specs.machine_semantics as machine_semantics
 pub use Rattle.task_semantics.specs.run_loading as run_loading

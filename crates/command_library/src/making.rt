@@ -23,8 +23,8 @@ use command_tasks::runner::{Left, failure_of, leave, started, types_of};
 use command_words::Room;
 use fip_base::plain::NoMemory;
 use fip_language::limits::{MOST_FILE_BYTES, MOST_STORE_WORDS};
-use fip_library::text;
 use fip_machine::{Gauge, Machine};
+use library_sources::text;
 use std::alloc::Global;
 
 // The room of a run that makes a tree.

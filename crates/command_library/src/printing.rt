@@ -1,11 +1,11 @@
 // The texts of the library.
 ghost use Rattle.std.specs.Prelude.{◌≡◌, ◌⊎◌, IfOk, IfErr};
-ghost use Rattle.fip_library.specs.Names.{IsTextName};
-ghost use Rattle.fip_library.specs.Texts.{IsText};
+ghost use Rattle.library_sources.specs.Names.{IsTextName};
+ghost use Rattle.library_sources.specs.Texts.{IsText};
 ghost use Rattle.command_outcome.specs.declared.failure.Failure.TheVariants.{NotUnderstood, NoMemory as no_memory};
 
 use command_outcome::Failure;
-use fip_library::text;
+use library_sources::text;
 use std::alloc::Global;
 
 /// The text of a library program; not understood where the library has none of that name.

@@ -18,7 +18,7 @@ use Rattle.std.proofs.lemmas.Option.{none-some}
 use Rattle.command_words.specs.Words.{Room, Request, Command, Check, Compile, Verify, Upgrade, Exec, Run, Trace, Tasks, Derive, Audit, Eval, Replay, Library, Gen, IsTextName}
 use Rattle.command_answers.specs.command_library.GenAnswer.{Generates}
 use Rattle.command_answers.specs.command_trace.Replayed.{IsReplayed, KeepsFromReplay}
-use Rattle.command_answers.specs.command_library.fip_library.Texts.{IsText}
+use Rattle.command_answers.specs.command_library.library_sources.Texts.{IsText}
 use Rattle.command_outcome.specs.Successes.{derived_text}
 use Rattle.command_outcome.specs.declared.failure.Failure.{Failure}
 use Rattle.command_outcome.specs.declared.failure.Failure.TheVariants as F

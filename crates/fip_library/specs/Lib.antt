@@ -1,2 +1,2 @@
-pub mod Names
-pub mod Texts
+pub mod Programs
+pub use Rattle.library_sources.specs as library_sources

@@ -24,8 +24,7 @@ need =
       binders = bound 0 (codes "s") 2 (at 21 15 958) ∷ [];
       credits = [];
       results = 0 ∷ [];
-      results_place =
-          None;
+      results_place = None;
       signature_tuples = [];
       variables = 1;
       body = need_body;
@@ -51,17 +50,14 @@ full =
       place = (at 23 9 995);
       root = true;
       kind = Fip;
-      params = borrowed 2 ∷
-          owned 0 ∷ [];
-      binders = bound 0 (codes "s") 2 (at 23 15 1001) ∷ bound 1 (codes "n") 0 (at 23 23 1009) ∷
-          [];
+      params = borrowed 2 ∷ owned 0 ∷ [];
+      binders = bound 0 (codes "s") 2 (at 23 15 1001) ∷ bound 1 (codes "n") 0 (at 23 23 1009) ∷ [];
       credits = [];
       results = 0 ∷ [];
       results_place = None;
       signature_tuples = [];
       variables = 9;
-      body =
-          full_body;
+      body = full_body;
     }
 
 abbrev pub holds_body : Block
@@ -87,37 +83,36 @@ holds =
       place = (at 31 9 1148);
       root = true;
       kind = Fip;
-      params = borrowed 4 ∷
-          owned 0 ∷ [];
-      binders = bound 0 (codes "p") 4 (at 31 16 1155) ∷ bound 1 (codes "n") 0 (at 31 27 1166) ∷
-          [];
+      params = borrowed 4 ∷ owned 0 ∷ [];
+      binders = bound 0 (codes "p") 4 (at 31 16 1155) ∷ bound 1 (codes "n") 0 (at 31 27 1166) ∷ [];
       credits = [];
       results = 1 ∷ [];
       results_place = None;
       signature_tuples = [];
       variables = 7;
-      body =
-          holds_body;
+      body = holds_body;
     }
 
 abbrev pub cons_1_1 : Case
 cons_1_1 =
     record {
-      pattern = ConstructorPattern 4 5 1 (codes "Pad3") (at 43 7 1542) (MorePatterns (taken 5
-          (codes "_") 0 (at 43 12 1547)) (MorePatterns (taken 6 (codes "_") 0 (at 43 15 1550)) (MorePatterns
+      pattern =
+          ConstructorPattern 4 5 1 (codes "Pad3") (at 43 7 1542) (MorePatterns (taken 5 (codes "_") 0
+          (at 43 12 1547)) (MorePatterns (taken 6 (codes "_") 0 (at 43 15 1550)) (MorePatterns
           (ConstructorPattern 4 5 1 (codes "Pad3") (at 43 18 1553) (MorePatterns (taken 7 (codes "_") 0
-          (at 43 23 1558)) (MorePatterns (taken 8 (codes "_") 0 (at 43 26 1561)) (MorePatterns (ConstructorPattern
-          4 5 1 (codes "Pad3") (at 43 29 1564) (MorePatterns (taken 9 (codes "_") 0 (at 43 34 1569)) (MorePatterns
-          (taken 10 (codes "_") 0 (at 43 37 1572)) (MorePatterns (taken 11 (codes "q") 4 (at 43 40 1575))
-          NoPatterns)))) NoPatterns)))) NoPatterns)));
-      body = Let (bound 12 (codes "t") 2 (at 44 14 1596) ∷ bound
-          13 (codes "left") 4 (at 44 17 1599) ∷ []) (Call 4 (codes "push") (at 44 25 1607) (MoreArguments
-          (Constructor 5 2 0 (codes "Item") (at 44 30 1612) (MoreArguments (var 0 (codes "x") (at 44 35 1617))
-          (MoreArguments (Literal (pos 0) (at 44 38 1620)) (MoreArguments (Literal (pos 0) (at 44 41 1623))
-          NoArguments)))) (MoreArguments (var 1 (codes "s") (at 44 45 1627)) (MoreArguments (var 11 (codes "q")
-          (at 44 48 1630)) (MoreArguments (Constructor 6 6 0 (codes "Top") (at 44 51 1633) NoArguments)
-          NoArguments))))) (Last (Tuple (at 45 9 1647) (MoreArguments (var 12 (codes "t") (at 45 10 1648))
-          (MoreArguments (var 13 (codes "left") (at 45 13 1651)) (MoreArguments (Constructor 1 1 1 (codes "True")
+          (at 43 23 1558)) (MorePatterns (taken 8 (codes "_") 0 (at 43 26 1561)) (MorePatterns
+          (ConstructorPattern 4 5 1 (codes "Pad3") (at 43 29 1564) (MorePatterns (taken 9 (codes "_") 0
+          (at 43 34 1569)) (MorePatterns (taken 10 (codes "_") 0 (at 43 37 1572)) (MorePatterns (taken 11
+          (codes "q") 4 (at 43 40 1575)) NoPatterns)))) NoPatterns)))) NoPatterns)));
+      body =
+          Let (bound 12 (codes "t") 2 (at 44 14 1596) ∷ bound 13 (codes "left") 4 (at 44 17 1599) ∷ [])
+          (Call 4 (codes "push") (at 44 25 1607) (MoreArguments (Constructor 5 2 0 (codes "Item")
+          (at 44 30 1612) (MoreArguments (var 0 (codes "x") (at 44 35 1617)) (MoreArguments (Literal (pos 0)
+          (at 44 38 1620)) (MoreArguments (Literal (pos 0) (at 44 41 1623)) NoArguments)))) (MoreArguments
+          (var 1 (codes "s") (at 44 45 1627)) (MoreArguments (var 11 (codes "q") (at 44 48 1630))
+          (MoreArguments (Constructor 6 6 0 (codes "Top") (at 44 51 1633) NoArguments) NoArguments)))))
+          (Last (Tuple (at 45 9 1647) (MoreArguments (var 12 (codes "t") (at 45 10 1648)) (MoreArguments
+          (var 13 (codes "left") (at 45 13 1651)) (MoreArguments (Constructor 1 1 1 (codes "True")
           (at 45 19 1657) NoArguments) NoArguments)))));
     }
 
@@ -125,27 +120,28 @@ abbrev pub cons_1_2 : Case
 cons_1_2 =
     record {
       pattern = taken 14 (codes "q") 4 (at 46 7 1670);
-      body = Last (Tuple (at 46 12 1675)
-          (MoreArguments (var 1 (codes "s") (at 46 13 1676)) (MoreArguments (var 14 (codes "q") (at 46 16 1679))
-          (MoreArguments (Constructor 1 1 0 (codes "False") (at 46 19 1682) NoArguments) NoArguments))));
+      body =
+          Last (Tuple (at 46 12 1675) (MoreArguments (var 1 (codes "s") (at 46 13 1676)) (MoreArguments (var
+          14 (codes "q") (at 46 16 1679)) (MoreArguments (Constructor 1 1 0 (codes "False") (at 46 19 1682)
+          NoArguments) NoArguments))));
     }
 
 abbrev pub cons_1 : Case
 cons_1 =
     record {
       pattern = ConstructorPattern 1 1 1 (codes "True") (at 41 3 1509) NoPatterns;
-      body = Last (Match
-          true 4 (at 42 5 1525) (var 2 (codes "p") (at 42 12 1532)) cons_1_1.pattern cons_1_1.body (MoreClauses
-          cons_1_2.pattern cons_1_2.body NoClauses));
+      body =
+          Last (Match true 4 (at 42 5 1525) (var 2 (codes "p") (at 42 12 1532)) cons_1_1.pattern
+          cons_1_1.body (MoreClauses cons_1_2.pattern cons_1_2.body NoClauses));
     }
 
 abbrev pub cons_2 : Case
 cons_2 =
     record {
       pattern = ConstructorPattern 1 1 0 (codes "False") (at 41 3 1509) NoPatterns;
-      body = Last
-          (Tuple (at 48 12 1706) (MoreArguments (var 1 (codes "s") (at 48 13 1707)) (MoreArguments (var 2
-          (codes "p") (at 48 16 1710)) (MoreArguments (Constructor 1 1 0 (codes "False") (at 48 19 1713)
+      body =
+          Last (Tuple (at 48 12 1706) (MoreArguments (var 1 (codes "s") (at 48 13 1707)) (MoreArguments (var
+          2 (codes "p") (at 48 16 1710)) (MoreArguments (Constructor 1 1 0 (codes "False") (at 48 19 1713)
           NoArguments) NoArguments))));
     }
 
@@ -165,10 +161,10 @@ cons =
       place = (at 38 9 1405);
       root = true;
       kind = Fip;
-      params = owned 0 ∷ owned
-          2 ∷ owned 4 ∷ [];
-      binders = bound 0 (codes "x") 0 (at 38 14 1410) ∷ bound 1 (codes "s") 2
-          (at 38 22 1418) ∷ bound 2 (codes "p") 4 (at 38 30 1426) ∷ [];
+      params = owned 0 ∷ owned 2 ∷ owned 4 ∷ [];
+      binders =
+          bound 0 (codes "x") 0 (at 38 14 1410) ∷ bound 1 (codes "s") 2 (at 38 22 1418) ∷ bound 2
+          (codes "p") 4 (at 38 30 1426) ∷ [];
       credits = [];
       results = 2 ∷ 4 ∷ 1 ∷ [];
       results_place = Some (at 38 42 1438);

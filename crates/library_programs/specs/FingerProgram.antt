@@ -25,9 +25,9 @@ finger_program =
     record {
       types = finger_types;
       declaring = 1 ∷ 4 ∷ 3 ∷ 5 ∷ 2 ∷ 6 ∷ [];
-      arities = 0 ∷ 0 ∷ 0 ∷ 0 ∷ 0 ∷ 0 ∷
-          [];
-      field_counts = (0 ∷ 0 ∷ []) ∷ (3 ∷ 3 ∷ 3 ∷ []) ∷ (3 ∷ 3 ∷ 3 ∷ []) ∷ (0 ∷ 3 ∷ 3 ∷ []) ∷ (0 ∷ 3 ∷ [])
-          ∷ (0 ∷ 3 ∷ []) ∷ [];
+      arities = 0 ∷ 0 ∷ 0 ∷ 0 ∷ 0 ∷ 0 ∷ [];
+      field_counts =
+          (0 ∷ 0 ∷ []) ∷ (3 ∷ 3 ∷ 3 ∷ []) ∷ (3 ∷ 3 ∷ 3 ∷ []) ∷ (0 ∷ 3 ∷ 3 ∷ []) ∷ (0 ∷ 3 ∷ []) ∷ (0 ∷ 3 ∷
+          []) ∷ [];
       instances = need ∷ full ∷ holds ∷ cons ∷ push ∷ close ∷ [];
     }

@@ -25,16 +25,14 @@ back =
       place = (at 12 9 450);
       root = true;
       kind = Fip;
-      params = owned 2 ∷ owned 2
-          ∷ [];
+      params = owned 2 ∷ owned 2 ∷ [];
       binders = bound 0 (codes "xs") 2 (at 12 14 455) ∷ bound 1 (codes "acc") 2 (at 12 29 470) ∷ [];
       credits = [];
       results = 2 ∷ [];
       results_place = None;
       signature_tuples = [];
       variables = 4;
-      body =
-          back_body;
+      body = back_body;
     }
 
 abbrev pub reverse_body : Block
@@ -53,8 +51,7 @@ reverse =
       binders = bound 0 (codes "xs") 2 (at 16 17 582) ∷ [];
       credits = [];
       results = 2 ∷ [];
-      results_place =
-          None;
+      results_place = None;
       signature_tuples = [];
       variables = 1;
       body = reverse_body;
@@ -74,16 +71,14 @@ append =
       place = (at 19 9 673);
       root = true;
       kind = Fip;
-      params = owned 2 ∷ owned
-          2 ∷ [];
+      params = owned 2 ∷ owned 2 ∷ [];
       binders = bound 0 (codes "xs") 2 (at 19 16 680) ∷ bound 1 (codes "ys") 2 (at 19 31 695) ∷ [];
       credits = [];
       results = 2 ∷ [];
       results_place = None;
       signature_tuples = [];
       variables = 3;
-      body =
-          append_body;
+      body = append_body;
     }
 
 abbrev pub increment_body : Block
@@ -98,13 +93,11 @@ increment =
       place = (at 25 9 821);
       root = true;
       kind = Fip;
-      params = owned 2 ∷
-          [];
+      params = owned 2 ∷ [];
       binders = bound 0 (codes "xs") 2 (at 25 19 831) ∷ [];
       credits = [];
       results = 2 ∷ [];
-      results_place
-          = None;
+      results_place = None;
       signature_tuples = [];
       variables = 1;
       body = increment_body;
@@ -130,16 +123,14 @@ raise =
       place = (at 27 9 885);
       root = true;
       kind = Fip;
-      params = owned 2 ∷ owned
-          2 ∷ [];
+      params = owned 2 ∷ owned 2 ∷ [];
       binders = bound 0 (codes "xs") 2 (at 27 15 891) ∷ bound 1 (codes "acc") 2 (at 27 30 906) ∷ [];
       credits = [];
       results = 2 ∷ [];
       results_place = None;
       signature_tuples = [];
       variables = 5;
-      body =
-          raise_body;
+      body = raise_body;
     }
 
 abbrev pub right_body : Block
@@ -168,8 +159,7 @@ right =
       binders = bound 0 (codes "z") 3 (at 35 15 1108) ∷ [];
       credits = [];
       results = 3 ∷ [];
-      results_place =
-          None;
+      results_place = None;
       signature_tuples = [];
       variables = 5;
       body = right_body;
@@ -194,8 +184,7 @@ plug =
       binders = bound 0 (codes "z") 3 (at 44 15 1372) ∷ [];
       credits = [];
       results = 2 ∷ [];
-      results_place =
-          None;
+      results_place = None;
       signature_tuples = [];
       variables = 3;
       body = plug_body;
@@ -213,8 +202,6 @@ list_program =
       types = list_types;
       declaring = 1 ∷ 2 ∷ 3 ∷ [];
       arities = 0 ∷ 1 ∷ 0 ∷ [];
-      field_counts = (0 ∷ 0
-          ∷ []) ∷ (0 ∷ 2 ∷ []) ∷ (2 ∷ []) ∷ [];
-      instances = back ∷ reverse ∷ append ∷ increment ∷ raise ∷ right ∷
-          plug ∷ [];
+      field_counts = (0 ∷ 0 ∷ []) ∷ (0 ∷ 2 ∷ []) ∷ (2 ∷ []) ∷ [];
+      instances = back ∷ reverse ∷ append ∷ increment ∷ raise ∷ right ∷ plug ∷ [];
     }

@@ -15,58 +15,58 @@ abbrev pub member_1 : Case
 member_1 =
     record {
       pattern = ConstructorPattern 2 3 0 (codes "Leaf") (at 63 5 2762) NoPatterns;
-      body = Last (Give
-          (Constructor 1 1 0 (codes "False") (at 63 13 2770) NoArguments));
+      body = Last (Give (Constructor 1 1 0 (codes "False") (at 63 13 2770) NoArguments));
     }
 
 abbrev pub member_2_1 : Case
 member_2_1 =
     record {
       pattern = ConstructorPattern 1 1 1 (codes "True") (at 65 7 2807) NoPatterns;
-      body = Last (Call
-          4 (codes "member") (at 65 18 2818) (MoreArguments (var 3 (codes "l") (at 65 25 2825)) (MoreArguments
-          (var 1 (codes "k") (at 65 28 2828)) NoArguments)));
+      body =
+          Last (Call 4 (codes "member") (at 65 18 2818) (MoreArguments (var 3 (codes "l") (at 65 25 2825))
+          (MoreArguments (var 1 (codes "k") (at 65 28 2828)) NoArguments)));
     }
 
 abbrev pub member_2_2_1 : Case
 member_2_2_1 =
     record {
       pattern = ConstructorPattern 1 1 1 (codes "True") (at 65 40 2840) NoPatterns;
-      body = Last (Call
-          4 (codes "member") (at 65 51 2851) (MoreArguments (var 5 (codes "r") (at 65 58 2858)) (MoreArguments
-          (var 1 (codes "k") (at 65 61 2861)) NoArguments)));
+      body =
+          Last (Call 4 (codes "member") (at 65 51 2851) (MoreArguments (var 5 (codes "r") (at 65 58 2858))
+          (MoreArguments (var 1 (codes "k") (at 65 61 2861)) NoArguments)));
     }
 
 abbrev pub member_2_2_2 : Case
 member_2_2_2 =
     record {
       pattern = ConstructorPattern 1 1 0 (codes "False") (at 65 40 2840) NoPatterns;
-      body = Last
-          (Give (Constructor 1 1 1 (codes "True") (at 65 73 2873) NoArguments));
+      body = Last (Give (Constructor 1 1 1 (codes "True") (at 65 73 2873) NoArguments));
     }
 
 abbrev pub member_2_2 : Case
 member_2_2 =
     record {
       pattern = ConstructorPattern 1 1 0 (codes "False") (at 65 7 2807) NoPatterns;
-      body = Let (bound
-          7 (codes "_") 1 (at 65 45 2845) ∷ []) (Operation O.Greater (at 65 45 2845) (var 1 (codes "k")
-          (at 65 43 2843)) (var 4 (codes "x") (at 65 47 2847))) (Last (Match false 1 (at 65 40 2840) (var 7
-          (codes "_") (at 65 45 2845)) member_2_2_1.pattern member_2_2_1.body (MoreClauses member_2_2_2.pattern
-          member_2_2_2.body NoClauses)));
+      body =
+          Let (bound 7 (codes "_") 1 (at 65 45 2845) ∷ []) (Operation O.Greater (at 65 45 2845) (var 1
+          (codes "k") (at 65 43 2843)) (var 4 (codes "x") (at 65 47 2847))) (Last (Match false 1
+          (at 65 40 2840) (var 7 (codes "_") (at 65 45 2845)) member_2_2_1.pattern member_2_2_1.body
+          (MoreClauses member_2_2_2.pattern member_2_2_2.body NoClauses)));
     }
 
 abbrev pub member_2 : Case
 member_2 =
     record {
-      pattern = ConstructorPattern 2 3 1 (codes "Node") (at 64 5 2781) (MorePatterns (taken 2
-          (codes "_") 5 (at 64 10 2786)) (MorePatterns (taken 3 (codes "l") 2 (at 64 13 2789)) (MorePatterns
-          (taken 4 (codes "x") 0 (at 64 16 2792)) (MorePatterns (taken 5 (codes "r") 2 (at 64 19 2795))
+      pattern =
+          ConstructorPattern 2 3 1 (codes "Node") (at 64 5 2781) (MorePatterns (taken 2 (codes "_") 5
+          (at 64 10 2786)) (MorePatterns (taken 3 (codes "l") 2 (at 64 13 2789)) (MorePatterns (taken 4
+          (codes "x") 0 (at 64 16 2792)) (MorePatterns (taken 5 (codes "r") 2 (at 64 19 2795))
           NoPatterns))));
-      body = Let (bound 6 (codes "_") 1 (at 65 12 2812) ∷ []) (Operation O.Less
-          (at 65 12 2812) (var 1 (codes "k") (at 65 10 2810)) (var 4 (codes "x") (at 65 14 2814))) (Last (Match
-          false 1 (at 65 7 2807) (var 6 (codes "_") (at 65 12 2812)) member_2_1.pattern member_2_1.body
-          (MoreClauses member_2_2.pattern member_2_2.body NoClauses)));
+      body =
+          Let (bound 6 (codes "_") 1 (at 65 12 2812) ∷ []) (Operation O.Less (at 65 12 2812) (var 1
+          (codes "k") (at 65 10 2810)) (var 4 (codes "x") (at 65 14 2814))) (Last (Match false 1
+          (at 65 7 2807) (var 6 (codes "_") (at 65 12 2812)) member_2_1.pattern member_2_1.body (MoreClauses
+          member_2_2.pattern member_2_2.body NoClauses)));
     }
 
 abbrev pub member_body : Block
@@ -81,17 +81,14 @@ member =
       place = (at 61 9 2715);
       root = true;
       kind = Fip;
-      params = borrowed 2 ∷
-          owned 0 ∷ [];
-      binders = bound 0 (codes "t") 2 (at 61 17 2723) ∷ bound 1 (codes "k") 0 (at 61 24 2730) ∷
-          [];
+      params = borrowed 2 ∷ owned 0 ∷ [];
+      binders = bound 0 (codes "t") 2 (at 61 17 2723) ∷ bound 1 (codes "k") 0 (at 61 24 2730) ∷ [];
       credits = [];
       results = 1 ∷ [];
       results_place = None;
       signature_tuples = [];
       variables = 8;
-      body =
-          member_body;
+      body = member_body;
     }
 
 abbrev pub build_body : Block
@@ -118,10 +115,10 @@ build =
       place = (at 71 10 3050);
       root = true;
       kind = Fbip;
-      params = owned 6 ∷
-          owned 7 ∷ owned 2 ∷ [];
-      binders = bound 0 (codes "keys") 6 (at 71 16 3056) ∷ bound 1 (codes "pads") 7
-          (at 71 33 3073) ∷ bound 2 (codes "t") 2 (at 71 50 3090) ∷ [];
+      params = owned 6 ∷ owned 7 ∷ owned 2 ∷ [];
+      binders =
+          bound 0 (codes "keys") 6 (at 71 16 3056) ∷ bound 1 (codes "pads") 7 (at 71 33 3073) ∷ bound 2
+          (codes "t") 2 (at 71 50 3090) ∷ [];
       credits = [];
       results = 2 ∷ [];
       results_place = None;
@@ -150,9 +147,8 @@ rbtree_program =
     record {
       types = rbtree_types;
       declaring = 1 ∷ 3 ∷ 4 ∷ 6 ∷ 2 ∷ 5 ∷ 5 ∷ [];
-      arities = 0 ∷ 0 ∷ 0 ∷ 0 ∷ 1 ∷
-          0 ∷ [];
-      field_counts = (0 ∷ 0 ∷ []) ∷ (0 ∷ 0 ∷ []) ∷ (0 ∷ 4 ∷ []) ∷ (0 ∷ 4 ∷ []) ∷ (0 ∷ 2 ∷ []) ∷ (0 ∷ 4
-          ∷ 4 ∷ []) ∷ [];
+      arities = 0 ∷ 0 ∷ 0 ∷ 0 ∷ 1 ∷ 0 ∷ [];
+      field_counts =
+          (0 ∷ 0 ∷ []) ∷ (0 ∷ 0 ∷ []) ∷ (0 ∷ 4 ∷ []) ∷ (0 ∷ 4 ∷ []) ∷ (0 ∷ 2 ∷ []) ∷ (0 ∷ 4 ∷ 4 ∷ []) ∷ [];
       instances = insert ∷ search ∷ close ∷ grow ∷ member ∷ build ∷ [];
     }

@@ -20,13 +20,11 @@ increment =
       place = (at 16 9 692);
       root = true;
       kind = Fip;
-      params = owned 2 ∷
-          [];
+      params = owned 2 ∷ [];
       binders = bound 0 (codes "t") 2 (at 16 19 702) ∷ [];
       credits = [];
       results = 2 ∷ [];
-      results_place =
-          None;
+      results_place = None;
       signature_tuples = [];
       variables = 1;
       body = increment_body;
@@ -52,16 +50,14 @@ down =
       place = (at 18 9 753);
       root = true;
       kind = Fip;
-      params = owned 2 ∷ owned 3
-          ∷ [];
+      params = owned 2 ∷ owned 3 ∷ [];
       binders = bound 0 (codes "t") 2 (at 18 14 758) ∷ bound 1 (codes "w") 3 (at 18 28 772) ∷ [];
       credits = [];
       results = 2 ∷ [];
       results_place = None;
       signature_tuples = [];
       variables = 5;
-      body =
-          down_body;
+      body = down_body;
     }
 
 abbrev pub up_body : Block
@@ -90,11 +86,9 @@ up =
       place = (at 26 9 903);
       root = true;
       kind = Fip;
-      params = owned 2 ∷ owned 3 ∷
-          [];
+      params = owned 2 ∷ owned 3 ∷ [];
       binders = bound 0 (codes "t") 2 (at 26 12 906) ∷ bound 1 (codes "w") 3 (at 26 26 920) ∷ [];
-      credits
-          = [];
+      credits = [];
       results = 2 ∷ [];
       results_place = None;
       signature_tuples = [];
@@ -116,7 +110,6 @@ tree_program =
       types = tree_types;
       declaring = 1 ∷ 2 ∷ 3 ∷ [];
       arities = 0 ∷ 1 ∷ 0 ∷ [];
-      field_counts = (0 ∷ 0
-          ∷ []) ∷ (0 ∷ 3 ∷ []) ∷ (0 ∷ 3 ∷ 3 ∷ []) ∷ [];
+      field_counts = (0 ∷ 0 ∷ []) ∷ (0 ∷ 3 ∷ []) ∷ (0 ∷ 3 ∷ 3 ∷ []) ∷ [];
       instances = increment ∷ down ∷ up ∷ [];
     }

@@ -1,6 +1,6 @@
 -- The text `list` comes to its program, by computation.
 use Rattle.std.proofs.Common.{◌<◌, ℕ, zero, suc, List, [], ◌∷◌, refl, arith}
-use Rattle.fip_library.specs.declared.list.TheConstants.{TEXT}
+use Rattle.library_sources.specs.declared.list.TheConstants.{TEXT}
 use Rattle.source_report.specs.data_types.Declarations.{declarations}
 use Rattle.source_report.specs.data_types.Types.{Node, End, More, IsValued}
 use Rattle.source_report.specs.Report.{IsTyped}

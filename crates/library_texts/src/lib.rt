@@ -2,10 +2,10 @@
 // functions that do nothing.
 #![tactic(auto)]
 
-ghost use Rattle.fip_library.specs.declared.list.TheConstants as list_text;
-ghost use Rattle.fip_library.specs.declared.tree.TheConstants as tree_text;
-ghost use Rattle.fip_library.specs.declared.rbtree.TheConstants as rbtree_text;
-ghost use Rattle.fip_library.specs.declared.finger.TheConstants as finger_text;
+ghost use Rattle.library_sources.specs.declared.list.TheConstants as list_text;
+ghost use Rattle.library_sources.specs.declared.tree.TheConstants as tree_text;
+ghost use Rattle.library_sources.specs.declared.rbtree.TheConstants as rbtree_text;
+ghost use Rattle.library_sources.specs.declared.finger.TheConstants as finger_text;
 ghost use Rattle.library_programs.specs.ListProgram.{list_program};
 ghost use Rattle.library_programs.specs.TreeProgram.{tree_program};
 ghost use Rattle.library_programs.specs.RedBlackProgram.{rbtree_program};

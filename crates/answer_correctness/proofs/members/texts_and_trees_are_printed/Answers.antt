@@ -1,5 +1,5 @@
 use Rattle.command_answers.specs.command_library.fip_language.Values.{End, More}
-use Rattle.command_answers.specs.command_library.fip_library.Texts as L
+use Rattle.command_answers.specs.command_library.library_sources.Texts as L
 use Rattle.command_answers.specs.Exec as X
 use Rattle.command_answers.specs.Generating as G
 use Rattle.answer_correctness.proofs.members.texts_and_trees_are_printed.Goals as goal

@@ -3,15 +3,15 @@ use Rattle.std.proofs.Common.{◌≡◌, ◌∙◌, ℕ, List, sym, subst}
 use Rattle.fip_base.specs.declared.refusal.PhaseError.{PhaseError}
 use Rattle.fip_base.specs.declared.refusal.PhaseError.TheVariants.{Refused, NoMemory}
 use Rattle.fip_base.specs.declared.refusal.Refusal.{Refusal}
-use Rattle.fip_library.specs.Texts.{IsText, OfList, OfTree, OfRedBlackTree, OfFingerTree}
+use Rattle.library_sources.specs.Texts.{IsText, OfList, OfTree, OfRedBlackTree, OfFingerTree}
 use Rattle.fip_trees.specs.Tree.{Program}
 use Rattle.source_report.specs.Report.{IsTyped}
 use Rattle.library_texts.proofs.ListText.{list_typed}
 use Rattle.library_texts.proofs.TreeText.{tree_typed}
 use Rattle.library_texts.proofs.RedBlackText.{rbtree_typed}
 use Rattle.library_texts.proofs.FingerText.{finger_typed}
-use Rattle.library_typed.specs.Programs as P
-use Rattle.library_typed.specs.Programs.{IsProgram}
+use Rattle.fip_library.specs.Programs as P
+use Rattle.fip_library.specs.Programs.{IsProgram}
 
 pub text_typed : (name text : List ℕ) → IsText name text → (p : Program) × IsTyped text p × IsProgram name p
 text_typed _ _ OfList = (_, list_typed, P.OfList)

@@ -1,5 +1,5 @@
-use Rattle.library_typed.proofs.Texts.{program_so, never_refused}
-use Rattle.library_typed.proofs.typed.Goals as goal
+use Rattle.fip_library.proofs.Texts.{program_so, never_refused}
+use Rattle.fip_library.proofs.typed.Goals as goal
 
 pub returns-in-Ok-clause-program : goal.returns-in-Ok-clause-program
 returns-in-Ok-clause-program c = program_so _ _ _ _ c.in-Some.ensures.text c.as_bytes.ensures.value c.in-Ok.ensures.typed

@@ -1,7 +1,7 @@
 use Rattle.std.proofs.Common.{◌∙◌, sym, ap}
 use Rattle.fip_language.specs.CoreForm.{core_form}
-use Rattle.library_typed.proofs.Phases.{no_refusal}
-use Rattle.library_typed.proofs.core_form_of.Goals as goal
+use Rattle.fip_library.proofs.Phases.{no_refusal}
+use Rattle.fip_library.proofs.core_form_of.Goals as goal
 
 pub returns-in-Ok-core_of : goal.returns-in-Ok-core_of
 returns-in-Ok-core_of c = record {

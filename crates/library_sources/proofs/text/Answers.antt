@@ -1,6 +1,6 @@
 use Rattle.std.proofs.Common.{sym, subst}
-use Rattle.fip_library.specs.Texts.{IsText, OfList, OfTree, OfRedBlackTree, OfFingerTree}
-use Rattle.fip_library.proofs.text.Goals as goal
+use Rattle.library_sources.specs.Texts.{IsText, OfList, OfTree, OfRedBlackTree, OfFingerTree}
+use Rattle.library_sources.proofs.text.Goals as goal
 
 pub returns-in-list-clause-text : goal.returns-in-list-clause-text
 returns-in-list-clause-text c = subst (λ n. IsText n _) (sym c.in-list.is) OfList

@@ -1,8 +1,8 @@
 use Rattle.fip_base.specs.CoreView.{core as core_view}
 use Rattle.std.proofs.Common.{sym, subst}
 use Rattle.source_report.specs.Report.{IsParsed}
-use Rattle.library_typed.proofs.Phases.{not_declared, flat_is}
-use Rattle.library_typed.proofs.flat_of.Goals as goal
+use Rattle.fip_library.proofs.Phases.{not_declared, flat_is}
+use Rattle.fip_library.proofs.flat_of.Goals as goal
 
 pub returns-in-Err : goal.returns-in-Err
 returns-in-Err c = record {

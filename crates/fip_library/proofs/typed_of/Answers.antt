@@ -4,8 +4,8 @@ use Rattle.fip_language.specs.Core.{Core}
 use Rattle.fip_trees.specs.Tree.{Program}
 use Rattle.fip_trees.specs.TreeView as V
 use Rattle.source_report.specs.Report.{IsParsed, IsTyped}
-use Rattle.library_typed.proofs.Phases.{typed_is}
-use Rattle.library_typed.proofs.typed_of.Goals as goal
+use Rattle.fip_library.proofs.Phases.{typed_is}
+use Rattle.fip_library.proofs.typed_of.Goals as goal
 
 parsed_so : (source : List ℕ) (core : Core) (p : Program) (h : IsTyped source p) → core ≡ h.flat.core → IsParsed source core
 parsed_so source core p h e = subst (λ c. IsParsed source c) (sym e) h.flat.declared.parsed

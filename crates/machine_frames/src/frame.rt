@@ -1,6 +1,6 @@
-// What instructions do to the words of frames. Lists of at most four registers are matched, the commonest lengths
-// first, so that each length is straight code: a list is read first and then written, since the store and the frames
-// may not be known to lie apart.
+// What instructions do to the words of frames. Lists of at most four registers are asked for their length, the commonest
+// first, where a `match` would ask for the shortest first; so each length is straight code. A list is read first and then
+// written, since the store and the frames may not be known to lie apart.
 ghost use Rattle.std.specs.Prelude.{◌≡◌, ◌≢◌, ℕ, ◌+◌, ◌<◌, ◌≤◌, List, [], ◌∷◌, ◌++◌, None, Some, length, vec_len};
 ghost use Rattle.std.specs.Prelude.{slice_set};
 ghost use Rattle.fip_language.specs.declared.limits.TheConstants.{MOST_FIELDS, MOST_RESULTS};
@@ -52,34 +52,33 @@ pub fn take<C: Cells>(
     ensures fields { (c : Cell) → cell_at (C.cells cells.now) place ≡ Some c →
         words.new ≡ put_words base words.old registers.now c.fields }
 {
-    match registers {
-        [a, b] => {
-            let x = cells.field(place, 0);
-            let y = cells.field(place, 1);
-            words[base + *a as usize] = x;
-            words[base + *b as usize] = y;
+    if let [a, b] = registers {
+        let x = cells.field(place, 0);
+        let y = cells.field(place, 1);
+        words[base + *a as usize] = x;
+        words[base + *b as usize] = y;
+    } else if let [a, b, c] = registers {
+        let x = cells.field(place, 0);
+        let y = cells.field(place, 1);
+        let z = cells.field(place, 2);
+        words[base + *a as usize] = x;
+        words[base + *b as usize] = y;
+        words[base + *c as usize] = z;
+    } else if let [a, b, c, d] = registers {
+        let x = cells.field(place, 0);
+        let y = cells.field(place, 1);
+        let z = cells.field(place, 2);
+        let w = cells.field(place, 3);
+        words[base + *a as usize] = x;
+        words[base + *b as usize] = y;
+        words[base + *c as usize] = z;
+        words[base + *d as usize] = w;
+    } else {
+        match registers {
+            [a] => words[base + *a as usize] = cells.field(place, 0),
+            [] => {}
+            _ => take_all(cells, words, base, own, place, registers),
         }
-        [a, b, c] => {
-            let x = cells.field(place, 0);
-            let y = cells.field(place, 1);
-            let z = cells.field(place, 2);
-            words[base + *a as usize] = x;
-            words[base + *b as usize] = y;
-            words[base + *c as usize] = z;
-        }
-        [a, b, c, d] => {
-            let x = cells.field(place, 0);
-            let y = cells.field(place, 1);
-            let z = cells.field(place, 2);
-            let w = cells.field(place, 3);
-            words[base + *a as usize] = x;
-            words[base + *b as usize] = y;
-            words[base + *c as usize] = z;
-            words[base + *d as usize] = w;
-        }
-        [a] => words[base + *a as usize] = cells.field(place, 0),
-        [] => {}
-        _ => take_all(cells, words, base, own, place, registers),
     }
 }
 
@@ -139,13 +138,14 @@ pub fn put<C: Cells>(
     ensures told { (first : C) (ts : List Told) → C.was_told first ts cells.old → C.was_told first
         (ts ++ Overwritten place tag (words_from base words.now registers.now) ∷ []) cells.new }
 {
-    match registers {
-        [a, b] => cells.overwrite(
+    if let [a, b] = registers {
+        cells.overwrite(
             place,
             tag,
             &[words[base + *a as usize], words[base + *b as usize]],
-        ),
-        [a, b, c] => cells.overwrite(
+        );
+    } else if let [a, b, c] = registers {
+        cells.overwrite(
             place,
             tag,
             &[
@@ -153,8 +153,9 @@ pub fn put<C: Cells>(
                 words[base + *b as usize],
                 words[base + *c as usize],
             ],
-        ),
-        [a, b, c, d] => cells.overwrite(
+        );
+    } else if let [a, b, c, d] = registers {
+        cells.overwrite(
             place,
             tag,
             &[
@@ -163,9 +164,11 @@ pub fn put<C: Cells>(
                 words[base + *c as usize],
                 words[base + *d as usize],
             ],
-        ),
-        [a] => cells.overwrite(place, tag, &[words[base + *a as usize]]),
-        _ => put_all(cells, words, base, own, place, tag, registers),
+        );
+    } else if let [a] = registers {
+        cells.overwrite(place, tag, &[words[base + *a as usize]]);
+    } else {
+        put_all(cells, words, base, own, place, tag, registers);
     }
 }
 
@@ -285,24 +288,24 @@ pub fn pass(words: &mut [u64], base: usize, own: usize, above: usize, arguments:
     ensures keeps { Keeps above words.old words.new }
     ensures given { words.new ≡ laid_at above words.old (words_from base words.old arguments.now) }
 {
-    match arguments {
-        [a, b] => {
-            let x = words[base + *a as usize];
-            let y = words[base + *b as usize];
-            words[above] = x;
-            words[above + 1] = y;
+    if let [a, b] = arguments {
+        let x = words[base + *a as usize];
+        let y = words[base + *b as usize];
+        words[above] = x;
+        words[above + 1] = y;
+    } else if let [a, b, c] = arguments {
+        let x = words[base + *a as usize];
+        let y = words[base + *b as usize];
+        let z = words[base + *c as usize];
+        words[above] = x;
+        words[above + 1] = y;
+        words[above + 2] = z;
+    } else {
+        match arguments {
+            [a] => words[above] = words[base + *a as usize],
+            [] => {}
+            _ => pass_all(words, base, own, above, arguments),
         }
-        [a, b, c] => {
-            let x = words[base + *a as usize];
-            let y = words[base + *b as usize];
-            let z = words[base + *c as usize];
-            words[above] = x;
-            words[above + 1] = y;
-            words[above + 2] = z;
-        }
-        [a] => words[above] = words[base + *a as usize],
-        [] => {}
-        _ => pass_all(words, base, own, above, arguments),
     }
 }
 
@@ -335,34 +338,33 @@ pub fn replace(words: &mut [u64], spare: &mut Vec<u64>, base: usize, own: usize,
     ensures long { vec_len spare.new ≡ vec_len spare.old }
     ensures given { words.new ≡ laid_at base words.old (words_from base words.old arguments.now) }
 {
-    match arguments {
-        [a, b] => {
-            let x = words[base + *a as usize];
-            let y = words[base + *b as usize];
-            words[base] = x;
-            words[base + 1] = y;
+    if let [a, b] = arguments {
+        let x = words[base + *a as usize];
+        let y = words[base + *b as usize];
+        words[base] = x;
+        words[base + 1] = y;
+    } else if let [a, b, c] = arguments {
+        let x = words[base + *a as usize];
+        let y = words[base + *b as usize];
+        let z = words[base + *c as usize];
+        words[base] = x;
+        words[base + 1] = y;
+        words[base + 2] = z;
+    } else if let [a, b, c, d] = arguments {
+        let x = words[base + *a as usize];
+        let y = words[base + *b as usize];
+        let z = words[base + *c as usize];
+        let w = words[base + *d as usize];
+        words[base] = x;
+        words[base + 1] = y;
+        words[base + 2] = z;
+        words[base + 3] = w;
+    } else {
+        match arguments {
+            [a] => words[base] = words[base + *a as usize],
+            [] => {}
+            _ => replace_all(words, spare.as_mut_slice(), base, own, arguments),
         }
-        [a, b, c] => {
-            let x = words[base + *a as usize];
-            let y = words[base + *b as usize];
-            let z = words[base + *c as usize];
-            words[base] = x;
-            words[base + 1] = y;
-            words[base + 2] = z;
-        }
-        [a, b, c, d] => {
-            let x = words[base + *a as usize];
-            let y = words[base + *b as usize];
-            let z = words[base + *c as usize];
-            let w = words[base + *d as usize];
-            words[base] = x;
-            words[base + 1] = y;
-            words[base + 2] = z;
-            words[base + 3] = w;
-        }
-        [a] => words[base] = words[base + *a as usize],
-        [] => {}
-        _ => replace_all(words, spare.as_mut_slice(), base, own, arguments),
     }
 }
 

@@ -30,6 +30,7 @@ use Rattle.fip_language.specs.declared.rule.Rule.TheVariants.{E61}
 use Rattle.fip_trees.specs.declared.groups.Member.{Member}
 use Rattle.fip_trees.specs.Tree.{Instance, Program}
 use Rattle.fip_trees.specs.TreeView.{program}
+use Rattle.code_verify.specs.Checked.{Checked}
 use Rattle.code_verify.specs.code_rules.Breaks.{IsSound}
 use Rattle.code_verify.specs.code_rules.Codes as S
 use Rattle.code_verify.specs.code_rules.StackNumbers.{HasStack}
@@ -38,7 +39,7 @@ use Rattle.program_front.specs.source_report.Report.{bare, IsAccepted}
 use Rattle.command_outcome.specs.declared.failure.Failure.{Failure}
 use Rattle.command_outcome.specs.declared.failure.Failure.TheVariants as F
 use Rattle.command_source.specs.Codes.{IsSoundFile, IsUnspelt}
-use Rattle.command_source.specs.ProgramCode.{plain_header, instrs_of, AreNarrow, AreWithin, IsLoweredFrom, IsCodeOfSource, IsEntryOf, IsCompiledFile, HasFile, IsUncompiled, KeepsFromCompile}
+use Rattle.command_source.specs.ProgramCode.{plain_header, instrs_of, AreNarrow, AreWithin, IsLoweredFrom, IsCodeOfSource, IsEntryOf, IsCompiledFile, HasFile, IsUncompiled, KeepsFromCompile, IsFileOfMade, KeepsFromFile}
 use Rattle.command_source.specs.Entries.{Chosen, IsNamed, IsFunctionOf}
 use Rattle.command_source.specs.Wanted.{Lawful, IsReady, IsRefusedBy}
 use Rattle.command_source.specs.Roots.{IsListing, root_lines}
@@ -112,7 +113,7 @@ pub headed_verified : (p : Program) (code : Code) (o : Result Front Failure) →
 headed_verified p code (Ok f) h typed same = subst (λ c. IsLoweredFrom (program f.typed.program) (plain_code c)) (sym same) (subst (λ q. IsLoweredFrom q (plain_code code)) (sym typed) h)
 headed_verified p code (Err f) h typed same = tt
 
-code_of_source : (source : List ℕ) (p : Program) (code : Code) → IsAccepted source p → IsLoweredFrom p (plain_code code) → IsSound (S.plain code) → HasFile (plain_code code) → IsCodeOfSource source (plain_code code)
+pub code_of_source : (source : List ℕ) (p : Program) (code : Code) → IsAccepted source p → IsLoweredFrom p (plain_code code) → IsSound (S.plain code) → HasFile (plain_code code) → IsCodeOfSource source (plain_code code)
 code_of_source source p code accepted headed sound filed =
     record { program = p; accepted = accepted; lowered = headed; sound = subst IsSound (sym (view_same code)) sound; filed = filed }
 
@@ -151,6 +152,20 @@ made_file source p code (Err f) accepted headed sound spelt short = tt
 pub made_kept : (source : List ℕ) (p : Program) (code : Code) (o : Result Compiled Failure) → IsAccepted source p → IsLoweredFrom p (plain_code code) → IsSound (S.plain code) → HasFile (plain_code code) → ((r : Refusal) → o ≡ Err (F.Refused r) → IsUnspelt (plain_code code)) → IfErr o (IsRefusedBy (λ r. r ≡ bare E61)) → IfErr o (KeepsFromCompile source)
 made_kept source p code (Ok c) accepted headed sound filed unspelt long = tt
 made_kept source p code (Err f) accepted headed sound filed unspelt long = uncompiled source p code f accepted headed sound filed (λ r e. unspelt r (ap Err e)) long
+
+-- and said of the code that is handed out
+pub own_file : (v : Checked) (o : Result Compiled Failure) → IfOk o (λ c. CodeText c.file.items Second (plain_code v.code)) → IfOk o (λ c. length c.file.items ≤ 16777216) → IfOk o (λ c. IsFileOfMade (Some v) c.file.items)
+own_file v (Ok c) spelt short = (spelt, short)
+own_file v (Err f) spelt short = tt
+
+pub own_unspelt : (source : List ℕ) (v : Checked) (o : Result Compiled Failure) → ((r : Refusal) → o ≡ Err (F.Refused r) → IsUnspelt (plain_code v.code)) → IfErr o (IsRefusedBy (λ r. r ≡ bare E61)) → IfErr o (IsRefusedBy (KeepsFromFile source (Some v)))
+own_unspelt source v (Ok c) unspelt long = tt
+own_unspelt source v (Err f) unspelt long = by f (λ r e. unspelt r (ap Err e)) long
+  where
+    by : (f : Failure) → ((r : Refusal) → ◌≡◌ {A = Failure} f (F.Refused r) → IsUnspelt (plain_code v.code)) → IsRefusedBy (λ r. r ≡ bare E61) f → IsRefusedBy (KeepsFromFile source (Some v)) f
+    by (F.Refused r) unspelt h = unspelt r refl
+    by F.NoMemory unspelt h = tt
+    by f unspelt h = absurd h
 
 -- a source of such a code breaks no rule
 pub uncompiled_ready : (source : List ℕ) → IsUncompiled source → IsReady source Lawful

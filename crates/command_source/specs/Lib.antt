@@ -6,6 +6,8 @@ pub mod Judged
 pub mod Codes
 pub mod ProgramCode
 pub mod Derived
+pub use Rattle.code_bytes.specs as code_bytes
+pub use Rattle.code_verify.specs as code_verify
 pub use Rattle.program_front.specs.data_types as data_types
 pub use Rattle.fip_proof.specs.derivation_making as derivation_making
 pub use Rattle.fip_trees.specs as fip_trees

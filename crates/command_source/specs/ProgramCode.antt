@@ -14,9 +14,10 @@
 --     fun dup(^xs: list): pair { .. }
 -- it has one function, which is fip, named rev, and has two parameters and one result; and
 -- `compile list.fip3 list.code` stores the second version's file of this code.
-use Rattle.std.specs.Prelude.{◌≡◌, ◌⊎◌, ◌≤◌, ◌<◌, ℕ, List, map, length, Some, slice_get}
+use Rattle.std.specs.Prelude.{◌≡◌, ◌⊎◌, ◌≤◌, ◌<◌, ℕ, List, map, length, Option, Some, None, slice_get}
 use Rattle.fip_language.specs.declared.limits.TheConstants.{MOST_FILE_BYTES}
 use Rattle.fip_language.specs.declared.rule.Rule.TheVariants.{E61}
+use Rattle.fip_base.specs.declared.refusal.Refusal.{Refusal}
 use Rattle.fip_trees.specs.declared.groups.Member.{Member}
 use Rattle.fip_trees.specs.Tree.{Instance, Program}
 use Rattle.program_front.specs.tail_groups.Members.{AreMembers}
@@ -29,12 +30,13 @@ use Rattle.code_file.specs.Plain.{PlainFunction, PlainCode, plain_code}
 use Rattle.code_file.specs.declared.tags.Version.TheVariants.{Second}
 use Rattle.machine_correctness.specs.compiler_correctness.lowering_relation.LoweredBodies.{function_of}
 use Rattle.machine_correctness.specs.compiler_correctness.lowering_relation.LoweredFunctions.{AreLowered}
+use Rattle.code_verify.specs.Checked.{Checked}
 use Rattle.code_verify.specs.code_rules.Breaks.{IsSound}
 use Rattle.code_verify.specs.code_rules.StackNumbers.{HasStack}
 use Rattle.program_front.specs.source_report.Report.{bare, IsAccepted}
-use Rattle.command_source.specs.Codes.{sound_view}
+use Rattle.command_source.specs.Codes.{sound_view, IsUnspelt}
 use Rattle.command_source.specs.Entries.{Chosen, IsNamed}
-use Rattle.command_source.specs.Wanted.{Lawful, IsRefusedBy, KeepsFrom}
+use Rattle.command_source.specs.Wanted.{Lawful, IsRefusedBy, KeepsFrom, Refuses}
 use Rattle.command_outcome.specs.declared.failure.Failure.{Failure}
 
 -- what a function says beside its instructions and labels
@@ -110,3 +112,15 @@ IsUncompiled source = (code : PlainCode) × IsCodeOfSource source code × (file 
 abbrev pub KeepsFromCompile : List ℕ → Failure → Type 0
 KeepsFromCompile source failure = KeepsFrom source Lawful failure
     ⊎ (IsUncompiled source × IsRefusedBy (λ r. r ≡ bare E61) failure)
+
+-- ---- by the code that was made in a call
+
+-- The file is that of just this code, and isn't too long.
+abbrev pub IsFileOfMade : Option Checked → List ℕ → Type 0
+IsFileOfMade None file = ⊥
+IsFileOfMade (Some v) file = CodeText file Second (plain_code v.code) × (length file ≤ MOST_FILE_BYTES)
+
+-- Why none is stored: just this code has no file that isn't too long; or none was made, since the source is refused.
+abbrev pub KeepsFromFile : List ℕ → Option Checked → Refusal → Type 0
+KeepsFromFile source None r = Refuses source Lawful r
+KeepsFromFile source (Some v) r = IsUnspelt (plain_code v.code)

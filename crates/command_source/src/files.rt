@@ -1,5 +1,5 @@
 // The commands that check a source or a code, and store a code.
-ghost use Rattle.std.specs.Prelude.{◌≡◌, ◌≤◌, length, Err, IfOk, IfErr};
+ghost use Rattle.std.specs.Prelude.{◌≡◌, ◌≤◌, length, Err, IfOk, IfErr, IfSome};
 ghost use Rattle.code_file.specs.CodeText.{CodeText};
 ghost use Rattle.code_file.specs.Plain.{PlainCode, plain_code};
 ghost use Rattle.code_file.specs.declared.tags.Version.TheVariants.{Second};
@@ -8,7 +8,8 @@ ghost use Rattle.fip_language.specs.declared.limits.TheConstants.{MOST_FILE_BYTE
 ghost use Rattle.command_outcome.specs.declared.failure.Failure.TheVariants.{Refused};
 ghost use Rattle.command_source.specs.Codes.{IsCodeListing, IsSoundFile, IsUpgraded, IsUnspelt};
 ghost use Rattle.command_source.specs.Codes.{KeepsFromCode, KeepsFromUpgrade};
-ghost use Rattle.command_source.specs.ProgramCode.{IsCompiledFile, KeepsFromCompile};
+ghost use Rattle.command_source.specs.ProgramCode.{IsCodeOfSource, IsCompiledFile, IsFileOfMade};
+ghost use Rattle.command_source.specs.ProgramCode.{KeepsFromCompile, KeepsFromFile};
 ghost use Rattle.fip_language.specs.declared.rule.Rule.TheVariants.{E61};
 ghost use Rattle.command_outcome.specs.Stages.{IsOfSource};
 ghost use Rattle.program_front.specs.source_report.Report.{bare};
@@ -82,16 +83,27 @@ pub fn file_of(alloc: Global, front: &Front) -> Result<Compiled, Failure>
 }
 
 /// The code file of a source that breaks no rule, and the lines of `check`: what `file_of` makes of the code of `front`.
-/// The refusals are those of `front`, and after them E61.
-pub fn compile(alloc: Global, source: &[u8]) -> Result<Compiled, Failure>
+/// The refusals are those of `front`, and after them E61. The code that was made is handed out, also with E61; none where
+/// `front` gives none.
+pub fn compile(alloc: Global, source: &[u8], made: &mut Option<Verified>) -> Result<Compiled, Failure>
     ensures listed { IfOk result (λ c. IsListing source.now c.text.items) }
     ensures sound { IfOk result (λ c. (code : PlainCode) × IsSoundFile c.file.items code) }
     ensures stored { IfOk result (λ c. IsCompiledFile source.now c.file.items) }
     ensures kept { IfErr result (KeepsFromCompile source.now) }
+    ensures made { IfSome made.new (λ v. IsCodeOfSource source.now (plain_code v.code)) }
+    // The file is that of just this code; E61 is reported where it has none that isn't too long.
+    ensures own { IfOk result (λ c. IsFileOfMade made.new c.file.items) }
+    ensures unspelt { IfErr result (IsRefusedBy (KeepsFromFile source.now made.new)) }
     ensures stage { IfErr result IsOfSource }
 {
+    *made = None;
     match front(alloc, source) {
-        Ok(front) => file_of(alloc, &front),
+        Ok(front) => {
+            let end = file_of(alloc, &front);
+            let Front { verified, .. } = front;
+            *made = Some(verified);
+            end
+        }
         Err(failure) => Err(failure),
     }
 }

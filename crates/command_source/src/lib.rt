@@ -10,6 +10,7 @@ mod listing;
 mod phases;
 mod places;
 
+pub use code_verify::Verified;
 pub use derivations::{audit, bad_proof, derive};
 pub use entry::{Evaluable, Ready, eval_entry, exec_entry, run_entry};
 pub use files::{Compiled, check, compile, file_of, upgrade, verify_file};

@@ -1,3 +1,4 @@
+mod AskedEvaluations
 mod Coming
 mod EmptySource
 mod Examples

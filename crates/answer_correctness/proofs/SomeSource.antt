@@ -2,7 +2,7 @@
 -- evaluated and run, whatever the input is.
 -- The idea: a text is one of the entry's arguments or goes wrong at a place; an accepted source is never stuck; and a root
 -- is one instance, whose stack number is the least.
-use Rattle.std.proofs.Common.{◌≡◌, ◌∙◌, ◌≤◌, ◌<◌, ◌++◌, inl, inr, ℕ, Bool, false, List, Option, Some, None, length, refl, sym, ap, subst}
+use Rattle.std.proofs.Common.{◌≡◌, ◌∙◌, ◌≤◌, ◌<◌, ◌++◌, inl, inr, ℕ, Bool, List, Option, Some, None, length, refl, sym, ap, subst}
 use Rattle.std.specs.Prelude.{◌⊎◌, Ok, Err, codes, option_and_then}
 use Rattle.command_answers.proofs.command_library.fip_language.Search.{le_or_less}
 use Rattle.command_answers.specs.command_library.fip_language.declared.limits.TheConstants.{MOST_FILE_BYTES}
@@ -20,7 +20,6 @@ use Rattle.worked_examples.specs.instance_semantics.Meaning.{flat_meaning}
 use Rattle.worked_examples.specs.source_report.Report.{IsTyped, IsAccepted}
 use Rattle.worked_examples.specs.type_safety.Soundness.{IsSoundAnswer, parameter_types}
 use Rattle.command_answers.specs.command_library.command_words.Words.{Room, IsTextName}
-use Rattle.command_answers.specs.command_library.command_outcome.declared.failure.Failure.{Failure}
 use Rattle.command_answers.specs.command_library.command_outcome.declared.failure.Failure.TheVariants as F
 use Rattle.command_answers.specs.command_library.library_sources.declared.list.TheConstants as List'
 use Rattle.command_answers.specs.command_library.library_sources.declared.tree.TheConstants as Tree'
@@ -45,12 +44,13 @@ use Rattle.command_answers.proofs.command_library.command_run.compiler_correctne
 use Rattle.command_answers.proofs.command_library.command_run.compiler_correctness.derivation_correctness.Whole.{derived, lean, is_read}
 use Rattle.command_answers.proofs.command_library.command_source.specialisation_correctness.Meant.{root_meant}
 use Rattle.command_answers.proofs.command_tasks.source_report.FipCalls.{fip_calls}
-use Rattle.command_answers.specs.command_library.GenAnswer.{tree_source, build, gen_room}
-use Rattle.command_answers.specs.command_library.MadeTree.{gen_input, lines_of_results}
+use Rattle.command_answers.specs.command_library.GenAnswer.{tree_source, build}
+use Rattle.command_answers.specs.command_library.MadeTree.{gen_input}
+use Rattle.command_answers.specs.Drawn.{drawn_text}
 use Rattle.command_answers.specs.Exec as X
 use Rattle.command_answers.specs.Exec.{End, Start, Running, Execs, TellsRun, gauge_by_trees}
 use Rattle.command_answers.specs.Generating as G
-use Rattle.command_answers.specs.Generating.{Makes, Generates}
+use Rattle.command_answers.specs.Generating.{Generates}
 use Rattle.command_answers.specs.GaugeText.{if_asked}
 
 -- ---- what is told of an answer that isn't stuck
@@ -194,46 +194,9 @@ named_text name (inr (inr (inr e))) = text_of (codes "finger") name FingerTree'.
 
 -- ---- the tree of `gen`
 
-module _ (seed count : ℕ) (h : IsReady tree_source (Compiled build)) where
-  abbrev found : (d : Instance) × (root_named build (h.program).instances ≡ Some d)
-  found = compiled_in (root_named build (h.program).instances) h.has
-
-  abbrev s : Start tree_source build
-  s = started tree_source build h.program h.accepted found.0 found.1
-
-  abbrev input : List ℕ
-  input = gen_input seed count
-
-  -- what is told of an answer is told of the run
-  told_so : (vs : Values) (a : Answer) (e : End) → (X.run_of s vs gen_room).answer ≡ a → TellsRun (X.running s) vs gen_room.calls (X.frames_for s gen_room) false (X.run_of s vs gen_room).peak a e → X.TellsAll (X.running s) vs gen_room.calls (X.frames_for s gen_room) false (X.run_of s vs gen_room) e
-  told_so vs a e is t = subst (λ b. TellsRun (X.running s) vs gen_room.calls (X.frames_for s gen_room) false (X.run_of s vs gen_room).peak b e) (sym is) t
-
-  module _ (vs : Values) (short : length input ≤ MOST_FILE_BYTES) (spelt : Spells s.entry input vs) (fits : X.words_of s.entry vs ≤ gen_room.words) where
-    failed : (f : Failure) → X.TellsAll (X.running s) vs gen_room.calls (X.frames_for s gen_room) false (X.run_of s vs gen_room) (Err f) → (e : End) × Makes tree_source seed count e
-    failed f t = (Err f, G.NoTree f short (X.Ran s vs (Err f) spelt fits t))
-
-    -- the end by what the source means
-    made_of : (a : Answer) → (X.run_of s vs gen_room).answer ≡ a → IsSoundAnswer (X.running s).types ((X.running s).instance).results a → (e : End) × Makes tree_source seed count e
-    made_of (Gives us left) is sound = (Ok (lines_of_results count us), G.Made s vs us left short spelt fits is)
-    made_of (Trap kind line col) is sound = failed (F.Trap kind line col) (told_so vs (Trap kind line col) (Err (F.Trap kind line col)) is refl)
-    made_of Out is sound = failed (F.OutOfCalls gen_room.calls) (told_so vs Out (Err (F.OutOfCalls gen_room.calls)) is refl)
-    made_of Deep is sound = failed (F.OutOfFrames (X.frames_for s gen_room)) (told_so vs Deep (Err (F.OutOfFrames (X.frames_for s gen_room))) is refl)
-    made_of Stuck is sound = absurd sound
-
-  some_tree : length input ≤ MOST_FILE_BYTES → (e : End) × Makes tree_source seed count e
-  some_tree short = by (text_or_place tree_source build h.program h.accepted found.0 found.1 input)
-    where
-      fitted : (vs : Values) → Spells s.entry input vs → (X.words_of s.entry vs ≤ gen_room.words) ⊎ (gen_room.words < X.words_of s.entry vs) → (e : End) × Makes tree_source seed count e
-      fitted vs spelt (inl fits) = made_of vs short spelt fits (X.run_of s vs gen_room).answer refl (sound tree_source build h.program h.accepted found.0 found.1 input vs gen_room.calls (X.frames_for s gen_room) spelt)
-      fitted vs spelt (inr less) = (Err (F.TooSmall (X.words_of s.entry vs) gen_room.words), G.NoTree _ short (X.Small s.entry vs spelt less))
-
-      by : ((vs : Values) × Spells s.entry input vs) ⊎ ((at : ℕ) × IsPlace (Spells s.entry) input at) → (e : End) × Makes tree_source seed count e
-      by (inl (vs, spelt)) = fitted vs spelt (le_or_less (X.words_of s.entry vs) gen_room.words)
-      by (inr (at, place)) = (Err (F.BadInput at), G.NoTree (F.BadInput at) short (X.Misspelt s.entry at place))
-
-  pub generated : (e : End) × Generates seed count e
-  generated = by (le_or_less (length input) MOST_FILE_BYTES)
-    where
-      by : (length input ≤ MOST_FILE_BYTES) ⊎ (MOST_FILE_BYTES < length input) → (e : End) × Generates seed count e
-      by (inl short) = let t = some_tree short in (t.0, G.Ran t.0 h t.1)
-      by (inr long) = (Err (F.BadInput MOST_FILE_BYTES), G.Ran _ h (G.LongInput long))
+pub generated : (seed count : ℕ) → IsReady tree_source (Compiled build) → (e : End) × Generates seed count e
+generated seed count h = by (le_or_less (length (gen_input seed count)) MOST_FILE_BYTES)
+  where
+    by : (length (gen_input seed count) ≤ MOST_FILE_BYTES) ⊎ (MOST_FILE_BYTES < length (gen_input seed count)) → (e : End) × Generates seed count e
+    by (inl short) = (Ok (drawn_text seed count), G.Drawn h short)
+    by (inr long) = (Err (F.BadInput MOST_FILE_BYTES), G.LongInput h long)

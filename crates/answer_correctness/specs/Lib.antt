@@ -3,3 +3,4 @@ pub mod Alike
 pub mod Certain
 pub mod Example
 pub mod Empty
+pub mod Evaluations

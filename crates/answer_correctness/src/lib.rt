@@ -2,6 +2,7 @@
 #![tactic(auto)]
 
 pub mod empty;
+pub mod evaluations;
 pub mod existence;
 pub mod members;
 pub mod runs;

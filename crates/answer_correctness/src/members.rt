@@ -165,8 +165,8 @@ pub fn an_example_of_replay()
         ComesTo files input (Replay name step) (Ok (replayed rewriting step)) }
 {}
 
-/// The text list is printed, and a tree is told by its keys, or why there is none. For who wants to see texts and
-/// trees.
+/// The text list is printed, and a tree is told by its keys: the run that makes it fails at nothing. For who wants to see
+/// texts and trees.
 pub fn texts_and_trees_are_printed()
     ensures library { (files : List File) (input : List ℕ) →
         ComesTo files input (Library (codes "list")) (Ok list.TEXT.now) }
@@ -175,10 +175,8 @@ pub fn texts_and_trees_are_printed()
         length (gen_input seed count) ≤ MOST_FILE_BYTES → Spells s.entry (gen_input seed count) vs →
         words_of s.entry vs ≤ gen_room.words → (run_of s vs gen_room).answer ≡ Gives (More tree End) left →
         ComesTo files input (Gen seed count) (Ok (lines_of_tree count tree)) }
-    ensures unmade { (files : List File) (input : List ℕ) (seed count : ℕ) (s : Start tree_source build)
-        (vs : Values) (f : Failure) → IsReady tree_source (Compiled build) →
-        length (gen_input seed count) ≤ MOST_FILE_BYTES → Spells s.entry (gen_input seed count) vs →
-        words_of s.entry vs ≤ gen_room.words →
-        TellsAll (running s) vs gen_room.calls (frames_for s gen_room) false (run_of s vs gen_room) (Err f) →
-        ComesTo files input (Gen seed count) (Err f) }
+    ensures never { (seed count : ℕ) (s : Start tree_source build) (vs : Values) (f : Failure) →
+        IsReady tree_source (Compiled build) → length (gen_input seed count) ≤ MOST_FILE_BYTES →
+        Spells s.entry (gen_input seed count) vs → words_of s.entry vs ≤ gen_room.words →
+        TellsAll (running s) vs gen_room.calls (frames_for s gen_room) false (run_of s vs gen_room) (Err f) → ⊥ }
 {}

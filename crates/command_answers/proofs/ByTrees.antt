@@ -1,7 +1,7 @@
--- What is said of an entry, and of `gen`, by the runs of a code is what is said of it by trees.
+-- What is said of an entry by the runs of a code is what is said of it by trees.
 -- The idea: the code holds of the stack what the groups tell of the entry, so that both have the same frames and mean the
 -- same; and the gauge of a run is told by the evaluation.
-use Rattle.std.proofs.Common.{◌≡◌, ◌∙◌, ◌+◌, ℕ, Bool, false, List, [], ◌∷◌, ◌++◌, Option, sym, ap, ap₂, subst, refl, arith}
+use Rattle.std.proofs.Common.{◌≡◌, ◌∙◌, ◌+◌, ℕ, Bool, false, List, [], ◌∷◌, ◌++◌, ap, ap₂, subst, refl, arith}
 use Rattle.std.specs.Prelude.{Result, Ok, Err}
 use Rattle.command_library.specs.fip_language.declared.limits.TheConstants.{MOST_FIELDS}
 use Rattle.command_library.specs.fip_language.Gauge.{Seen, lowest, highest}
@@ -23,16 +23,12 @@ use Rattle.command_library.specs.command_run.ExecAnswer.{RunsOn}
 use Rattle.command_library.specs.command_run.GaugeText.{stack_lines}
 use Rattle.command_library.proofs.command_run.ExecOnce.{sizes_alike}
 use Rattle.command_library.proofs.command_run.source_report.Once.{accepted_once}
-use Rattle.command_library.specs.GenAnswer as M
-use Rattle.command_library.specs.GenAnswer.{tree_source, build, gen_room}
-use Rattle.command_library.specs.MadeTree.{gen_input}
 use Rattle.command_trace.specs.TraceAnswer as C
 use Rattle.command_trace.specs.TraceAnswer.{Kept, Traces}
 use Rattle.command_answers.specs.Ends.{TracesTo, Ended, Traced, TooLong}
 use Rattle.command_answers.specs.Exec as X
 use Rattle.command_answers.specs.Exec.{End, Start, Running, gauge_by_trees, stack_of_peak}
 use Rattle.command_answers.specs.GaugeText.{gauge_text, gauge_by_states, if_asked, highest_of, lowest_of}
-use Rattle.command_answers.specs.Generating as G
 use Rattle.command_answers.proofs.SourceCode.{source_trace}
 
 -- ---- the gauge
@@ -83,16 +79,6 @@ exec_by_trees source name input room gauge _ (R.Misspelt y at h) = X.Misspelt y 
 exec_by_trees source name input room gauge _ (R.Small y vs h less) = X.Small y vs h less
 exec_by_trees source name input room gauge e (R.Ran y vs _ h fits runs) =
     X.Ran (started source name y vs room gauge e runs) vs e h fits (told_by_trees source name y vs room gauge e runs)
-
-makes_by_trees : (source : List ℕ) (seed count : ℕ) (e : End) → M.Makes source seed count e → G.Makes source seed count e
-makes_by_trees source seed count _ (M.LongInput more) = G.LongInput more
-makes_by_trees source seed count _ (M.NoTree f short h) = G.NoTree f short (exec_by_trees source build (gen_input seed count) gen_room false (Err f) h)
-makes_by_trees source seed count _ (M.Made y vs results left text short h fits runs gives) =
-    G.Made (started source build y vs gen_room false (Ok text) runs) vs results left short h fits gives
-
-pub gen_by_trees : (seed count : ℕ) (e : End) → M.Generates seed count e → G.Generates seed count e
-gen_by_trees seed count _ (M.Refused r h) = G.Refused r h
-gen_by_trees seed count e (M.Ran _ ready h) = G.Ran e ready (makes_by_trees tree_source seed count e h)
 
 -- ---- trace
 

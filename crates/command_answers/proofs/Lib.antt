@@ -1,4 +1,9 @@
 pub mod ByTrees
+pub mod AskedEntry
+pub mod AskedRuns
+mod GenInput
+mod KeyEnds
+pub mod Generated
 pub mod TreesOnce
 pub mod FileTexts
 pub mod CodeOf

@@ -1,11 +1,10 @@
 -- `exec` and `gen` come to one thing: a source means one thing, its input spells one list of arguments, and its groups
 -- tell one bound of the entry, so that its frames are one.
-use Rattle.std.proofs.Common.{◌≡◌, ◌∙◌, ◌≤◌, ℕ, Bool, false, List, ◌++◌, Option, Some, slice_get, refl, sym, ap, ap₂, subst, arith}
-use Rattle.std.specs.Prelude.{Result, Ok, Err}
+use Rattle.std.proofs.Common.{◌≡◌, ◌∙◌, ℕ, Bool, List, Option, Some, slice_get, refl, sym, ap, subst, arith}
+use Rattle.std.specs.Prelude.{Err}
 use Rattle.command_library.specs.fip_language.Core.{Core}
 use Rattle.command_library.specs.fip_language.Meaning.{Answer, Gives, Trap, Out, Deep, Stuck, Peak, Run, meaning}
 use Rattle.command_library.specs.fip_language.Prefix.{IsPlace}
-use Rattle.command_library.specs.fip_language.PrintedText.{printed_lines}
 use Rattle.command_library.specs.fip_language.Statics.{NoClosed}
 use Rattle.command_library.specs.fip_language.Values.{Values}
 use Rattle.command_library.specs.fip_language.ValueText.{SpellsValues}
@@ -14,20 +13,17 @@ use Rattle.command_library.specs.fip_base.declared.plain.Stack.{Stack}
 use Rattle.command_library.specs.command_run.fip_trees.Tree.{Instance, Program}
 use Rattle.command_library.specs.command_run.tail_groups.Members.{AreMembers}
 use Rattle.command_library.specs.command_words.Words.{Room}
-use Rattle.command_library.specs.command_outcome.declared.failure.Failure.{Failure}
 use Rattle.command_library.specs.command_outcome.declared.failure.Failure.TheVariants as F
 use Rattle.command_library.specs.session_semantics.Talk.{frames_of}
-use Rattle.command_library.specs.command_source.Wanted.{Compiled, IsReady}
+use Rattle.command_library.specs.command_source.Wanted.{Compiled}
 use Rattle.command_library.proofs.command_source.Once.{refused_once as one_refusal, refused_not_ready}
 use Rattle.command_library.specs.command_eval.EvalAnswer.{Entry, Spells}
 use Rattle.command_library.proofs.command_eval.Once.{one_program, one_root, one_core, typed_alike, one_text}
 use Rattle.command_library.proofs.command_run.Entry.{root_at}
 use Rattle.command_library.proofs.command_run.ExecOnce.{member_at, words_alike, spelt_alike}
-use Rattle.command_library.specs.GenAnswer.{tree_source, build, gen_room}
-use Rattle.command_library.specs.MadeTree.{gen_input, lines_of_results}
-use Rattle.command_answers.specs.Exec.{End, Start, Running, gauge_by_trees, TellsRun, TellsAll, running, frames_for, run_of, words_of, Execs, Misspelt, Small, Ran}
-use Rattle.command_answers.specs.GaugeText.{if_asked}
-use Rattle.command_answers.specs.Generating.{Makes, LongInput, NoTree, Made, Generates, Refused, Ran as Done}
+use Rattle.command_library.specs.GenAnswer.{tree_source, build}
+use Rattle.command_answers.specs.Exec.{End, Start, Running, TellsRun, TellsAll, running, frames_for, run_of, words_of, Execs, Misspelt, Small, Ran}
+use Rattle.command_answers.specs.Generating.{Generates, Refused, LongInput, Drawn}
 
 tells_once : (r : Running) (vs : Values) (calls frames : ℕ) (gauge : Bool) (peak : Peak) (a : Answer) (d e : End) → TellsRun r vs calls frames gauge peak a d → TellsRun r vs calls frames gauge peak a e → d ≡ e
 tells_once r vs calls frames gauge peak (Gives us left) d e h k = h ∙ sym k
@@ -98,40 +94,14 @@ module _ (source name input : List ℕ) (room : Room) (gauge : Bool) where
 
 -- ---- gen
 
-same_values : (vs ws : Values) (left other : ℕ) → Gives vs left ≡ Gives ws other → vs ≡ ws
-same_values vs ws left other e = cc
-
-same_end : (text : List ℕ) (failure : Failure) → ◌≡◌ {A = End} (Ok text) (Err failure) → ⊥
-same_end text failure e = absurd cc
-
-module _ (source : List ℕ) (seed count : ℕ) where
-  abbrev keys : List ℕ
-  keys = gen_input seed count
-
-  -- no values and a failure
-  gives_or_fails : (failure : Failure) (s : Start source build) (vs results : Values) (left : ℕ) → Spells s.entry keys vs → words_of s.entry vs ≤ gen_room.words → (run_of s vs gen_room).answer ≡ Gives results left → Execs source build keys gen_room false (Err failure) → ⊥
-  gives_or_fails failure s vs results left h fits gives k =
-      let text : List ℕ = printed_lines (running s).types ((running s).instance).results results ++ if_asked false (gauge_by_trees (running s) vs results (run_of s vs gen_room).peak) in
-      let told : TellsAll (running s) vs gen_room.calls (frames_for s gen_room) false (run_of s vs gen_room) (Ok text) = subst (λ a. TellsRun (running s) vs gen_room.calls (frames_for s gen_room) false (run_of s vs gen_room).peak a (Ok text)) (sym gives) refl in
-      same_end text failure (trees_once source build keys gen_room false (Ok text) (Err failure) (Ran s vs (Ok text) h fits told) k)
-
-  makes_once : (d e : End) → Makes source seed count d → Makes source seed count e → d ≡ e
-  makes_once d e (LongInput more) (LongInput again) = refl
-  makes_once d e (LongInput more) (NoTree f short h) = absurd (omega (arith, more, short))
-  makes_once d e (LongInput more) (Made s vs rs l short h fits gives) = absurd (omega (arith, more, short))
-  makes_once d e (NoTree f short h) (LongInput more) = absurd (omega (arith, more, short))
-  makes_once d e (NoTree f short h) (NoTree g also k) = trees_once source build keys gen_room false (Err f) (Err g) h k
-  makes_once d e (NoTree f short h) (Made s vs rs l also k fits gives) = absurd (gives_or_fails f s vs rs l k fits gives h)
-  makes_once d e (Made s vs rs l short h fits gives) (LongInput more) = absurd (omega (arith, more, short))
-  makes_once d e (Made s vs rs l short h fits gives) (NoTree g also k) = absurd (gives_or_fails g s vs rs l h fits gives k)
-  makes_once d e (Made s vs rs l short h fits gives) (Made t us qs m also k still means) =
-      let same : us ≡ vs = one_text source build s.entry t.entry keys vs us h k in
-      let one : Gives rs l ≡ Gives qs m = sym gives ∙ (ap (λ (r : Run). r.answer) (sym (run_same source build s t gen_room vs us same)) ∙ means) in
-      ap (λ ws. Ok (lines_of_results count ws)) (same_values rs qs l m one)
-
 -- what `gen` comes to
 pub generated_once : (seed count : ℕ) (d e : End) → Generates seed count d → Generates seed count e → d ≡ e
 generated_once seed count d e (Refused q h) (Refused r k) = ap (λ r. Err (F.Refused r)) (one_refusal tree_source (Compiled build) q r h k)
-generated_once seed count d e (Refused q h) (Done f ready k) = absurd (refused_not_ready tree_source (Compiled build) q h ready)
-generated_once seed count d e (Done f ready k) (Refused q h) = absurd (refused_not_ready tree_source (Compiled build) q h ready)
-generated_once seed count d e (Done f ready h) (Done g again k) = makes_once tree_source seed count d e h k
+generated_once seed count d e (Refused q h) (LongInput ready more) = absurd (refused_not_ready tree_source (Compiled build) q h ready)
+generated_once seed count d e (Refused q h) (Drawn ready short) = absurd (refused_not_ready tree_source (Compiled build) q h ready)
+generated_once seed count d e (LongInput ready more) (Refused q h) = absurd (refused_not_ready tree_source (Compiled build) q h ready)
+generated_once seed count d e (LongInput ready more) (LongInput again further) = refl
+generated_once seed count d e (LongInput ready more) (Drawn again short) = absurd (omega (arith, more, short))
+generated_once seed count d e (Drawn ready short) (Refused q h) = absurd (refused_not_ready tree_source (Compiled build) q h ready)
+generated_once seed count d e (Drawn ready short) (LongInput again more) = absurd (omega (arith, more, short))
+generated_once seed count d e (Drawn ready short) (Drawn again also) = refl

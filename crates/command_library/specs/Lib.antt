@@ -18,5 +18,6 @@ pub use Rattle.task_semantics.specs.machine_semantics as machine_semantics
 pub use Rattle.task_semantics.specs.run_loading as run_loading
 pub use Rattle.command_tasks.specs.command_run.separation as separation
 pub use Rattle.command_tasks.specs.command_run.session_semantics as session_semantics
+pub use Rattle.task_semantics.specs as task_semantics
 pub use Rattle.command_tasks.specs.command_run.value_text as value_text
 pub use Rattle.command_tasks.specs as command_tasks

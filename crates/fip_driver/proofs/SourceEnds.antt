@@ -39,7 +39,8 @@ use Rattle.command_answers.specs.Answer.{OnWanted, OnFile, OnFound, OnNamed, Com
 use Rattle.command_answers.specs.Asks.{ReadsInput, CallsNoFolder, fetched_name, wanted, IsReadyFor, HasWanted, HoldsWanted, ComesToInput}
 use Rattle.command_answers.specs.Ends.{OnSource, Refused, LongInput, Ready, Does, TracesTo, IsTaken, Judges, Audits, Reported, NoProof, Judged}
 use Rattle.command_answers.specs.Exec.{End}
-use Rattle.command_answers.proofs.ByTrees.{exec_by_trees, gen_by_trees, trace_by_trees}
+use Rattle.command_answers.proofs.ByTrees.{exec_by_trees, trace_by_trees}
+use Rattle.command_answers.proofs.Generated.{gen_by_trees}
 use Rattle.command_answers.proofs.SourceCode.{long_code, source_trace}
 use Rattle.fip_driver.specs.Fetched.{FetchFails, FileFails, StoreFails, JudgeFails, ReadFails}
 use Rattle.fip_driver.specs.Faults.{end_of, IsFault, Closes}

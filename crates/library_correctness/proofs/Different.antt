@@ -4,7 +4,7 @@ use Rattle.std.specs.Ordering.{int_eq}
 use Rattle.std.proofs.lemmas.Bool.Decides.{Decides-int_eq}
 use Rattle.fip_language.specs.Every.{Every, Among}
 use Rattle.library_correctness.specs.RedBlack.{IsAscending}
-use Rattle.library_correctness.specs.KeySets.{is_among, different}
+use Rattle.library_correctness.specs.Different.{is_among, different}
 use Rattle.library_correctness.proofs.Orders.{every_append, every_first, every_last, ascending_last, ascending_below, among_first, among_append, not_below, not_above}
 use Rattle.library_correctness.proofs.RedBlackResults.{among_parts, among_more}
 use Rattle.fip_language.proofs.Facts.{true_and_false as not_both}

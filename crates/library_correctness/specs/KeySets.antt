@@ -1,26 +1,16 @@
 -- The tree that `build` makes of keys alone: it has just these keys, however often each was given. Of 3, 1, 3 with three
 -- spare pads it has the keys 1 and 3, which are two different ones, with 400 calls and 100 frames.
-use Rattle.std.specs.Prelude.{◌≡◌, ◌↔◌, ℕ, suc, ◌+◌, ◌*◌, ◌^◌, ◌<◌, ◌≤◌, Bool, true, false, ℤ, List, [], ◌∷◌, length}
-use Rattle.std.specs.Prelude.{if◌then◌else◌}
-use Rattle.std.specs.Ordering.{int_eq}
+use Rattle.std.specs.Prelude.{◌≡◌, ◌↔◌, ℕ, ◌+◌, ◌*◌, ◌^◌, ◌<◌, ◌≤◌, ℤ, List, length}
 use Rattle.fip_language.specs.Every.{Among}
 use Rattle.fip_language.specs.Meaning.{Answer}
 use Rattle.evaluation_steps.specs.Gives.{GivesValue}
+use Rattle.library_correctness.specs.Different.{different}
 use Rattle.library_correctness.specs.RedBlack.{Tree, Pad, Pad0, Pad4, keys, tree_value, IsRedBlack}
 
 -- a pad that has a cell for a node
 abbrev pub IsSpare : Pad → Type 0
 IsSpare Pad0 = ⊥
 IsSpare (Pad4 a b c d) = Unit {0}
-
-abbrev pub is_among : ℤ → List ℤ → Bool
-is_among k [] = false
-is_among k (x ∷ xs) = if int_eq k x then true else is_among k xs
-
--- how many different keys there are: one that comes again later isn't counted
-abbrev pub different : List ℤ → ℕ
-different [] = 0
-different (k ∷ ks) = if is_among k ks then different ks else suc (different ks)
 
 -- few keys, and 100 calls for each
 pub record SufficeForKeys (new : List ℤ) (calls frames : ℕ) : Type 0 where

@@ -1,4 +1,5 @@
-use Rattle.command_answers.proofs.ByTrees.{exec_by_trees, gen_by_trees}
+use Rattle.command_answers.proofs.ByTrees.{exec_by_trees}
+use Rattle.command_answers.proofs.Generated.{gen_by_trees}
 use Rattle.command_answers.proofs.theorems.a_run_is_told_by_trees.Goals as goal
 
 pub returns : goal.returns

@@ -1,21 +1,22 @@
--- The input of `gen` is the text of its arguments: the keys, as many spare pads, and no node.
-use Rattle.std.proofs.Common.{◌≡◌, ◌∙◌, ◌<◌, ◌≤◌, ◌^◌, ℕ, zero, suc, ℤ, pos, FitsSigned, List, [], ◌∷◌, ◌++◌, map, length, refl, sym, ap, subst, arith, append_assoc}
+-- The input of `gen` is the text of its arguments: the keys, as many spare pads, and no node. It has more bytes than these
+-- have words, and 23 bytes for each pad, so that one that is run on has few keys.
+use Rattle.std.proofs.Common.{◌≡◌, ◌∙◌, ◌+◌, ◌*◌, ◌<◌, ◌≤◌, ◌^◌, ℕ, zero, suc, ℤ, pos, FitsSigned, List, [], ◌∷◌, ◌++◌, map, length, refl, sym, ap, subst, arith, append_assoc, length-append}
 use Rattle.std.specs.Prelude.{codes}
 use Rattle.std.specs.Fmt.{decimal}
 use Rattle.std.specs.Int.{w64}
 use Rattle.std.proofs.lemmas.Fmt.{decimal_digit}
-use Rattle.fip_language.specs.Every.{Every}
-use Rattle.fip_language.specs.PrintedText.{printed, printed_lines}
-use Rattle.fip_language.specs.Table.{HasType, HaveTypes}
-use Rattle.fip_language.specs.Values.{Values}
-use Rattle.evaluation_steps.specs.Gives.{three}
+use Rattle.command_library.specs.fip_language.Every.{Every}
+use Rattle.command_library.specs.fip_language.PrintedText.{printed, printed_lines}
+use Rattle.command_library.specs.fip_language.Table.{HasType, HaveTypes}
+use Rattle.command_library.specs.fip_language.Values.{Values, words_needed, words_needed_by_all}
+use Rattle.library_correctness.specs.evaluation_steps.Gives.{three}
 use Rattle.library_correctness.specs.Lists.{list_value}
 use Rattle.library_correctness.specs.RedBlack.{Leaf, Pad, Pad4, pads_value, tree_value}
 use Rattle.library_correctness.specs.KeySets.{IsSpare}
-use Rattle.library_programs.specs.RedBlackProgram.{rbtree_types}
-use Rattle.task_semantics.specs.Draws.{next_number, numbers}
+use Rattle.library_correctness.specs.library_programs.RedBlackProgram.{rbtree_types}
+use Rattle.command_library.specs.task_semantics.Draws.{next_number, numbers}
 use Rattle.command_library.specs.MadeTree.{closing, keys_line, pads_line, gen_input}
-use Rattle.command_correctness.specs.Drawn.{drawn_keys}
+use Rattle.command_answers.specs.Drawn.{drawn_keys}
 
 abbrev pub spares : ℕ → List Pad
 spares zero = []
@@ -89,3 +90,33 @@ pads_typed (suc count) = (_, refl, ((_, refl, (zero_fits, (zero_fits, (zero_fits
 
 pub arguments_typed : (seed count : ℕ) → HaveTypes rbtree_types types (arguments seed count)
 arguments_typed seed count = (keys_typed count seed, (pads_typed count, ((_, refl, tt), tt)))
+
+-- ---- how many there are, and how many words they take
+
+list_words : (xs : List ℤ) → words_needed (list_value xs) ≡ 3 * length xs
+list_words [] = refl
+list_words (x ∷ xs) = omega (arith, list_words xs)
+
+spare_words : (n : ℕ) → words_needed (pads_value (spares n)) ≡ 8 * n
+spare_words zero = refl
+spare_words (suc n) = omega (arith, spare_words n)
+
+pads_long : (n more : ℕ) → 23 * n ≤ length (pads_line n more)
+pads_long zero more = omega arith
+pads_long (suc n) more =
+    let rest = pads_line n (suc more) in
+    let a = length-append (codes "Cons(Pad4(0, 0, 0, 0), ") rest in
+    omega (arith, a, pads_long n (suc more))
+
+input_long : (seed count : ℕ) → 23 * count ≤ length (gen_input seed count)
+input_long seed count =
+    let a = length-append (keys_line (numbers count seed) 0) (pads_line count 0 ++ codes "Leaf\n") in
+    let b = length-append (pads_line count 0) (codes "Leaf\n") in
+    omega (arith, a, b, pads_long count 0)
+
+module _ (seed count : ℕ) (short : length (gen_input seed count) ≤ 16777216) where
+  pub few : count < 2 ^ 20
+  few = omega (arith, short, input_long seed count)
+
+  pub words_few : words_needed_by_all (arguments seed count) ≤ 16777216
+  words_few = omega (arith, short, input_long seed count, list_words (drawn_keys seed count), drawn_length count seed, spare_words count)

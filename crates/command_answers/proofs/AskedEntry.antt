@@ -1,14 +1,13 @@
 -- What is asked, as the entry of its source; and the evaluation of its instance as what the source means.
 use Rattle.std.proofs.Common.{◌≡◌, ◌∙◌, ℕ, ap}
-use Rattle.fip_language.specs.Meaning.{Run, meaning}
-use Rattle.fip_language.specs.Statics.{NoClosed}
-use Rattle.command_library.specs.command_run.command_source.source_report.Report.{IsTyped}
-use Rattle.instance_semantics.specs.Meaning.{flat_meaning}
-use Rattle.command_library.proofs.command_run.command_source.specialisation_correctness.Meant.{root_meant}
-use Rattle.command_library.specs.command_run.command_eval.EvalAnswer.{Entry}
-use Rattle.command_library.proofs.command_run.command_eval.Meant.{typed_of}
+use Rattle.command_library.specs.fip_language.Meaning.{Run, meaning}
+use Rattle.command_library.specs.fip_language.Statics.{NoClosed}
+use Rattle.command_library.specs.command_tasks.source_report.Report.{IsTyped}
+use Rattle.command_library.proofs.command_source.specialisation_correctness.Meant.{root_meant}
+use Rattle.command_library.specs.command_eval.EvalAnswer.{Entry}
+use Rattle.command_library.proofs.command_eval.Meant.{typed_of}
 use Rattle.command_library.proofs.command_run.Entry.{root_at}
-use Rattle.command_correctness.specs.Asked.{Asked, answer_of}
+use Rattle.command_answers.specs.Asked.{Asked, answer_of}
 
 module _ (a : Asked) where
   abbrev pub types : IsTyped a.source a.program

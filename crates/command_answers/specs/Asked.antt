@@ -1,21 +1,21 @@
--- What `eval` and `exec` are asked, by what is known of the source: its typed program, the instance of the entry, and
--- the arguments that the input spells. And what is told of it: of `reverse` on `Cons(1, Cons(2, Nil))` the one line
--- `Cons(2, Cons(1, Nil))`.
-use Rattle.std.specs.Prelude.{◌≡◌, ◌≤◌, ℕ, List, Result, Ok, Err}
-use Rattle.fip_language.specs.declared.TrapKind.{TrapKind}
-use Rattle.fip_language.specs.Meaning.{Answer, Trap}
-use Rattle.fip_language.specs.PrintedText.{printed_lines}
-use Rattle.fip_language.specs.Values.{Values}
-use Rattle.fip_language.specs.ValueText.{SpellsValues}
-use Rattle.fip_trees.specs.Tree.{Program}
-use Rattle.instance_semantics.specs.Meaning.{flat_meaning}
-use Rattle.evaluation_steps.specs.Gives.{GivesLeaving}
-use Rattle.command_library.specs.command_outcome.declared.failure.Failure.{Failure}
+-- For the laws on `eval` and `exec`: what they are asked, by what is known of the source: its typed program, the instance
+-- of the entry, and the arguments that the input spells. And what is told of it: of `reverse` on `Cons(1, Cons(2, Nil))`
+-- the one line `Cons(2, Cons(1, Nil))`.
+use Rattle.std.specs.Prelude.{◌≡◌, ◌≤◌, ℕ, List, Ok, Err}
+use Rattle.command_library.specs.fip_language.declared.TrapKind.{TrapKind}
+use Rattle.command_library.specs.fip_language.Meaning.{Answer, Trap}
+use Rattle.command_library.specs.fip_language.PrintedText.{printed_lines}
+use Rattle.command_library.specs.fip_language.Values.{Values}
+use Rattle.command_library.specs.fip_language.ValueText.{SpellsValues}
+use Rattle.command_library.specs.command_run.fip_trees.Tree.{Program}
+use Rattle.command_library.specs.command_tasks.source_report.instance_semantics.Meaning.{flat_meaning}
+use Rattle.library_correctness.specs.evaluation_steps.Gives.{GivesLeaving}
 use Rattle.command_library.specs.command_outcome.declared.failure.Failure.TheVariants as F
 use Rattle.command_library.specs.command_words.Words.{Room}
-use Rattle.command_library.specs.command_run.command_eval.type_safety.Soundness.{parameter_types}
-use Rattle.command_library.specs.command_run.command_source.Entries.{IsRootedIn}
+use Rattle.command_library.specs.command_tasks.source_report.type_safety.Soundness.{parameter_types}
+use Rattle.command_library.specs.command_source.Entries.{IsRootedIn}
 use Rattle.command_library.specs.command_run.CodeRun.{words_for}
+use Rattle.command_answers.specs.Exec.{End}
 
 -- The source breaks no rule, the program is its typed program, the instance is its root of this name, and the input is
 -- the text of the arguments.
@@ -42,11 +42,11 @@ abbrev pub TrapsWith : Asked → ℕ → ℕ → TrapKind → ℕ → ℕ → Ty
 TrapsWith a calls least kind line col = (frames : ℕ) → least ≤ frames → answer_of a calls frames ≡ Trap kind line col
 
 -- The values are printed, a line for each.
-abbrev pub Prints : Asked → Values → Result (List ℕ) Failure → Type 0
+abbrev pub Prints : Asked → Values → End → Type 0
 Prints a vs e = e ≡ Ok (printed_lines a.program.types (a.rooted).root.results vs)
 
 -- The trap is told.
-abbrev pub TellsTrap : TrapKind → ℕ → ℕ → Result (List ℕ) Failure → Type 0
+abbrev pub TellsTrap : TrapKind → ℕ → ℕ → End → Type 0
 TellsTrap kind line col e = e ≡ Err (F.Trap kind line col)
 
 -- The room has the words of the arguments' cells and of the header's credits, and so many frames.

@@ -1,7 +1,7 @@
 -- The least and the greatest of keys are those of any keys that are the same, in whatever order and however often.
-use Rattle.std.proofs.Common.{◌≡◌, ◌↔◌, ◌⊎◌, ℕ, suc, Bool, true, false, ℤ, int_le, List, [], ◌∷◌, ◌++◌, length, Option, Some, None, inl, inr, if◌then◌else◌, arith, length-append, refl, sym, ap, ap₂, subst}
+use Rattle.std.proofs.Common.{◌≡◌, ◌↔◌, ◌⊎◌, Bool, true, false, ℤ, int_le, List, [], ◌∷◌, ◌++◌, length, Option, Some, None, inl, inr, if◌then◌else◌, arith, length-append, refl, sym, ap₂, subst}
 use borrow.Author.Differences.{le-true, le-false, same_in}
-use Rattle.fip_language.specs.Every.{Every, Among}
+use Rattle.command_library.specs.fip_language.Every.{Every, Among}
 use Rattle.command_library.specs.command_outcome.declared.success.Ends.{Ends}
 use Rattle.library_correctness.specs.RedBlack.{Tree, Leaf, Branch, keys, tree_value}
 use Rattle.library_correctness.proofs.Orders.{among_first, among_append}

@@ -24,7 +24,7 @@ use Rattle.cell_lower.specs.declared.choices.Choice.{Choice}
 use Rattle.lower_frame.specs.declared.spots.Spot.{Spot}
 use Rattle.lower_frame.specs.Positions.{spot_of, reaching}
 use Rattle.cell_lower.specs.declared.matches.Matching.{Matching}
-use Rattle.cell_lower.specs.Scenes.{patterns_of, HasRows, ChoosesIf}
+use Rattle.cell_lower.specs.Scenes.{pattern_at, patterns_of, HasRows, IsWhole, ChoosesIf}
 use Rattle.cell_lower.specs.Clauses.{Spotted, AddsPattern, HasPositions, StartsIn}
 use Rattle.lower_frame.specs.lowering_relation.Written.{Written, size, Extends, IsAt}
 use Rattle.lower_frame.specs.lowering_relation.Landing.{Side}
@@ -34,7 +34,7 @@ use Rattle.cell_lower.specs.Growth.{Adds, Sheds}
 use Rattle.lower_frame.specs.Registers.{HasRoom, registers}
 use Rattle.lower_frame.specs.Labels.{labels}
 use Rattle.cell_lower.proofs.Shedding.{full_most, root_length}
-use Rattle.fip_language.proofs.Facts.{if_false, if_true, same_some}
+use Rattle.fip_language.proofs.Facts.{if_false, if_true, map_length, same_some}
 
 pub adds_pattern : (c d : Choice) (q : Pattern) (root : Spot) (a b : ℕ) (r : Row) → Grows (spot_of c.root) (spot_of root) a b → Roomy q (spot_of root) → d.root ≡ root → d.ty ≡ c.ty → patterns_of d ≡ patterns_of c ++ q ∷ [] → (row r ≡ row_of q → HasRows (record c { root = root }) → HasRows d) → row r ≡ row_of q → AddsPattern c d q a b
 adds_pattern c d q root a b r g h e f p rs rq = record {
@@ -109,6 +109,19 @@ patterns_next c d q a b cs i n x all h e f g k =
 
 pub patterns_end : (c : Choice) (cs : List Clause) (i : ℕ) (all : List Pattern) → length cs ≤ i → patterns_of c ++ patterns_in (clauses (drop i cs)) ≡ all → patterns_of c ≡ all
 patterns_end c cs i all e k = sym (append_none (patterns_of c)) ∙ sym (ap (λ z. patterns_of c ++ z) (clauses_past cs i e)) ∙ k
+
+counted_clauses : (cs : List Clause) → length (patterns_in (clauses cs)) ≡ length cs
+counted_clauses [] = refl
+counted_clauses (c ∷ cs) = ap suc (counted_clauses cs)
+
+pub as_many_clauses : (c : Choice) (q : Pattern) (cs : List Clause) → length c.entries.items ≡ length (patterns_of c) → patterns_of c ≡ q ∷ patterns_in (clauses cs) → length c.entries.items ≡ suc (length cs)
+as_many_clauses c q cs e p = e ∙ ap length p ∙ ap suc (counted_clauses cs)
+
+pub whole_choice : (c : Choice) → HasRows c → length c.entries.items ≡ length (patterns_of c) → IsWhole c
+whole_choice c h e = record { patterns = sym (map_length pattern_at c.patterns.items) ∙ many; entries = e ∙ many }
+  where
+    many : length (patterns_of c) ≡ length c.rows.items
+    many = sym (map_length row_of (patterns_of c)) ∙ ap length (sym h.same) ∙ map_length row c.rows.items
 
 -- a label for each
 

@@ -16,9 +16,10 @@ use Rattle.match_knowledge.specs.declared.rows.Row.{Row}
 use Rattle.match_knowledge.specs.declared.verdicts.Verdict.{Verdict}
 use Rattle.match_knowledge.specs.declared.verdicts.Verdict.TheVariants as D
 use Rattle.match_knowledge.specs.Patterns as M
-use Rattle.match_knowledge.specs.Known.{Known, compare, is_asks, is_fits, is_last, side}
+use Rattle.match_knowledge.specs.Known.{Known, compare, is_asks, is_fits, is_last, row_tests, side}
 use Rattle.match_knowledge.specs.View.{row, rows}
-use Rattle.match_knowledge.proofs.Steps.{row_at}
+use Rattle.match_knowledge.proofs.Fewer.{rows_fewer}
+use Rattle.match_knowledge.proofs.Steps.{row_at, row_within}
 use Rattle.lower_frame.specs.lowering_relation.Choosing.{place}
 use Rattle.lower_frame.specs.lowering_relation.Written.{Written, size, Extends, HasFrom, added}
 use Rattle.lower_frame.specs.lowering_relation.Spots as S
@@ -94,6 +95,16 @@ first_chosen rs k i r v lt f g x m = ((row r, row_at rs i r lt ∙ ap (λ z. Som
 pub first_asks : (rs : List Row) (k : Known) (i : ℕ) (b : Bor Row) (v : Verdict) → i < length rs → b.now ≡ get_or rs i b.now → v ≡ compare (row b.now) k → is_asks v ≡ true → MissedUpTo (rows rs) k i → IsFirstOf (rows rs) k (F.Asks b)
 first_asks rs k i b v lt f g x m = (i, row_at rs i b.now lt ∙ ap (λ z. Some (row z)) (sym f), sym g ∙ asks_by v x, m)
 
+pub chosen_there : (rs : List Row) (k : Known) (i : ℕ) → IsFirstOf (rows rs) k (F.Chosen i) → i < length rs
+chosen_there rs k i f = row_within rs i f.0.0 f.0.1
+
+pub chosen_at : (rs : List Row) (k : Known) (i j : ℕ) → Some i ≡ Some j → IsFirstOf (rows rs) k (F.Chosen i) → j < length rs
+chosen_at rs k i j e f = subst (λ z. z < length rs) (same_some i j e) (chosen_there rs k i f)
+
+-- where it asks, fewer tests are left behind its first one
+pub asks_fewer : (rs : List Row) (k l : Known) (b : Bor Row) → IsFirstOf (rows rs) k (F.Asks b) → l ≡ side true (row b.now) k → row_tests (rows rs) l < row_tests (rows rs) k
+asks_fewer rs k l b f e = subst (λ z. row_tests (rows rs) z < row_tests (rows rs) k) (sym e) (rows_fewer true (row b.now) f.0 (rows rs) k f.1 f.2)
+
 -- the pattern that a row stands for
 named_row : (qs : List Pattern) (i : ℕ) (p : M.Pattern) → slice_get (map row_of qs) i ≡ Some p → (q : Pattern) × (slice_get qs i ≡ Some q) × (p ≡ row_of q)
 named_row [] i p e = absurd (cc)
@@ -158,6 +169,27 @@ tested p k root x y w z read a l d as' e f g gm h r dk dr dl ll = record {
     i = test_of a.register a.head l
 
 pub ruleset testing = (tested)
+
+pub tests_longer : (p : M.Pattern) (k : Known) (root : S.Spot) (x : Reading) (w : Written) (read : List ℕ) (d : Side) → Tests p k root x w read d → size x.written ≤ size w
+tests_longer p k root x w read d t =
+    (extends_on x.written (added y.written test) w (extends_on x.written y.written (added y.written test) (reading_extends p k root x) (added_extends y.written test)) t.extends).grows
+  where
+    y : Reading
+    y = reading p k root x
+
+    test : Instr
+    test = test_of t.found.register t.found.head t.target
+
+pub settles_longer : (c : Choice) (i : ℕ) (x y : Reading) → Settles c i x y → size x.written ≤ size y.written
+settles_longer c i x y t = by c.takes t.by
+  where
+    by : (b : Bool) → SettlesBy b t.pattern (spot_of c.root) x y → size x.written ≤ size y.written
+    by true e = subst (λ z. size x.written ≤ size z) (sym e) (taking_extends t.pattern (spot_of c.root) x.written).grows
+    by false e = subst (λ (z : Reading). size x.written ≤ size z.written) (sym e) (naming_extends t.pattern (spot_of c.root) x).grows
+
+pub places_long : (v u : Written) (o : Option ℕ) (kinds : List Kind) → PlacesSide v o kinds u → size u ≡ size v
+places_long v u None kinds x = ap size x
+places_long v u (Some n) kinds x = x.1
 
 -- steps
 

@@ -1,5 +1,5 @@
 -- Positions of a pattern's parts, one after another: what is changed at each of them is changed at all.
-use Rattle.std.proofs.Common.{◌≡◌, refl, sym, ap, ◌∙◌, subst, arith, ℕ, zero, suc, ◌+◌, ◌<◌, ◌≤◌, Bool, true, false, List, [], ◌∷◌, ◌++◌, length, drop, Option, Some, slice_get, get_or}
+use Rattle.std.proofs.Common.{◌≡◌, refl, sym, ap, ◌∙◌, subst, arith, ℕ, zero, suc, ◌+◌, ◌<◌, ◌≤◌, Bool, true, false, List, [], ◌∷◌, ◌++◌, length, drop, Option, Some, None, slice_get, get_or}
 use Rattle.std.specs.Prelude.{if◌then◌else◌, ◌==◌}
 use Rattle.std.proofs.lemmas.Bool.{eqb-false}
 use Rattle.cell_code.specs.declared.code.Instr.TheVariants as I
@@ -11,7 +11,10 @@ use Rattle.match_knowledge.specs.declared.rows.Row.{Row}
 use Rattle.match_knowledge.specs.declared.knowledge.Knowledge.{Knowledge}
 use Rattle.match_knowledge.specs.Patterns as M
 use Rattle.match_knowledge.specs.declared.heads.Head.{Head}
-use Rattle.match_knowledge.specs.Known.{Known, Is, Knowns, NoKnowns, MoreKnowns, compare, is_asks}
+use Rattle.match_knowledge.specs.declared.verdicts.Verdict.TheVariants as D
+use Rattle.match_knowledge.specs.ValueHeads.{same_head}
+use Rattle.match_knowledge.specs.Known.{Known, Is, Knowns, NoKnowns, MoreKnowns, compare, compare_all, is_asks}
+use Rattle.match_knowledge.proofs.Split.{asks_is, both_asks, is_asking}
 use Rattle.match_knowledge.specs.View.{row, row_step, parts, known, known_step, knowns}
 use Rattle.lower_frame.specs.lowering_relation.Known as L
 use Rattle.lower_frame.specs.lowering_relation.Values.{Setting}
@@ -32,7 +35,7 @@ use Rattle.match_knowledge.specs.declared.knowledge.Knowledge.TheFolds.{fold-rol
 use Rattle.lower_frame.specs.declared.spots.Spot.{Spot, out-Spot}
 use Rattle.lower_frame.specs.declared.spots.Spot.TheFolds.{fold_out-Spot}
 use Rattle.lower_frame.specs.Positions.{spot_of, spots_of, spot_at, spot_step, past}
-use Rattle.cell_lower.specs.Scenes.{AtSpot, asking, naming_part}
+use Rattle.cell_lower.specs.Scenes.{AsksAt, AtSpot, asking, naming_part}
 use Rattle.fip_language.proofs.Facts.{append_none, append_one, same_some}
 pub use Rattle.fip_language.proofs.Facts.{get_at as item, if_false, if_true, nonempty}
 
@@ -203,6 +206,66 @@ asked_is t h g ps ks (S.At r fs) = refl
 
 reading_is : (t : ℕ) (h g : Head) (ps : M.Patterns) (ks : Knowns) (s : S.Spot) (x : Reading) → reading (M.Test t h ps) (Is g ks) s x ≡ reading_first ps ks (S.fields s) (S.register s) 0 x
 reading_is t h g ps ks (S.At r fs) x = refl
+
+-- where patterns ask, one of them does
+
+some_by : (b : Bool) (p : M.Pattern) (ps : M.Patterns) (k : Known) (ks : Knowns) (n : ℕ) → is_asks (compare p k) ≡ b → compare_all (M.MorePatterns p ps) (MoreKnowns k ks) ≡ D.Asks → None ≡ asking (M.MorePatterns p ps) (MoreKnowns k ks) n → (compare_all ps ks ≡ D.Asks → None ≡ asking ps ks (suc n) → ⊥) → ⊥
+some_by true p ps k ks n g e f on = let h : None ≡ Some n = f ∙ if_true (is_asks (compare p k)) (Some n) (asking ps ks (suc n)) g in cc
+some_by false p ps k ks n g e f on = on (both_asks (compare p k) (compare_all ps ks) e g) (f ∙ if_false (is_asks (compare p k)) (Some n) (asking ps ks (suc n)) g)
+
+pub asks_some : (ps : M.Patterns) (ks : Knowns) (n : ℕ) → compare_all ps ks ≡ D.Asks → None ≡ asking ps ks n → ⊥
+asks_some M.NoPatterns ks n e f = cc
+asks_some (M.MorePatterns p ps) NoKnowns n e f = cc
+asks_some (M.MorePatterns p ps) (MoreKnowns k ks) n e f = some_by (is_asks (compare p k)) p ps k ks n refl e f (asks_some ps ks (suc n))
+
+pub record FoundAt (rs : List Row) (ks : List Knowledge) (n f : ℕ) : Type 0 where
+  pub place : ℕ
+  pub is : f ≡ n + place
+  pub part : place < length rs
+  pub known : place < length ks
+  pub asks : AsksAt rs ks place
+
+found_by : (b : Bool) (q : Row) (rs : List Row) (l : Knowledge) (ks : List Knowledge) (n f : ℕ) → is_asks (compare (row q) (known l)) ≡ b → asking (parts (q ∷ rs)) (knowns (l ∷ ks)) n ≡ Some f → (asking (parts rs) (knowns ks) (suc n) ≡ Some f → FoundAt rs ks (suc n) f) → FoundAt (q ∷ rs) (l ∷ ks) n f
+found_by true q rs l ks n f g e on = record {
+  place = zero;
+  is = let h = same_some n f (sym (if_true (is_asks (compare (row q) (known l))) (Some n) (asking (parts rs) (knowns ks) (suc n)) g) ∙ e) in omega (arith, h);
+  part = omega arith;
+  known = omega arith;
+  asks = λ r k a b. subst (λ z. compare (row z) (known k) ≡ D.Asks) (same_some q r a) (subst (λ z. compare (row q) (known z) ≡ D.Asks) (same_some l k b) (is_asking (compare (row q) (known l)) g));
+}
+found_by false q rs l ks n f g e on =
+    let h : FoundAt rs ks (suc n) f = on (sym (if_false (is_asks (compare (row q) (known l))) (Some n) (asking (parts rs) (knowns ks) (suc n)) g) ∙ e) in
+    record {
+      place = suc h.place;
+      is = let x = h.is in omega (arith, x);
+      part = let x = h.part in omega (arith, x);
+      known = let x = h.known in omega (arith, x);
+      asks = λ r k a b. h.asks r k a b;
+    }
+
+pub asks_found : (rs : List Row) (ks : List Knowledge) (n f : ℕ) → asking (parts rs) (knowns ks) n ≡ Some f → FoundAt rs ks n f
+asks_found [] ks n f e = absurd (cc)
+asks_found (q ∷ rs) [] n f e = absurd (cc)
+asks_found (q ∷ rs) (l ∷ ks) n f e = found_by (is_asks (compare (row q) (known l))) q rs l ks n f refl e (asks_found rs ks (suc n) f)
+
+pub found_part : (rs : List Row) (ks : List Knowledge) (f : ℕ) → asking (parts rs) (knowns ks) 0 ≡ Some f → f < length rs
+found_part rs ks f e = let h = asks_found rs ks 0 f e in let x = h.is in let y = h.part in omega (arith, x, y)
+
+pub found_known : (rs : List Row) (ks : List Knowledge) (f : ℕ) → asking (parts rs) (knowns ks) 0 ≡ Some f → f < length ks
+found_known rs ks f e = let h = asks_found rs ks 0 f e in let x = h.is in let y = h.known in omega (arith, x, y)
+
+pub found_asks : (rs : List Row) (ks : List Knowledge) (f : ℕ) → asking (parts rs) (knowns ks) 0 ≡ Some f → AsksAt rs ks f
+found_asks rs ks f e = let h = asks_found rs ks 0 f e in let same : h.place ≡ f = (let x = h.is in omega (arith, x)) in subst (AsksAt rs ks) same h.asks
+
+row_any : row RV.Any ≡ M.Any
+row_any = ap row (sym RV.rolls-Any) ∙ fold-roll-Row M.Pattern row_step RO.Any
+
+pub not_any : (r : Row) (k : Known) → r ≡ RV.Any → compare (row r) k ≡ D.Asks → ⊥
+not_any r k a e = let f : D.Fits ≡ D.Asks = sym (ap (λ x. compare x k) (ap row a ∙ row_any)) ∙ e in cc
+
+pub parts_ask : (r : Row) (l : Knowledge) (t : ℕ) (h g : Head) (ps : Vec Row Global) (ks : Vec Knowledge Global) → r ≡ RV.Test t h ps → l ≡ KV.Is g ks → compare (row r) (known l) ≡ D.Asks → compare_all (parts ps.items) (knowns ks.items) ≡ D.Asks
+parts_ask r l t h g ps ks a b e =
+    (asks_is (compare_all (parts ps.items) (knowns ks.items)) (same_head h g) (sym (ap (λ x. compare x (known l)) (ap row a ∙ row_test t h ps) ∙ ap (compare (M.Test t h (parts ps.items))) (ap known b ∙ known_is g ks)) ∙ e)).1
 
 pub asked_in : (t : ℕ) (h g : Head) (rs : List Row) (ks : List Knowledge) (s : S.Spot) (f : ℕ) (p : Row) (k : Knowledge) (q : S.Spot) (o : Option Asked) → asking (parts rs) (knowns ks) 0 ≡ Some f → slice_get rs f ≡ Some p → slice_get ks f ≡ Some k → spot_at (S.fields s) f ≡ Some q → asked (row p) (known k) q ≡ o → asked (M.Test t h (parts rs)) (Is g (knowns ks)) s ≡ o
 asked_in t h g rs ks s f p k q o e a b c d = asked_is t h g (parts rs) (knowns ks) s ∙ (first_is rs ks (S.fields s) 0 f p k q (S.register s) 0 nothing (e ∙ ap Some (omega arith)) a b c).asks ∙ d

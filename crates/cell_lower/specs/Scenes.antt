@@ -2,7 +2,7 @@
 -- part of the lowering of tests has written: v was written before it and w behind it, with ds and es the sides that
 -- were still to be written.
 use Rattle.std.specs.Prelude.{◌≡◌, ◌⊎◌, ◌<◌, ℕ, suc, Bool, true, false, List, [], ◌∷◌, ◌++◌, Option, Some}
-use Rattle.std.specs.Prelude.{None, map, slice_get, if◌then◌else◌}
+use Rattle.std.specs.Prelude.{None, length, map, slice_get, if◌then◌else◌}
 use Rattle.std.specs.Borrow.{Bor}
 use Rattle.fip_language.specs.Every.{Every}
 use Rattle.fip_language.specs.Table.{Table}
@@ -11,6 +11,8 @@ use Rattle.fip_trees.specs.Tree.{Pattern}
 use Rattle.fip_trees.specs.TreeView as V
 use Rattle.cell_code.specs.declared.code.Instr.{Instr}
 use Rattle.cell_code.specs.declared.kind.Kind.{Kind}
+use Rattle.match_knowledge.specs.declared.rows.Row.{Row}
+use Rattle.match_knowledge.specs.declared.knowledge.Knowledge.{Knowledge}
 use Rattle.match_knowledge.specs.declared.verdicts.Verdict.TheVariants as D
 use Rattle.match_knowledge.specs.Patterns as M
 use Rattle.match_knowledge.specs.Known.{Known, Open, Knowns, NoKnowns, MoreKnowns, compare, is_asks, side}
@@ -54,6 +56,11 @@ scene tb low c = record {
 pub record HasRows (c : Choice) : Type 0 where
   pub same : View.rows c.rows.items ≡ map row_of (patterns_of c)
 
+-- each clause has a pattern and a label
+pub record IsWhole (c : Choice) : Type 0 where
+  pub patterns : length c.patterns.items ≡ length c.rows.items
+  pub entries : length c.entries.items ≡ length c.rows.items
+
 abbrev pub side_of : Kept → Side
 side_of d = record { known = View.known d.known; read = d.read.items; label = d.label }
 
@@ -89,6 +96,12 @@ abbrev pub asking : M.Patterns → Knowns → ℕ → Option ℕ
 asking M.NoPatterns ks n = None
 asking (M.MorePatterns p ps) NoKnowns n = None
 asking (M.MorePatterns p ps) (MoreKnowns k ks) n = if is_asks (compare p k) then Some n else asking ps ks (suc n)
+
+-- the pattern at a place asks for more than is known there
+abbrev pub AsksAt : List Row → List Knowledge → ℕ → Type 0
+AsksAt rs ks i =
+    (r : Row) (k : Knowledge) → slice_get rs i ≡ Some r → slice_get ks i ≡ Some k
+    → compare (View.row r) (View.known k) ≡ D.Asks
 
 -- the first pattern that isn't ruled out matches all values, or it asks
 abbrev pub IsFirstOf : List M.Pattern → Known → First → Type 0

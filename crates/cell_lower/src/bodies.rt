@@ -1,5 +1,5 @@
 // Bodies of functions.
-ghost use Rattle.std.specs.Prelude.{◌≡◌, ◌<◌, ℕ, not, IfOk, OnOk, drop, length, slice_get};
+ghost use Rattle.std.specs.Prelude.{◌≡◌, ◌≤◌, ◌<◌, ◌+◌, ℕ, suc, not, IfOk, OnOk, drop, length, slice_get};
 ghost use Rattle.fip_trees.specs.Tree as T;
 ghost use Rattle.fip_trees.specs.TreeView as V;
 ghost use Rattle.lower_frame.specs.lowering_relation.LoweredBodies as B;
@@ -10,6 +10,7 @@ ghost use Rattle.cell_lower.specs.Bodies.{Lays, LaysBlock, LaysLet};
 ghost use Rattle.cell_lower.specs.Clauses.{WritesClause, WritesClauses};
 ghost use Rattle.cell_lower.specs.Laying.{AppliedLaid, AppliesLaid, GivesValuesLaid};
 ghost use Rattle.cell_lower.specs.Matches.{ClauseLays, ClausesLay};
+ghost use Rattle.cell_lower.specs.Scenes.{IsWhole};
 ghost use Rattle.cell_lower.specs.Writing.{setting, target_of, named_at, AppliesTo, Binds, GivesValues, Writes};
 ghost use Rattle.cell_lower.specs.Writing.{WritesBlock};
 
@@ -290,6 +291,9 @@ impl<'a> Lowerer<'a> {
         clause: &Clause,
         target: Target<'_>,
     ) -> Result<(), NoMemory>
+        requires whole { IsWhole matching.now.choice }
+        requires there { progress.old.clause < length matching.now.choice.entries.items }
+        ensures next { OnOk result (progress.new.clause ≡ suc progress.old.clause) }
         ensures writes { OnOk result (WritesClause (setting self.old.context.now) matching.now (V.clause clause.now)
             (target_of target.entry) progress.old self.old.buffer progress.new self.new.buffer) }
         ensures laid { OnOk result (AskedBlock (setting self.old.context.now) (drop 1 self.old.walk.needs.now)
@@ -315,6 +319,8 @@ impl<'a> Lowerer<'a> {
         clauses: &[Clause],
         target: Target<'_>,
     ) -> Result<(), NoMemory>
+        requires whole { IsWhole matching.now.choice }
+        requires there { progress.old.clause + length clauses.now ≤ length matching.now.choice.entries.items }
         ensures writes { OnOk result (WritesClauses (setting self.old.context.now) matching.now
             (V.clauses clauses.now) (target_of target.entry) progress.old self.old.buffer progress.new
             self.new.buffer) }

@@ -8,13 +8,15 @@
 // The tests are written as far as the clauses ask for them: those that choose the next clause, and then its body, to
 // which the last of them goes on. In `match! xs { Nil -> a; Cons(x, t) -> b }` the test of Nil stands first, then a,
 // then what fails the test, and b.
-ghost use Rattle.std.specs.Prelude.{◌≡◌, ◌≤◌, ℕ, suc, true, [], ◌∷◌, ◌++◌, IfOk, IfSome, OnOk, Some, false};
-ghost use Rattle.std.specs.Prelude.{get_or, length, slice_get, slice_set};
+ghost use Rattle.std.specs.Prelude.{◌≡◌, ◌≤◌, ◌<◌, ◌^◌, ℕ, suc, true, [], ◌∷◌, ◌++◌, IfOk, IfSome, OnOk, Some, None};
+ghost use Rattle.std.specs.Prelude.{false, get_or, length, slice_get, slice_set};
 ghost use Rattle.fip_language.specs.Every.{Every};
 ghost use Rattle.fip_language.specs.Table.{Table};
 ghost use Rattle.fip_trees.specs.TreeView as V;
 ghost use Rattle.lower_frame.specs.code_rules.Types.{fields};
-ghost use Rattle.match_knowledge.specs.Known.{is_in};
+ghost use Rattle.match_knowledge.specs.declared.verdicts.Verdict.TheVariants as D;
+ghost use Rattle.match_knowledge.specs.Known as K;
+ghost use Rattle.match_knowledge.specs.Known.{is_in, row_tests};
 ghost use Rattle.match_knowledge.specs.View as View;
 ghost use Rattle.lower_frame.specs.lowering_relation.Spots as S;
 ghost use Rattle.lower_frame.specs.lowering_relation.Rows.{row_of};
@@ -23,6 +25,7 @@ ghost use Rattle.lower_frame.specs.lowering_relation.Opening as O;
 ghost use Rattle.lower_frame.specs.lowering_relation.Opening.{as_many, naming, naming_all, take_if, taking, taking_all};
 ghost use Rattle.lower_frame.specs.lowering_relation.Landing.{IsScene, test_of};
 ghost use Rattle.lower_frame.specs.lowering_relation.Entering.{root_of};
+ghost use Rattle.lower_frame.specs.lowering_relation.Written.{size};
 ghost use Rattle.lower_frame.specs.lowering_relation.declared.held.Held.TheVariants as H;
 ghost use Rattle.lower_frame.specs.lowering_relation.Sights.{left};
 ghost use Rattle.lower_frame.specs.Positions.{spot_at, spot_of, spots_of};
@@ -32,14 +35,13 @@ ghost use Rattle.cell_lower.specs.Overlays.{with_root};
 ghost use Rattle.cell_lower.specs.Testing.{AreMissed, Misses};
 ghost use Rattle.cell_lower.specs.Writing.{setting};
 ghost use Rattle.cell_lower.specs.Scenes.{asked_of, asking, first_side, patterns_of, reading_of, scene, side_of};
-ghost use Rattle.cell_lower.specs.Scenes.{Advances, AtSpot, ChoosesIf, Follows, HasRows, IsFirstOf, Settles};
-ghost use Rattle.cell_lower.specs.Scenes.{Asks, NotFirst, PlacesSide, SettlesBy, Tests, naming_part, sides_of};
+ghost use Rattle.cell_lower.specs.Scenes.{Advances, AsksAt, AtSpot, ChoosesIf, Follows, HasRows, IsFirstOf, IsWhole};
+ghost use Rattle.cell_lower.specs.Scenes.{Asks, NotFirst, PlacesSide, Settles, SettlesBy, Tests, naming_part, sides_of};
 
 use crate::lowerer::Lowerer;
 use cell_code::{Constructors, From, Instr, Kind, Registers};
 use fip_base::plain::NoMemory;
 use fip_base::table::TypeTable;
-use fip_language::limits::MOST_PATTERN_NODES;
 use fip_trees::program::{Binder, Pattern};
 use lower_frame::relation::Held;
 use lower_frame::{Spot, constructors_of, field_at};
@@ -143,13 +145,14 @@ impl<'c> Choice<'c> {
     }
 
     /// The label of a clause's body.
-    pub fn entry(&self, clause: usize) -> Result<u32, NoMemory>
-        ensures entry { IfOk result (λ l. l ≡ get_or self.now.entries.items clause 0) }
-        ensures there { IfOk result (λ l. slice_get self.now.entries.items clause ≡ Some l) }
+    pub fn entry(&self, clause: usize) -> u32
+        requires there { clause < length self.now.entries.items }
+        ensures entry { result ≡ get_or self.now.entries.items clause 0 }
+        ensures there { slice_get self.now.entries.items clause ≡ Some result }
     {
         match self.entries.get(clause) {
-            None => Err(NoMemory),
-            Some(label) => Ok(*label),
+            None => unreachable!(),
+            Some(label) => *label,
         }
     }
 
@@ -172,6 +175,7 @@ impl<'c> Choice<'c> {
 
     // Whether a clause may be chosen where tests aren't written yet.
     fn may_choose(&self, sides: &[Side], clause: usize) -> bool
+        ensures none { sides.now ≡ [] → result ≡ false }
         ensures missed { result ≡ false → AreMissed (View.rows self.now.rows.items) clause (sides_of sides.now) }
     {
         match self.rows.get(clause) {
@@ -183,6 +187,7 @@ impl<'c> Choice<'c> {
     // Whether the tests are written that choose a clause; for the last clause all. At the start of the match they
     // aren't: no clause is ruled out there.
     fn is_written(&self, sides: &[Side], clause: usize) -> bool
+        ensures none { sides.now ≡ [] → result ≡ true }
         ensures all { result ≡ true → length self.now.rows.items ≤ suc clause → sides.now ≡ [] }
         ensures begun { result ≡ true → NotFirst (sides_of sides.now) }
         ensures missed { result ≡ true → AreMissed (View.rows self.now.rows.items) clause (sides_of sides.now) }
@@ -200,6 +205,7 @@ impl<'c> Choice<'c> {
 
 // Whether a value comes to one of these sides that may match a pattern.
 fn may_come(sides: &[Side], row: &Row) -> bool
+    ensures none { sides.now ≡ [] → result ≡ false }
     ensures missed { result ≡ false → Every (Misses (View.row row.now)) (sides_of sides.now) }
 {
     for next in sides {
@@ -213,6 +219,7 @@ fn may_come(sides: &[Side], row: &Row) -> bool
 
 // Whether the side that is next is the start of the match.
 fn is_start(sides: &[Side]) -> bool
+    ensures none { sides.now ≡ [] → result ≡ false }
     ensures start { sides_of sides.now ≡ first_side ∷ [] → result ≡ true }
 {
     match sides.first() {
@@ -233,6 +240,7 @@ impl<'a> Lowerer<'a> {
         sides: &mut Vec<Side>,
         clause: usize,
     ) -> Result<(), NoMemory>
+        requires whole { IsWhole choice.now }
         ensures chooses { OnOk result (ChoosesIf self.old.context.now.program.now.types choice.now clause
             self.old.buffer (sides_of sides.old.items) self.new.buffer (sides_of sides.new.items) true) }
         ensures laid { OnOk result (ChoosesLaid (setting self.old.context.now) self.old.frame.held choice.now clause
@@ -243,13 +251,12 @@ impl<'a> Lowerer<'a> {
         ensures gives_up { OnOk result (self.new.gives_up ≡ self.old.gives_up) }
         ensures walk { OnOk result (self.new.walk ≡ self.old.walk) }
     {
-        // Each turn but the last writes a jump, and code has fewer instructions than this.
-        for _ in 0..u32::MAX {
+        // Each turn but the last writes a jump, and code has fewer than 2 ^ 32 instructions.
+        'turns: loop {
             if self.choose_on(choice, sides, clause)? {
                 return Ok(());
             }
         }
-        Err(NoMemory)
     }
 
     // A turn: whether it was the last.
@@ -260,6 +267,9 @@ impl<'a> Lowerer<'a> {
         sides: &mut Vec<Side>,
         clause: usize,
     ) -> Result<bool, NoMemory>
+        requires whole { IsWhole choice.now }
+        ensures longer { IfOk result (λ b. b ≡ false → size self.old.buffer < size self.new.buffer) }
+        ensures few { IfOk result (λ b. b ≡ false → size self.new.buffer < 2 ^ 32) }
         ensures turn { IfOk result (ChoosesIf self.old.context.now.program.now.types choice.now clause
             self.old.buffer (sides_of sides.old.items) self.new.buffer (sides_of sides.new.items)) }
         ensures laid { IfOk result (ChoosesLaid (setting self.old.context.now) self.old.frame.held choice.now clause
@@ -275,7 +285,7 @@ impl<'a> Lowerer<'a> {
         }
         match sides.pop() {
             // Where no side is left, all is written.
-            None => Err(NoMemory),
+            None => unreachable!(),
             Some(next) => {
                 let last = self.choose_from(choice, sides, next, clause)?;
                 Ok(last)
@@ -290,6 +300,9 @@ impl<'a> Lowerer<'a> {
         next: Side,
         clause: usize,
     ) -> Result<bool, NoMemory>
+        requires whole { IsWhole choice.now }
+        ensures longer { IfOk result (λ b. b ≡ false → size self.old.buffer < size self.new.buffer) }
+        ensures few { IfOk result (λ b. b ≡ false → size self.new.buffer < 2 ^ 32) }
         ensures turn { IfOk result (ChoosesIf self.old.context.now.program.now.types choice.now clause
             self.old.buffer (sides_of sides.old.items ++ side_of next ∷ []) self.new.buffer
             (sides_of sides.new.items)) }
@@ -306,8 +319,10 @@ impl<'a> Lowerer<'a> {
         if chosen == clause && choice.is_written(sides.as_slice(), clause) {
             return Ok(true);
         }
-        let target = choice.entry(chosen)?;
+        let target = choice.entry(chosen);
         self.buffer.add(Instr::Jump { target })?;
+        // The number of the next instruction fits a u32.
+        let _next = self.buffer.here();
         Ok(false)
     }
 
@@ -318,6 +333,9 @@ impl<'a> Lowerer<'a> {
         sides: &mut Vec<Side>,
         from: Side,
     ) -> Result<usize, NoMemory>
+        requires whole { IsWhole choice.now }
+        ensures there { IfOk result (λ i. i < length choice.now.rows.items) }
+        ensures grows { OnOk result (size self.old.buffer ≤ size self.new.buffer) }
         ensures follows { IfOk result (Follows self.old.context.now.program.now.types (failed_told
             (setting self.old.context.now) self.old.frame.held choice.now.ty (spot_of choice.now.root)
             (View.known from.known) from.read.items) choice.now self.old.buffer (side_of from)
@@ -333,14 +351,13 @@ impl<'a> Lowerer<'a> {
             label,
         } = from;
         self.put_side(choice, &known, read.as_slice(), label)?;
-        // Each step settles a pattern node, and no match that keeps the rules has more.
-        for _ in 0..=MOST_PATTERN_NODES {
+        // Each step settles a test of the patterns.
+        'steps: loop {
             match self.advance(choice, sides, &mut known, &mut read)? {
                 Some(clause) => return Ok(clause),
                 None => {}
             }
         }
-        Err(NoMemory)
     }
 
     // The place of a side is here.
@@ -377,6 +394,11 @@ impl<'a> Lowerer<'a> {
         known: &mut Knowledge,
         read: &mut Vec<u16>,
     ) -> Result<Option<usize>, NoMemory>
+        requires whole { IsWhole choice.now }
+        ensures there { IfOk result (λ o. (i : ℕ) → o ≡ Some i → i < length choice.now.rows.items) }
+        ensures fewer { IfOk result (λ o. o ≡ None → row_tests (View.rows choice.now.rows.items)
+            (View.known known.new) < row_tests (View.rows choice.now.rows.items) (View.known known.old)) }
+        ensures grows { OnOk result (size self.old.buffer ≤ size self.new.buffer) }
         ensures advances { IfOk result (Advances self.old.context.now.program.now.types choice.now
             self.old.buffer (View.known known.old) read.old.items (sides_of sides.old.items)
             self.new.buffer (View.known known.new) read.new.items (sides_of sides.new.items)) }
@@ -406,6 +428,9 @@ impl<'a> Lowerer<'a> {
         known: &mut Knowledge,
         read: &mut Vec<u16>,
     ) -> Result<(), NoMemory>
+        requires asks { K.compare (View.row row.now) (View.known known.old) ≡ D.Asks }
+        ensures knows { OnOk result (View.known known.new ≡ K.side true (View.row row.now) (View.known known.old)) }
+        ensures grows { OnOk result (size self.old.buffer ≤ size self.new.buffer) }
         ensures asks { OnOk result (Asks self.old.context.now.program.now.types choice.now (View.row row.now)
             self.old.buffer (View.known known.old) read.old.items (sides_of sides.old.items)
             self.new.buffer (View.known known.new) read.new.items (sides_of sides.new.items)) }
@@ -434,6 +459,7 @@ impl<'a> Lowerer<'a> {
         known: &Knowledge,
         read: &mut Vec<u16>,
     ) -> Result<Side, NoMemory>
+        requires asks { K.compare (View.row row.now) (View.known known.now) ≡ D.Asks }
         ensures tests { IfOk result (λ d. Tests (View.row row.now) (View.known known.now) (spot_of choice.now.root)
             (reading_of self.old.buffer read.old.items) self.new.buffer read.new.items (side_of d)) }
         ensures frame { OnOk result (self.new.frame ≡ self.old.frame) }
@@ -442,13 +468,7 @@ impl<'a> Lowerer<'a> {
         ensures walk { OnOk result (self.new.walk ≡ self.old.walk) }
     {
         let alloc = self.context.alloc;
-        let Asked { register, head } = self.read_asked(
-            MOST_PATTERN_NODES,
-            row,
-            known,
-            &choice.root,
-            read,
-        )?;
+        let Asked { register, head } = self.read_asked(row, known, &choice.root, read)?;
         let target = self.buffer.new_label()?;
         self.buffer.add(test_of(register, head, target))?;
         let mut seen = Vec::new(alloc);
@@ -460,16 +480,15 @@ impl<'a> Lowerer<'a> {
         })
     }
 
-    // Reads the position that a pattern asks for first, and those above it; an error where it is deeper than that, or
-    // the pattern asks for nothing.
+    // Reads the position that a pattern asks for first, and those above it.
     fn read_asked(
         &mut self,
-        depth: usize,
         row: &Row,
         known: &Knowledge,
         spot: &Spot,
         read: &mut Vec<u16>,
     ) -> Result<Asked, NoMemory>
+        requires asks { K.compare (View.row row.now) (View.known known.now) ≡ D.Asks }
         ensures asks { IfOk result (λ a. asked (View.row row.now) (View.known known.now) (spot_of spot.now)
             ≡ Some (asked_of a)) }
         ensures reads { OnOk result (reading_of self.new.buffer read.new.items ≡ reading (View.row row.now)
@@ -479,11 +498,8 @@ impl<'a> Lowerer<'a> {
         ensures gives_up { OnOk result (self.new.gives_up ≡ self.old.gives_up) }
         ensures walk { OnOk result (self.new.walk ≡ self.old.walk) }
     {
-        if depth == 0 {
-            return Err(NoMemory);
-        }
         let Row::Test { head, parts, .. } = row else {
-            return Err(NoMemory);
+            unreachable!()
         };
         match known {
             Knowledge::Open(_) => Ok(Asked {
@@ -491,12 +507,12 @@ impl<'a> Lowerer<'a> {
                 head: *head,
             }),
             Knowledge::Is(_, knowns) => {
-                let field = asking_at(parts.as_slice(), knowns.as_slice())?;
-                let part = row_at(parts.as_slice(), field)?;
-                let part_known = known_at(knowns.as_slice(), field)?;
+                let field = asking_at(parts.as_slice(), knowns.as_slice());
+                let part = row_at(parts.as_slice(), field);
+                let part_known = known_at(knowns.as_slice(), field);
                 let part_spot = spot.field(field)?;
                 self.read(spot.register, field, part_spot.register, read)?;
-                let asked = self.read_asked(depth - 1, part, part_known, part_spot, read)?;
+                let asked = self.read_asked(part, part_known, part_spot, read)?;
                 Ok(asked)
             }
         }
@@ -536,6 +552,7 @@ impl<'a> Lowerer<'a> {
         clause: usize,
         read: &mut Vec<u16>,
     ) -> Result<(), NoMemory>
+        requires there { clause < length choice.now.patterns.items }
         ensures settles { OnOk result (Settles choice.now clause (reading_of self.old.buffer read.old.items)
             (reading_of self.new.buffer read.new.items)) }
         ensures frame { OnOk result (self.new.frame ≡ self.old.frame) }
@@ -544,7 +561,7 @@ impl<'a> Lowerer<'a> {
         ensures walk { OnOk result (self.new.walk ≡ self.old.walk) }
     {
         match choice.patterns.get(clause) {
-            None => Err(NoMemory),
+            None => unreachable!(),
             Some(pattern) => {
                 self.settle_by(choice.takes, pattern, &choice.root, read)?;
                 Ok(())
@@ -982,30 +999,36 @@ fn first_asking(parts: &[Row], knowns: &[Knowledge]) -> Option<usize>
 }
 
 // The same, where one asks.
-fn asking_at(parts: &[Row], knowns: &[Knowledge]) -> Result<usize, NoMemory>
-    ensures first { IfOk result (λ f. asking (View.parts parts.now) (View.knowns knowns.now) 0 ≡ Some f) }
+fn asking_at(parts: &[Row], knowns: &[Knowledge]) -> usize
+    requires asks { K.compare_all (View.parts parts.now) (View.knowns knowns.now) ≡ D.Asks }
+    ensures first { asking (View.parts parts.now) (View.knowns knowns.now) 0 ≡ Some result }
+    ensures part { result < length parts.now }
+    ensures known { result < length knowns.now }
+    ensures asks { AsksAt parts.now knowns.now result }
 {
     match first_asking(parts, knowns) {
-        None => Err(NoMemory),
-        Some(field) => Ok(field),
+        None => unreachable!(),
+        Some(field) => field,
     }
 }
 
-fn row_at(rows: &[Row], place: usize) -> Result<&Row, NoMemory>
-    ensures row { IfOk result (λ r. slice_get rows.now place ≡ Some r.now) }
+fn row_at(rows: &[Row], place: usize) -> &Row
+    requires there { place < length rows.now }
+    ensures row { slice_get rows.now place ≡ Some result.now }
 {
     match rows.get(place) {
-        None => Err(NoMemory),
-        Some(row) => Ok(row),
+        None => unreachable!(),
+        Some(row) => row,
     }
 }
 
-fn known_at(knowns: &[Knowledge], place: usize) -> Result<&Knowledge, NoMemory>
-    ensures known { IfOk result (λ k. slice_get knowns.now place ≡ Some k.now) }
+fn known_at(knowns: &[Knowledge], place: usize) -> &Knowledge
+    requires there { place < length knowns.now }
+    ensures known { slice_get knowns.now place ≡ Some result.now }
 {
     match knowns.get(place) {
-        None => Err(NoMemory),
-        Some(known) => Ok(known),
+        None => unreachable!(),
+        Some(known) => known,
     }
 }
 
@@ -1049,7 +1072,7 @@ fn left_of(
     ensures left { IfOk result (λ s. s ≡ left types.now ty (View.known known.now)) }
 {
     let mut numbers = Vec::new(alloc);
-    let count = u32::try_from(constructors_of(types, ty).len()).map_err(|_| NoMemory)?;
+    let count = constructors_of(types, ty).len() as u32;
     for number in 0..count {
         if may_be(known, number) {
             numbers.push(number)?;

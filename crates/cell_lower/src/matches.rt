@@ -1,5 +1,5 @@
 // Matches: for each clause the tests that choose it and its body, then the place where the clauses meet.
-ghost use Rattle.std.specs.Prelude.{◌≡◌, ◌≤◌, ◌+◌, ◌&&◌, not, suc, [], ◌∷◌, None, Some, IfOk, OnOk, drop, length};
+ghost use Rattle.std.specs.Prelude.{◌≡◌, ◌≤◌, ◌<◌, ◌+◌, ◌&&◌, not, suc, [], ◌∷◌, None, Some, IfOk, OnOk, drop, length};
 ghost use Rattle.fip_trees.specs.TreeView as V;
 ghost use Rattle.match_knowledge.specs.View as View;
 ghost use Rattle.lower_frame.specs.lowering_relation.Entering.{entering, entering_all, entering_root, root_of, variable_held, with_cell};
@@ -8,7 +8,7 @@ ghost use Rattle.lower_frame.specs.lowering_relation.Losing.{Loses};
 ghost use Rattle.lower_frame.specs.lowering_relation.Rows.{row_of, rows_of};
 ghost use Rattle.lower_frame.specs.lowering_relation.Written.{Extends, GivesUp, size};
 ghost use Rattle.lower_frame.specs.Positions.{reaching, spot_of, spots_of};
-ghost use Rattle.cell_lower.specs.Scenes.{AtSpot, first_side, patterns_of, sides_of};
+ghost use Rattle.cell_lower.specs.Scenes.{AtSpot, IsWhole, first_side, patterns_of, sides_of};
 ghost use Rattle.cell_lower.specs.Clauses.{AddsPattern, IsBegun, EndsIn, EndsMatch, GoesToEnd, HasPositions};
 ghost use Rattle.cell_lower.specs.Clauses.{JoinsKnown, StartsIn};
 ghost use Rattle.lower_frame.specs.Registers.{HasRoom, registers};
@@ -104,6 +104,8 @@ impl<'a> Lowerer<'a> {
             self.old.walk.needs.now self.old.frame self.old.buffer written.now.destructive
             (V.argument written.now.scrutinee.now) written.now.ty (V.clause written.now.first.now)
             (V.clauses written.now.others.now) (target_of target.entry) g self.new.buffer) }
+        ensures whole { IfOk result (λ g. IsWhole g.choice) }
+        ensures clauses { IfOk result (λ g. length g.choice.entries.items ≡ suc (length written.now.others.now)) }
         ensures frame { IfOk result (λ g. self.new.frame ≡ g.entry) }
         ensures context { OnOk result (self.new.context ≡ self.old.context) }
         ensures gives_up { OnOk result (self.new.gives_up ≡ self.old.gives_up) }
@@ -266,6 +268,8 @@ impl<'a> Lowerer<'a> {
         progress: &mut Progress,
         clause: &Clause,
     ) -> Result<(), NoMemory>
+        requires whole { IsWhole matching.now.choice }
+        requires there { progress.old.clause < length matching.now.choice.entries.items }
         ensures starts { OnOk result (StartsIn (setting self.old.context.now) matching.now
             (V.clause clause.now).pattern progress.old.clause self.old.buffer (sides_of progress.old.sides.items)
             self.new.frame self.new.buffer (sides_of progress.new.sides.items)) }
@@ -279,7 +283,7 @@ impl<'a> Lowerer<'a> {
         ensures walk { OnOk result (self.new.walk ≡ self.old.walk) }
     {
         let number = progress.clause;
-        progress.clause = number.checked_add(1).ok_or(NoMemory)?;
+        progress.clause = number + 1;
         self.frame.resume(matching.entry.copy(self.context.alloc)?);
         self.choose(&matching.choice, &mut progress.sides, number)?;
         self.open_root(
@@ -287,7 +291,7 @@ impl<'a> Lowerer<'a> {
             &clause.pattern,
             &matching.choice.root,
         )?;
-        let entry = matching.choice.entry(number)?;
+        let entry = matching.choice.entry(number);
         self.put_label(entry)?;
         Ok(())
     }

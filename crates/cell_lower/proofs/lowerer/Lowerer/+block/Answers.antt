@@ -93,6 +93,7 @@ block-returns-clause-walk t c =
 
 pub clauses-loop-clause-preserved : goal.clauses-loop-clause-preserved
 clauses-loop-clause-preserved t c = record {
+  next = let a = c.in_ok-clause.ensures.next in let b = c.loop-clause.invariant.next in omega (arith, a, b);
   context = c.in_ok-clause.ensures.context ∙ c.loop-clause.invariant.context;
   gives_up = c.in_ok-clause.ensures.gives_up ∙ c.loop-clause.invariant.gives_up;
   rest = clauses_next (setting c.args.self.now.context.now) c.args.matching.now (target_of c.args.target) c.args.progress.now c.args.self.now.buffer (clauses c.args.clauses.now) c.loop-clause.progress c.loop-clause.self.buffer c.args.clauses.now c.loop-clause.clause-index (c.loop-clause.clause-index + 1) c.clause-item.result c.clause.new.progress c.clause.new.self.buffer (omega arith) (item c.args.clauses.now c.loop-clause.clause-index c.clause-item.result c.loop-clause-test.true c.clause-item.is) c.loop-clause.invariant.rest

@@ -1,4 +1,4 @@
-use Rattle.std.proofs.Common.{◌≡◌, not, drop}
+use Rattle.std.proofs.Common.{◌≡◌, ◌+◌, not, drop}
 use Rattle.fip_trees.specs.declared.program.Block.{out-Block}
 use Rattle.fip_trees.specs.TreeView as V
 use Rattle.cell_lower.specs.Writing.{setting, target_of}
@@ -18,6 +18,7 @@ invariant-block-loop-binding l = record {
 
 abbrev pub invariant-clauses-loop-clause : goal.invariant-clauses-loop-clause
 invariant-clauses-loop-clause l = record {
+  next : l.progress.clause ≡ l.initial.progress.clause + l.clause-index;
   context : l.self.context ≡ l.initial.self.context;
   gives_up : l.self.gives_up ≡ l.initial.self.gives_up;
   rest : FollowsClauses (setting l.initial.self.context.now) l.matching (target_of l.target) l.initial.progress l.initial.self.buffer (V.clauses l.clauses) l.progress l.self.buffer (V.clauses (drop l.clause-index l.clauses));

@@ -1,12 +1,13 @@
-use Rattle.std.proofs.Common.{◌≡◌}
+use Rattle.std.proofs.Common.{◌≡◌, ◌-◌}
+use Rattle.lower_frame.specs.lowering_relation.Written.{size}
 use Rattle.cell_lower.specs.Scenes.{sides_of}
 use Rattle.cell_lower.specs.Writing.{setting}
 use Rattle.cell_lower.proofs.Choosing.{Turns}
 use Rattle.cell_lower.proofs.Sided.{TurnsLaid}
 use Rattle.cell_lower.proofs.lowerer.Lowerer.choose.Given as goal
 
-abbrev pub invariant-loop : goal.invariant-loop
-invariant-loop l = record {
+abbrev pub invariant-turns : goal.invariant-turns
+invariant-turns l = record {
   turns : Turns l.initial.self.context.now.program.now.types l.choice l.clause l.initial.self.buffer (sides_of l.initial.sides.items) l.self.buffer (sides_of l.sides.items);
   laid : TurnsLaid (setting l.initial.self.context.now) l.initial.self.frame.held l.choice l.clause l.initial.self.buffer (sides_of l.initial.sides.items) l.self.buffer (sides_of l.sides.items);
   frame : l.self.frame ≡ l.initial.self.frame;
@@ -14,3 +15,6 @@ invariant-loop l = record {
   gives_up : l.self.gives_up ≡ l.initial.self.gives_up;
   walk : l.self.walk ≡ l.initial.self.walk;
 }
+
+abbrev pub decreases-turns : goal.decreases-turns
+decreases-turns l = 4294967296 - size l.self.buffer

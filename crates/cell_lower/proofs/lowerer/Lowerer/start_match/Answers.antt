@@ -15,7 +15,7 @@ use Rattle.cell_lower.specs.Marks.{MarkedFor}
 use Rattle.cell_lower.specs.Writing.{setting, target_of}
 use Rattle.lower_frame.specs.Positions.{reaching}
 use Rattle.cell_lower.specs.Scenes.{patterns_of}
-use Rattle.cell_lower.proofs.Beginning.{resumes_reached, loses_then, begun_few, entry_room}
+use Rattle.cell_lower.proofs.Beginning.{resumes_reached, loses_then, begun_few, entry_room, as_many_clauses, whole_choice}
 use Rattle.cell_lower.proofs.lowerer.Lowerer.start_match.Goals as goal
 
 pub returns-clause-begins : goal.returns-clause-begins
@@ -78,3 +78,9 @@ returns-clause-laid c =
           (subst (λ (x : Bor Context). MarkedFor (not c.forget_built.new.self.gives_up) (target_of c.args.target) (setting x.now) c.forget_built.new.self.frame c.args.written.now.destructive (argument c.args.written.now.scrutinee.now) (clause c.args.written.now.first.now) (clauses c.args.written.now.others.now) c.in_ok-used.used.items) context c.in_ok-used.ensures.marked);
       need = λ x e. c.enter-need.ensures.need ∙ ap sizes_of e;
     }
+
+pub returns-clause-whole : goal.returns-clause-whole
+returns-clause-whole c = whole_choice c.in_ok-choice.choice c.in_ok-choice.ensures.positions.rows c.in_ok-choice.ensures.entries
+
+pub returns-clause-clauses : goal.returns-clause-clauses
+returns-clause-clauses c = as_many_clauses c.in_ok-choice.choice (clause c.args.written.now.first.now).pattern c.args.written.now.others.now c.in_ok-choice.ensures.entries c.in_ok-choice.ensures.patterns

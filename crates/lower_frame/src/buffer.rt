@@ -110,7 +110,8 @@ impl Buffer {
         Ok(())
     }
 
-    /// The instructions, with the places of labels for the labels, and what is known at places.
+    /// The instructions, with the places of labels for the labels, and what is known at places. For a label that has no
+    /// place stands that of the first instruction.
     pub fn into_parts(self) -> Result<(Vec<Instr>, Vec<Label>), NoMemory>
         ensures instrs { IfOk result (λ p. p.0.items ≡ map (settled (place_of self.places)) self.instrs) }
         ensures few { IfOk result (λ p. length p.1.items ≤ labels self) }
@@ -125,7 +126,7 @@ impl Buffer {
             places,
             labels,
         } = self;
-        settle_all(&mut instrs, places.as_slice())?;
+        settle_all(&mut instrs, places.as_slice());
         Ok((instrs, labels))
     }
 }
@@ -217,39 +218,35 @@ fn is_open(kind: &Kind) -> bool
 }
 
 #[tactic(auto, using(crate::proofs::Frames::mapping))]
-fn settle_all(instrs: &mut Vec<Instr>, places: &[Option<u32>]) -> Result<(), NoMemory>
-    ensures settled { OnOk result (instrs.new.items ≡ map (settled (place_of places.now)) instrs.old.items) }
-    ensures spelt { OnOk result (AreInstrsSpelt instrs.old.items → AreInstrsSpelt instrs.new.items) }
+fn settle_all(instrs: &mut Vec<Instr>, places: &[Option<u32>])
+    ensures settled { instrs.new.items ≡ map (settled (place_of places.now)) instrs.old.items }
+    ensures spelt { AreInstrsSpelt instrs.old.items → AreInstrsSpelt instrs.new.items }
 {
     for instr in instrs.iter_mut() {
-        settle(instr, places)?;
+        settle(instr, places);
     }
-    Ok(())
 }
 
-// A jump or a test goes to the place of its label; an error where this has none.
+// A jump or a test goes to the place of its label.
 #[tactic(auto, using(crate::proofs::Spelt::settling))]
-fn settle(instr: &mut Instr, places: &[Option<u32>]) -> Result<(), NoMemory>
-    ensures settled { OnOk result (instr.new ≡ settled (place_of places.now) instr.old) }
-    ensures spelt { OnOk result (IsSpelt (instr_text instr.old) → IsSpelt (instr_text instr.new)) }
+fn settle(instr: &mut Instr, places: &[Option<u32>])
+    ensures settled { instr.new ≡ settled (place_of places.now) instr.old }
+    ensures spelt { IsSpelt (instr_text instr.old) → IsSpelt (instr_text instr.new) }
 {
     match instr {
         Instr::Jump { target } => set_target(target, places),
         Instr::Test { target, .. } => set_target(target, places),
         Instr::TestInt { target, .. } => set_target(target, places),
-        _ => Ok(()),
+        _ => (),
     }
 }
 
-fn set_target(target: &mut u32, places: &[Option<u32>]) -> Result<(), NoMemory>
-    ensures set { OnOk result (target.new ≡ place_of places.now target.old) }
-    ensures small { OnOk result (target.new < 4294967296) }
+fn set_target(target: &mut u32, places: &[Option<u32>])
+    ensures set { target.new ≡ place_of places.now target.old }
+    ensures small { target.new < 4294967296 }
 {
-    match places.get(*target as usize) {
-        Some(Some(place)) => {
-            *target = *place;
-            Ok(())
-        }
-        _ => Err(NoMemory),
-    }
+    *target = match places.get(*target as usize) {
+        Some(Some(place)) => *place,
+        _ => 0,
+    };
 }

@@ -9,4 +9,4 @@ pub returns-clause-few : goal.returns-clause-few
 returns-clause-few c = subst (λ (x : Written). length c.self.inside.labels.items ≤ labels x) c.self.view_is (placed_few c.self.inside.places.items (length c.self.inside.labels.items) c.self.invariant.0)
 
 pub returns-clause-spelt : goal.returns-clause-spelt
-returns-clause-spelt c = (c.in_ok-settle_all.ensures.spelt c.self.invariant.2, labels_spelt c.self.inside.instrs.items c.self.inside.labels.items c.self.invariant.2 c.self.invariant.1 c.self.invariant.3)
+returns-clause-spelt c = (c.settle_all.ensures.spelt c.self.invariant.2, labels_spelt c.self.inside.instrs.items c.self.inside.labels.items c.self.invariant.2 c.self.invariant.1 c.self.invariant.3)

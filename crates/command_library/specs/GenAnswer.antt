@@ -1,4 +1,5 @@
--- What `gen` comes to: as `exec` of the library's text rbtree, entry build, on the keys of a seed.
+-- It serves the proofs on `gen`: what it comes to, as the run of a code of the library's text rbtree, entry build, on
+-- the keys of a seed.
 --
 -- Were that text refused, its refusal would be told. Its input is three lines: the list of the keys, a list of as many
 -- pads Pad4(0, 0, 0, 0), and Leaf. The keys are the numbers of the seed, as for the turns of tasks. The run has the
@@ -9,31 +10,17 @@
 --
 -- `gen 1 3` makes a tree of 1103527590, 377401575 and 662824084, and prints `keys 3`, `nodes 3`, `least 377401575` and
 -- `greatest 1103527590`.
-use Rattle.std.specs.Prelude.{◌≡◌, ◌<◌, ◌≤◌, ℕ, false, List, length, codes, Result, Ok, Err}
+use Rattle.std.specs.Prelude.{◌≡◌, ◌<◌, ◌≤◌, ℕ, false, List, length, Result, Ok, Err}
 use Rattle.fip_language.specs.Meaning.{Gives}
 use Rattle.fip_language.specs.Values.{Values}
-use Rattle.fip_language.specs.declared.limits.TheConstants.{MOST_FILE_BYTES, MOST_STORE_WORDS}
-use Rattle.library_sources.specs.declared.rbtree.TheConstants.{TEXT}
-use Rattle.command_words.specs.Words.{Room}
+use Rattle.fip_language.specs.declared.limits.TheConstants.{MOST_FILE_BYTES}
 use Rattle.command_outcome.specs.declared.failure.Failure.{Failure}
 use Rattle.command_outcome.specs.declared.failure.Failure.TheVariants as F
 use Rattle.command_tasks.specs.command_run.command_source.Wanted.{Compiled, Refuses, IsReady}
 use Rattle.command_tasks.specs.command_run.command_eval.EvalAnswer.{Entry, Spells}
 use Rattle.command_tasks.specs.command_run.ExecAnswer.{Execs, RunsOn, answer_of, frames_for, words_of}
 use Rattle.command_library.specs.MadeTree.{gen_input, lines_of_results}
-
--- ---- what runs
-
--- the library's text rbtree, and the name of its entry
-abbrev pub tree_source : List ℕ
-tree_source = TEXT.now
-
-abbrev pub build : List ℕ
-build = codes "build"
-
--- with these calls, frames and words
-abbrev pub gen_room : Room
-gen_room = record { calls = 1000000000; frames = 10000; words = MOST_STORE_WORDS }
+pub use Rattle.command_library.specs.GenRoom.{tree_source, build, gen_room}
 
 -- ---- gen
 

@@ -1,5 +1,6 @@
 pub mod MadeTree
 pub mod Reading
+pub mod GenRoom
 pub mod GenAnswer
 pub use Rattle.command_tasks.specs.command_run.code_rules as code_rules
 pub use Rattle.command_tasks.specs.command_run.command_eval as command_eval

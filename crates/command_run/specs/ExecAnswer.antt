@@ -18,7 +18,7 @@
 -- of 2: 3 to 3`, `stack: 0 frames, 9 words` and `bound: 0 frames, 9 words`. With 8 words the store is too small, since
 -- 9 are needed; and with 3 calls it is out of calls.
 use Rattle.std.specs.Prelude.{◌≡◌, ◌≢◌, ◌<◌, ◌≤◌, ℕ, Bool, List, [], ◌++◌, Option, Some, None}
-use Rattle.std.specs.Prelude.{Result, Ok, Err, slice_get}
+use Rattle.std.specs.Prelude.{Result, Ok, Err}
 use Rattle.fip_language.specs.declared.FunKind.TheVariants.{Fip}
 use Rattle.fip_language.specs.declared.limits.TheConstants.{MOST_FIELDS}
 use Rattle.fip_language.specs.Gauge.{Seen, lowest, highest}
@@ -29,8 +29,6 @@ use Rattle.fip_language.specs.Statics.{NoClosed}
 use Rattle.fip_language.specs.Table.{Table}
 use Rattle.fip_language.specs.Values.{Values}
 use Rattle.fip_base.specs.declared.plain.Stack.{Stack}
-use Rattle.command_eval.specs.machine_correctness.fip_trees.declared.groups.Member.{Member}
-use Rattle.command_eval.specs.machine_correctness.tail_groups.Members.{AreMembers}
 use Rattle.command_words.specs.Words.{Room}
 use Rattle.command_outcome.specs.declared.failure.Failure.{Failure}
 use Rattle.command_outcome.specs.declared.failure.Failure.TheVariants as F
@@ -44,6 +42,7 @@ use Rattle.command_eval.specs.EvalAnswer.{Entry, Spells}
 use Rattle.command_eval.specs.machine_correctness.Gauges.{cells_given, IsMeasured}
 use Rattle.command_run.specs.CodeRun.{Run, all_seen, words_for}
 use Rattle.command_run.specs.GaugeText.{gauge_by_states, highest_stack, if_asked}
+pub use Rattle.command_run.specs.StackBound.{IsBoundOf}
 
 -- how an answer is told, where values of these types are wanted, so many calls and frames were given, and these lines
 -- stand behind values; no answer of an accepted source is stuck
@@ -80,11 +79,6 @@ answer_of {name = name} entry vs calls frames = (meaning entry.core name NoClose
 
 abbrev pub peak_of : {source name : List ℕ} → Entry source name → Values → ℕ → ℕ → Peak
 peak_of {name = name} entry vs calls frames = (meaning entry.core name NoClosed vs calls frames).peak
-
--- The groups of the program tell this of the entry.
-abbrev pub IsBoundOf : {source name : List ℕ} → Entry source name → Option Stack → Type 0
-IsBoundOf entry held = (members : List Member) → AreMembers entry.program.instances members → (i : ℕ) (m : Member) →
-    slice_get entry.program.instances i ≡ Some entry.root → slice_get members i ≡ Some m → held ≡ m.stack
 
 abbrev pub IsWithin : Stack → Option Stack → Type 0
 IsWithin stack None = ⊥

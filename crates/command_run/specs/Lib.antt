@@ -2,6 +2,7 @@ pub mod GaugeText
 pub mod CodeRun
 pub mod LoadedRun
 pub mod Leaving
+pub mod StackBound
 pub mod ExecAnswer
 pub mod Rooms
 pub mod Starting

@@ -8,6 +8,7 @@ use Rattle.task_semantics.specs.machine_semantics.Codes.{PlainCode, plain}
 use Rattle.task_semantics.specs.machine_semantics.Cells.{Store}
 use Rattle.task_semantics.specs.machine_semantics.States.{Typed, State, Next, Went, Entered, Gave, Trapped, TooDeep, Stuck}
 use Rattle.task_semantics.specs.machine_semantics.Steps.{Kinds, instr_of, kinds_of, next}
+use Rattle.task_semantics.specs.machine_semantics.Gauges.{seen}
 use Rattle.task_semantics.specs.machine_semantics.Runs.{End, Value, Trap, Out, Deep, Unsound, Run, Going, Over, state_of, begun, comes, later, after}
 use Rattle.fip_machine.specs.machine_cells.Small.{IsSmall}
 use Rattle.fip_machine.specs.machine_step.declared.rows.Stepped.{Stepped}
@@ -16,16 +17,18 @@ use Rattle.fip_machine.specs.machine_step.Coming.{Comes, KnowsAt}
 use Rattle.fip_machine.specs.declared.machine.Ended.{Ended}
 use Rattle.fip_machine.specs.declared.machine.Ended.TheVariants as M
 use Rattle.fip_machine.specs.Along.{is_call_in, calls_next}
-use Rattle.fip_machine.specs.Tasks.{Stand, state_with, ended_by}
-use Rattle.fip_machine.proofs.Mosts.{after_later}
+use Rattle.fip_machine.specs.Tasks.{Stand, state_with, ended_by, IsMeasured, IsRaised, IsFresh}
 use Rattle.task_semantics.specs.Schedules.{in_store}
 use Rattle.fip_machine.proofs.machine_cells.Counts.{counts_none, counts_on}
 use Rattle.fip_tasks.specs.Gauged.{HasCounted}
-use Rattle.fip_tasks.specs.Landing.{IsLanded, Lands, Goes, IsNew, cells_of}
+use Rattle.fip_tasks.specs.Landing.{IsLanded, IsWithin, HasRisen, Lands, Goes, IsNew, HasBegun, Begins, cells_of}
 use Rattle.fip_tasks.specs.Shown.{IsAt, HasEnded, StandsAt, CanGo, IsStarted}
 use Rattle.fip_tasks.specs.Turns.{Standing}
 use Rattle.fip_tasks.specs.declared.task.Start.{Start}
+use Rattle.fip_machine.specs.machine_cells.Counting.{freed_of}
+use Rattle.task_semantics.specs.machine_semantics.States.{frames_held, words_held}
 use Rattle.fip_tasks.proofs.Called.{IsCalling, calling, out}
+use Rattle.fip_tasks.proofs.Risen.{both, after_both, risen_none, risen_over, risen_ended, risen_step, risen_both, within_after, came_state}
 use Rattle.fip_language.proofs.Facts.{true_is_not_false as not_both}
 pub use Rattle.fip_language.proofs.Facts.{none_of as not_some}
 
@@ -125,8 +128,13 @@ not_ended t Unsound h e = absurd h
 abbrev pub IsTold : Standing → Stored → Stepped → Standing → Stored → Type 0
 IsTold old before r new behind = (kinds : Kinds) → KnowsAt old.stack.code kinds old.stack.running.function old.stack.running.at → old.stack.ended ≡ None → IsSmall before.cells → before.pushed ≡ [] → (lent : List Typed) → Comes (state_with old.stack lent (cells_of before)) (next kinds (plain old.stack.code.code) (state_with old.stack lent (cells_of before))) r (state_with new.stack lent (cells_of behind)) new.stack.given
 
-went_on : (v : Checked) (kinds : Kinds) (old new : Standing) (before behind : Stored) (r : Stepped) (s : State) (l n : ℕ) → (old.left ≡ 0 → calls_next old.stack.code old.stack ≡ false) → new.stack.code ≡ old.stack.code → new.stack.ended ≡ ended_by r → Fits r old.left new → IsTold old before r new behind → IsSmall before.cells → before.pushed ≡ [] → IsAt v old s l → CanGo v kinds (Going (record s { store = cells_of before }) l n) → IsLanded v new (cells_of behind) (comes (record s { store = cells_of before }) l (suc n) (next kinds (plain v.code) (record s { store = cells_of before })))
-went_on v kinds old new before behind r s l n none code ends fits told small empty at can =
+-- what a step came to, over these cells, and that it was no call where none was left
+record WentOn (v : Checked) (kinds : Kinds) (old new : Standing) (before behind : Stored) (r : Stepped) (s : State) : Type 0 where
+  comes : Comes (record s { store = cells_of before }) (next kinds (plain v.code) (record s { store = cells_of before })) r (state_with new.stack s.lent (cells_of behind)) new.stack.given
+  call : old.left ≡ 0 → is_call_in (instr_of (plain v.code) (record s { store = cells_of before })) ≡ false
+
+went : (v : Checked) (kinds : Kinds) (old new : Standing) (before behind : Stored) (r : Stepped) (s : State) (l n : ℕ) → (old.left ≡ 0 → calls_next old.stack.code old.stack ≡ false) → IsTold old before r new behind → IsSmall before.cells → before.pushed ≡ [] → IsAt v old s l → CanGo v kinds (Going (record s { store = cells_of before }) l n) → WentOn v kinds old new before behind r s
+went v kinds old new before behind r s l n none told small empty at can =
     let here : State = record s { store = cells_of before } in
     let e : state_with old.stack s.lent (cells_of before) ≡ here = at_cells old.stack s (cells_of before) at.state in
     let knows : KnowsAt old.stack.code kinds old.stack.running.function old.stack.running.at =
@@ -134,24 +142,41 @@ went_on v kinds old new before behind r s l n none code ends fits told small emp
     (subst (λ (q : State). KnowsAt v kinds q.running.function q.running.at) (sym e) can.0) in
     let first : Comes (state_with old.stack s.lent (cells_of before)) (next kinds (plain v.code) (state_with old.stack s.lent (cells_of before))) r (state_with new.stack s.lent (cells_of behind)) new.stack.given =
     subst (λ (w : Checked). Comes (state_with old.stack s.lent (cells_of before)) (next kinds (plain w.code) (state_with old.stack s.lent (cells_of before))) r (state_with new.stack s.lent (cells_of behind)) new.stack.given) at.code (told kinds knows at.going small empty s.lent) in
-    let comes : Comes here (next kinds (plain v.code) here) r (state_with new.stack s.lent (cells_of behind)) new.stack.given =
-    subst (λ (q : State). Comes q (next kinds (plain v.code) q) r (state_with new.stack s.lent (cells_of behind)) new.stack.given) e first in
-    let call : old.left ≡ 0 → is_call_in (instr_of (plain v.code) here) ≡ false = λ z.
-    subst (λ (q : State). is_call_in (instr_of (plain v.code) q) ≡ false) e
-    (subst (λ (w : Checked). calls_next w old.stack ≡ false) at.code (none z)) in
-    came v here l (suc n) (is_call_in (instr_of (plain v.code) here)) (next kinds (plain v.code) here) r new (cells_of behind) comes can.1 (calling (plain v.code) (kinds_of kinds here) here (instr_of (plain v.code) here)) (λ z. call (at.left ∙ z)) (code ∙ at.code) ends (subst (λ m. Fits r m new) at.left fits)
+    record {
+      comes = subst (λ (q : State). Comes q (next kinds (plain v.code) q) r (state_with new.stack s.lent (cells_of behind)) new.stack.given) e first;
+      call = λ z.
+          subst (λ (q : State). is_call_in (instr_of (plain v.code) q) ≡ false) e
+          (subst (λ (w : Checked). calls_next w old.stack ≡ false) at.code (none z));
+    }
 
-pub step_lands : (old new : Standing) (before behind : Stored) (r : Stepped) → old.ended ≡ None → (old.stack.ended ≡ None → old.left ≡ 0 → calls_next old.stack.code old.stack ≡ false) → new.stack.code ≡ old.stack.code → (IsSmall before.cells → IsSmall behind.cells) → (before.pushed ≡ [] → behind.pushed ≡ []) → (old.stack.ended ≡ None → new.stack.ended ≡ ended_by r) → Fits r old.left new → IsTold old before r new behind → HasCounted old (cells_of before) new (cells_of behind) → Lands old before new behind
-step_lands old new before behind r on none code small empty ends fits told counted = record {
+went_on : (v : Checked) (kinds : Kinds) (old new : Standing) (before behind : Stored) (r : Stepped) (s : State) (l n : ℕ) → WentOn v kinds old new before behind r s → new.stack.code ≡ old.stack.code → new.stack.ended ≡ ended_by r → Fits r old.left new → IsAt v old s l → CanGo v kinds (Going (record s { store = cells_of before }) l n) → IsLanded v new (cells_of behind) (comes (record s { store = cells_of before }) l (suc n) (next kinds (plain v.code) (record s { store = cells_of before })))
+went_on v kinds old new before behind r s l n w code ends fits at can =
+    let here : State = record s { store = cells_of before } in
+    came v here l (suc n) (is_call_in (instr_of (plain v.code) here)) (next kinds (plain v.code) here) r new (cells_of behind) w.comes can.1 (calling (plain v.code) (kinds_of kinds here) here (instr_of (plain v.code) here)) (λ z. w.call (at.left ∙ z)) (code ∙ at.code) ends (subst (λ m. Fits r m new) at.left fits)
+
+went_risen : (v : Checked) (kinds : Kinds) (old new : Standing) (before behind : Stored) (r : Stepped) (s : State) (l n : ℕ) → WentOn v kinds old new before behind r s → IsMeasured new.stack → IsRaised old.stack new.stack → IsAt v old s l → CanGo v kinds (Going (record s { store = cells_of before }) l n) → IsWithin old (Going s l n) → HasRisen old new (seen kinds (plain v.code) 1 (Going (record s { store = cells_of before }) l n))
+went_risen v kinds old new before behind r s l n w measured raised at can within =
+    let here : State = record s { store = cells_of before } in
+    let is : state_of (later kinds (plain v.code) (Going here l n)) ≡ state_with new.stack s.lent (cells_of behind) =
+    came_state here l (suc n) (is_call_in (instr_of (plain v.code) here)) (next kinds (plain v.code) here) r (state_with new.stack s.lent (cells_of behind)) new.stack.given w.comes can.1 (calling (plain v.code) (kinds_of kinds here) here (instr_of (plain v.code) here)) (λ z. w.call (at.left ∙ z)) in
+    risen_step kinds (plain v.code) old new here l n (state_with new.stack s.lent (cells_of behind)) measured raised is (sym measured.frames) (sym measured.words) within
+
+pub step_lands : (old new : Standing) (before behind : Stored) (r : Stepped) → old.ended ≡ None → (old.stack.ended ≡ None → old.left ≡ 0 → calls_next old.stack.code old.stack ≡ false) → new.stack.code ≡ old.stack.code → (IsSmall before.cells → IsSmall behind.cells) → (before.pushed ≡ [] → behind.pushed ≡ []) → (old.stack.ended ≡ None → new.stack.ended ≡ ended_by r) → Fits r old.left new → IsTold old before r new behind → IsMeasured new.stack → (old.stack.ended ≡ None → IsRaised old.stack new.stack) → HasCounted old (cells_of before) new (cells_of behind) → Lands old before new behind
+step_lands old new before behind r on none code small empty ends fits told measured raised counted = record {
   small = small;
   empty = empty;
   counted = counted;
   turn = by;
+  risen = rises;
 }
   where
     by : (v : Checked) (kinds : Kinds) (q : Run) → IsSmall before.cells → before.pushed ≡ [] → StandsAt v old q → CanGo v kinds (in_store (cells_of before) q) → IsLanded v new (cells_of behind) (later kinds (plain v.code) (in_store (cells_of before) q))
-    by v kinds (Going s l n) few top at can = went_on v kinds old new before behind r s l n (none at.going) code (ends at.going) fits told few top at can
+    by v kinds (Going s l n) few top at can = went_on v kinds old new before behind r s l n (went v kinds old new before behind r s l n (none at.going) told few top at can) code (ends at.going) fits at can
     by v kinds (Over e s l n) few top at can = not_ended old e at on
+
+    rises : (v : Checked) (kinds : Kinds) (q : Run) → IsSmall before.cells → before.pushed ≡ [] → StandsAt v old q → CanGo v kinds (in_store (cells_of before) q) → IsWithin old q → HasRisen old new (seen kinds (plain v.code) 1 (in_store (cells_of before) q))
+    rises v kinds (Going s l n) few top at can within = went_risen v kinds old new before behind r s l n (went v kinds old new before behind r s l n (none at.going) told few top at can) measured (raised at.going) at can within
+    rises v kinds (Over e s l n) few top at can within = not_ended old e at on
 
 -- ---- a task that has ended, and one that is out of calls
 
@@ -161,11 +186,16 @@ ended_lands t before e over = record {
   empty = λ h. h;
   counted = record { started = refl; counted = counts_none before.cells before.released t.stack.freed };
   turn = by;
+  risen = rises;
 }
   where
     by : (v : Checked) (kinds : Kinds) (q : Run) → IsSmall before.cells → before.pushed ≡ [] → StandsAt v t q → CanGo v kinds (in_store (cells_of before) q) → IsLanded v t (cells_of before) (later kinds (plain v.code) (in_store (cells_of before) q))
     by v kinds (Going s l n) few top at can = let f = at.on in absurd cc
     by v kinds (Over f s l n) few top at can = record { stands = over_cells v t (cells_of before) (Over f s l n) at; cells = refl }
+
+    rises : (v : Checked) (kinds : Kinds) (q : Run) → IsSmall before.cells → before.pushed ≡ [] → StandsAt v t q → CanGo v kinds (in_store (cells_of before) q) → IsWithin t q → HasRisen t t (seen kinds (plain v.code) 1 (in_store (cells_of before) q))
+    rises v kinds (Going s l n) few top at can within = let f = at.on in absurd cc
+    rises v kinds (Over f s l n) few top at can within = risen_ended kinds (plain v.code) t f (record s { store = cells_of before }) l n within
 
 pub out_lands : (t : Standing) (before : Stored) → t.ended ≡ None → t.left ≡ 0 → (t.stack.ended ≡ None → calls_next t.stack.code t.stack ≡ true) → Lands t before (record t { ended = Some M.Out }) before
 out_lands t before on left call = record {
@@ -173,10 +203,11 @@ out_lands t before on left call = record {
   empty = λ h. h;
   counted = record { started = refl; counted = counts_none before.cells before.released t.stack.freed };
   turn = by;
+  risen = rises;
 }
   where
-    by : (v : Checked) (kinds : Kinds) (q : Run) → IsSmall before.cells → before.pushed ≡ [] → StandsAt v t q → CanGo v kinds (in_store (cells_of before) q) → IsLanded v (record t { ended = Some M.Out }) (cells_of before) (later kinds (plain v.code) (in_store (cells_of before) q))
-    by v kinds (Going s l n) few top at can =
+    is_out : (v : Checked) (kinds : Kinds) (s : State) (l n : ℕ) → StandsAt v t (Going s l n) → CanGo v kinds (in_store (cells_of before) (Going s l n)) → later kinds (plain v.code) (Going (record s { store = cells_of before }) l n) ≡ Over Out (record s { store = cells_of before }) 0 (suc n)
+    is_out v kinds s l n at can =
         let here : State = record s { store = cells_of before } in
         let e : state_with t.stack s.lent (cells_of before) ≡ here = at_cells t.stack s (cells_of before) at.state in
         let calls : is_call_in (instr_of (plain v.code) here) ≡ true =
@@ -185,10 +216,15 @@ out_lands t before on left call = record {
         let is : IsCalling true (next kinds (plain v.code) here) =
         subst (λ b. IsCalling b (next kinds (plain v.code) here)) calls (calling (plain v.code) (kinds_of kinds here) here (instr_of (plain v.code) here)) in
         let zero_left : l ≡ 0 = sym at.left ∙ left in
-        let over : comes here l (suc n) (next kinds (plain v.code) here) ≡ Over Out here 0 (suc n) =
-        ap (λ m. comes here m (suc n) (next kinds (plain v.code) here)) zero_left ∙ out here (suc n) (next kinds (plain v.code) here) is can.1 in
-        subst (λ (q : Run). IsLanded v (record t { ended = Some M.Out }) (cells_of before) q) (sym over) (record { stands = refl; cells = refl })
+        ap (λ m. comes here m (suc n) (next kinds (plain v.code) here)) zero_left ∙ out here (suc n) (next kinds (plain v.code) here) is can.1
+
+    by : (v : Checked) (kinds : Kinds) (q : Run) → IsSmall before.cells → before.pushed ≡ [] → StandsAt v t q → CanGo v kinds (in_store (cells_of before) q) → IsLanded v (record t { ended = Some M.Out }) (cells_of before) (later kinds (plain v.code) (in_store (cells_of before) q))
+    by v kinds (Going s l n) few top at can = subst (λ (q : Run). IsLanded v (record t { ended = Some M.Out }) (cells_of before) q) (sym (is_out v kinds s l n at can)) (record { stands = refl; cells = refl })
     by v kinds (Over e s l n) few top at can = not_ended t e at on
+
+    rises : (v : Checked) (kinds : Kinds) (q : Run) → IsSmall before.cells → before.pushed ≡ [] → StandsAt v t q → CanGo v kinds (in_store (cells_of before) q) → IsWithin t q → HasRisen t (record t { ended = Some M.Out }) (seen kinds (plain v.code) 1 (in_store (cells_of before) q))
+    rises v kinds (Going s l n) few top at can within = risen_over kinds (plain v.code) t (record t { ended = Some M.Out }) (record s { store = cells_of before }) l n Out (suc n) refl (is_out v kinds s l n at can) within
+    rises v kinds (Over e s l n) few top at can within = not_ended t e at on
 
 -- ---- many turns
 
@@ -203,7 +239,7 @@ goes_none t before = record {
   small = λ h. h;
   empty = λ h. h;
   counted = record { started = refl; counted = counts_none before.cells before.released t.stack.freed };
-  turns = λ v kinds r few top at can. (0, record { stands = over_cells v t (cells_of before) r at; cells = cells_in (cells_of before) r });
+  turns = λ v kinds r few top at can. (0, record { stands = over_cells v t (cells_of before) r at; cells = cells_in (cells_of before) r }, λ within. risen_none kinds (plain v.code) t (cells_of before) r within);
 }
 
 pub goes_on : (a b c : Standing) (x y z : Stored) → Goes a x b y → Lands b y c z → Goes a x c z
@@ -217,12 +253,12 @@ goes_on a b c x y z g l = record {
       let q : Run = after kinds (plain v.code) h.0 first in
       let own : in_store (cells_of y) q ≡ q = in_own (cells_of y) q h.1.cells in
       let next : IsLanded v c (cells_of z) (later kinds (plain v.code) (in_store (cells_of y) q)) = l.turn v kinds q (g.small few) (g.empty top) h.1.stands (subst (λ (m : Run). CanGo v kinds m) (sym own) (can h.0)) in
-      (suc h.0, subst (λ (m : Run). IsLanded v c (cells_of z) m) (ap (λ m. later kinds (plain v.code) m) own ∙ sym (after_later kinds (plain v.code) h.0 first)) next);
+      let can_now : CanGo v kinds (in_store (cells_of y) q) = subst (λ (m : Run). CanGo v kinds m) (sym own) (can h.0) in
+      (both h.0 1, subst (λ (m : Run). IsLanded v c (cells_of z) m) (ap (λ m. later kinds (plain v.code) m) own ∙ sym (after_both kinds (plain v.code) h.0 1 first)) next, λ within.
+          let rises = h.2 within in
+          let more : HasRisen b c (seen kinds (plain v.code) 1 (in_store (cells_of y) q)) = l.risen v kinds q (g.small few) (g.empty top) h.1.stands can_now (within_after kinds (plain v.code) a b h.0 first rises) in
+          risen_both kinds (plain v.code) a b c h.0 1 first rises (subst (λ (m : Run). HasRisen b c (seen kinds (plain v.code) 1 m)) own more));
 }
-
-further : (kinds : Kinds) (code : PlainCode) (n m : ℕ) (r : Run) → (k : ℕ) × (after kinds code k r ≡ after kinds code m (after kinds code n r))
-further kinds code zero m r = (m, refl)
-further kinds code (suc n) m r = let h = further kinds code n m (later kinds code r) in (suc h.0, h.1)
 
 pub goes_far : (a b c : Standing) (x y z : Stored) → Goes a x b y → Goes b y c z → Goes a x c z
 goes_far a b c x y z g l = record {
@@ -235,11 +271,12 @@ goes_far a b c x y z g l = record {
       let q : Run = after kinds (plain v.code) h.0 first in
       let own : in_store (cells_of y) q ≡ q = in_own (cells_of y) q h.1.cells in
       let can_on : (n : ℕ) → CanGo v kinds (after kinds (plain v.code) n (in_store (cells_of y) q)) = λ n.
-      let k = further kinds (plain v.code) h.0 n first in
-      subst (λ (m : Run). CanGo v kinds m) (k.1 ∙ sym (ap (λ m. after kinds (plain v.code) n m) own)) (can k.0) in
+      subst (λ (m : Run). CanGo v kinds m) (after_both kinds (plain v.code) h.0 n first ∙ sym (ap (λ m. after kinds (plain v.code) n m) own)) (can (both h.0 n)) in
       let w = l.turns v kinds q (g.small few) (g.empty top) h.1.stands can_on in
-      let k = further kinds (plain v.code) h.0 w.0 first in
-      (k.0, subst (λ (m : Run). IsLanded v c (cells_of z) m) (ap (λ m. after kinds (plain v.code) w.0 m) own ∙ sym k.1) w.1);
+      (both h.0 w.0, subst (λ (m : Run). IsLanded v c (cells_of z) m) (ap (λ m. after kinds (plain v.code) w.0 m) own ∙ sym (after_both kinds (plain v.code) h.0 w.0 first)) w.1, λ within.
+          let rises = h.2 within in
+          let more : HasRisen b c (seen kinds (plain v.code) w.0 (in_store (cells_of y) q)) = w.2 (within_after kinds (plain v.code) a b h.0 first rises) in
+          risen_both kinds (plain v.code) a b c h.0 w.0 first rises (subst (λ (m : Run). HasRisen b c (seen kinds (plain v.code) w.0 m)) own more));
 }
 
 -- ---- the start
@@ -257,6 +294,23 @@ is_new v start t code going loads out some cells r h =
     by : (n : ℕ) → (n ≡ 0 → t.ended ≡ Some M.Out) → ((m : ℕ) → n ≡ suc m → (t.ended ≡ None) × (t.left ≡ m)) → state_with t.stack h.first.lent h.first.store ≡ h.first → StandsAt v t (begun h.first n)
     by zero out some state = out refl
     by (suc n) out some state = record { code = code; state = state; going = going; on = (some n refl).0; left = (some n refl).1 }
+
+-- what a new task has seen is the state where it begins
+pub has_begun : (v : Checked) (start : Start) (t : Standing) → IsLoaded v start t.stack → IsFresh t.stack → IsMeasured t.stack → ((size : ℕ) → freed_of t.stack.freed size ≡ 0) → Begins v start t
+has_begun v start t loads fresh measured freed cells r h =
+    let e : state_with t.stack h.first.lent cells ≡ h.first = loads cells r h in
+    let now : state_of r ≡ state_with t.stack h.first.lent cells = ap (λ (q : Run). state_of q) h.run ∙ at_first h.first start.calls ∙ sym e in
+    let fs = ap frames_held now in
+    let ws = ap words_held now in
+    record {
+      frames = fresh.frames ∙ measured.frames ∙ sym fs;
+      words = fresh.words ∙ measured.words ∙ sym ws;
+      freed = freed;
+    }
+  where
+    at_first : (s : State) (n : ℕ) → state_of (begun s n) ≡ s
+    at_first s zero = refl
+    at_first s (suc n) = refl
 
 -- ---- for the answers of a task's steps
 

@@ -1,24 +1,29 @@
 -- Turns of one of many tasks, over one store.
-use Rattle.std.proofs.Common.{◌≡◌, ◌≢◌, ◌⊎◌, inl, inr, ℕ, zero, suc, ◌<◌, List, [], ◌∷◌, ◌++◌, Some, refl, sym, ap, subst, ◌∙◌, length, map, replicate, get_or, length-set, arith}
+use Rattle.std.proofs.Common.{◌≡◌, ◌≢◌, ◌⊎◌, inl, inr, ℕ, zero, suc, ◌<◌, ◌≤◌, ◌^◌, ◌+◌, List, [], ◌∷◌, ◌++◌, Some, refl, sym, ap, subst, ◌∙◌, length, map, replicate, get_or, length-set, arith}
 use Rattle.std.proofs.lemmas.Option.{same_Some, slice_get-map, slice_get_read}
 use Rattle.std.specs.Prelude.{slice_get, slice_set, option_map}
 use Rattle.cell_store.specs.Cells.{Cells}
 use Rattle.cell_store.specs.Made.{Stored}
 use Rattle.code_verify.specs.Checked.{Checked}
 use Rattle.task_semantics.specs.machine_semantics.Codes.{PlainCode, plain}
-use Rattle.task_semantics.specs.machine_semantics.Cells.{Store}
+use Rattle.task_semantics.specs.machine_semantics.Cells.{Store, count_held}
+use Rattle.task_semantics.specs.machine_semantics.Gauges as G
+use Rattle.task_semantics.specs.machine_semantics.States.{frames_held, words_held}
 use Rattle.task_semantics.specs.machine_semantics.Steps.{Kinds}
+use Rattle.task_semantics.proofs.Turns.{goes_on}
 use Rattle.task_semantics.specs.machine_semantics.Runs.{Run, state_of, later, after}
 use Rattle.fip_machine.specs.machine_cells.Small.{IsSmall, store_of}
 use Rattle.task_semantics.specs.Schedules.{Shared, turn, turned, settled, scheduled, in_store}
 use Rattle.fip_tasks.specs.declared.task.Start.{Start}
 use Rattle.fip_tasks.specs.declared.task.Task.{Task}
-use Rattle.fip_tasks.specs.Landing.{standing, cells_of, IsLanded, Lands, Goes, IsNew}
+use Rattle.fip_tasks.specs.Landing.{standing, cells_of, IsLanded, IsWithin, HasRisen, Lands, Goes, IsNew, HasBegun, Begins}
 use Rattle.fip_tasks.specs.Shown.{StandsAt, CanGo, CanTurn, CanFinish, Shows, AreStarted}
 use Rattle.fip_tasks.specs.Turns.{Standing, Turns}
 use Rattle.fip_tasks.specs.Gauged.{HasCounted, HoldsAtStart}
 use Rattle.fip_tasks.proofs.Lists.{at_same, at_other, at_push, map_set, there}
+use Rattle.fip_tasks.specs.Followed.{frames_in, words_in, HasSeen, HaveSeen, HaveFollowed}
 use Rattle.fip_tasks.proofs.Landings.{from_cells, cells_in, own_cells}
+use Rattle.fip_tasks.proofs.Reached.{live_is_held, few_held, last_frames, last_words, frames_on, words_on, released_on, released_few, own_frames, own_words, own_released, other_frames, other_words, other_released}
 use Rattle.fip_language.proofs.Facts.{same_or_not as same_place}
 
 -- ---- places
@@ -140,16 +145,134 @@ turn_shows v kinds ts before behind shared k x t s can at lands =
     subst (λ (c : Store). IsLanded v (standing t) (cells_of behind) (later kinds (plain v.code) (in_store c r.0))) s.store (lands.turn v kinds r.0 s.small s.empty r.2 can_go) in
     shows_landed v kinds ts before behind shared k x t 1 r.0 s at r.1 lands.small lands.empty landed
 
+-- where the task is after as many turns as it takes, and what it saw
+turns_gone : (v : Checked) (kinds : Kinds) (ts : List Task) (before behind : Stored) (shared : Shared) (k : ℕ) (x t : Task) (r : Run) → Shows v (seen ts before) shared → slice_get shared.runs k ≡ Some r → StandsAt v (standing x) r → CanFinish v kinds shared k → Goes (standing x) before (standing t) behind → (n : ℕ) × IsLanded v (standing t) (cells_of behind) (after kinds (plain v.code) n (in_store shared.store r)) × (IsWithin (standing x) r → HasRisen (standing x) (standing t) (G.seen kinds (plain v.code) n (in_store shared.store r)))
+turns_gone v kinds ts before behind shared k x t r s run at can goes =
+    let can_all : (n : ℕ) → CanGo v kinds (after kinds (plain v.code) n (in_store (cells_of before) r)) = λ n.
+    subst (λ (c : Store). CanGo v kinds (after kinds (plain v.code) n (in_store c r))) (sym s.store) (can_go v kinds shared k r run can n) in
+    let h = goes.turns v kinds r s.small s.empty at can_all in
+    (h.0,
+    subst (λ (c : Store). IsLanded v (standing t) (cells_of behind) (after kinds (plain v.code) h.0 (in_store c r))) s.store h.1,
+    λ within. subst (λ (c : Store). HasRisen (standing x) (standing t) (G.seen kinds (plain v.code) h.0 (in_store c r))) s.store (h.2 within))
+
 -- and so with many
 pub turns_show : (v : Checked) (kinds : Kinds) (ts : List Task) (before behind : Stored) (shared : Shared) (k : ℕ) (x t : Task) → Shows v (seen ts before) shared → CanFinish v kinds shared k → slice_get ts k ≡ Some x → Goes (standing x) before (standing t) behind → (n : ℕ) × Shows v (seen (slice_set ts k t) behind) (scheduled kinds (plain v.code) (replicate n k) shared)
 turns_show v kinds ts before behind shared k x t s can at goes =
     let r = run_at v ts before shared k x s at in
-    let can_all : (n : ℕ) → CanGo v kinds (after kinds (plain v.code) n (in_store (cells_of before) r.0)) = λ n.
-    subst (λ (c : Store). CanGo v kinds (after kinds (plain v.code) n (in_store c r.0))) (sym s.store) (can_go v kinds shared k r.0 r.1 can n) in
-    let h = goes.turns v kinds r.0 s.small s.empty r.2 can_all in
-    let landed : IsLanded v (standing t) (cells_of behind) (after kinds (plain v.code) h.0 (in_store shared.store r.0)) =
-    subst (λ (c : Store). IsLanded v (standing t) (cells_of behind) (after kinds (plain v.code) h.0 (in_store c r.0))) s.store h.1 in
-    (h.0, shows_landed v kinds ts before behind shared k x t h.0 r.0 s at r.1 goes.small goes.empty landed)
+    let g = turns_gone v kinds ts before behind shared k x t r.0 s r.1 r.2 can goes in
+    (g.0, shows_landed v kinds ts before behind shared k x t g.0 r.0 s at r.1 goes.small goes.empty g.1)
+
+-- ---- what tasks saw along a schedule
+
+-- task k did so many turns behind a schedule, and what it saw and released
+record HasGone (kinds : Kinds) (code : PlainCode) (first : Shared) (schedule : List ℕ) (k n : ℕ) (a b : Standing) (before behind : Store) (r : Run) : Type 0 where
+  is : slice_get (scheduled kinds code schedule first).runs k ≡ Some r
+  store : before ≡ (scheduled kinds code schedule first).store
+  stored : behind ≡ (scheduled kinds code (replicate n k) (scheduled kinds code schedule first)).store
+  small : IsSmall first.store.cells
+  risen : IsWithin a r → HasRisen a b (G.seen kinds code n (in_store (scheduled kinds code schedule first).store r))
+  counted : HasCounted a before b behind
+
+module _ (kinds : Kinds) (code : PlainCode) (first : Shared) (schedule : List ℕ) where
+  -- the task whose turns they were
+  own_seen : (k n : ℕ) (a b : Standing) (before behind : Store) (r : Run) → HasGone kinds code first schedule k n a b before behind r → HasSeen kinds code first schedule k a → HasSeen kinds code first (schedule ++ replicate n k) k b
+  own_seen k n a b before behind r g old =
+      let now : Shared = scheduled kinds code schedule first in
+      let lf = last_frames kinds code k schedule first in
+      let lw = last_words kinds code k schedule first in
+      let rf = ap frames_in g.is in
+      let rw = ap words_in g.is in
+      let of = old.frames in
+      let ow = old.words in
+      let rise = g.risen (omega (arith, lf, rf, of), omega (arith, lw, rw, ow)) in
+      let bf = rise.frames in
+      let bw = rise.words in
+      let f = frames_on kinds code k schedule (replicate n k) first in
+      let w = words_on kinds code k schedule (replicate n k) first in
+      let hf = own_frames kinds code k n now r g.is in
+      let hw = own_words kinds code k n now r g.is in
+      record {
+        frames = omega (arith, of, bf, f, hf);
+        words = omega (arith, ow, bw, w, hw);
+        freed = λ size some few.
+            let freed = old.freed size some few in
+            let on = released_on kinds code k size schedule (replicate n k) first in
+            let mine = own_released kinds code k n size some now in
+            let all = released_few kinds code k size some schedule first in
+            let most = few_held size first.store in
+            let small = g.small in
+            let x = live_is_held size before.cells before.released ∙ ap (λ (s : Store). count_held size s) g.store in
+            let y = live_is_held size behind.cells behind.released ∙ ap (λ (s : Store). count_held size s) g.stored in
+            let counts = g.counted.counted size some few (omega (arith, freed, all, most, small, x)) in
+            omega (arith, freed, on, mine, x, y, counts);
+      }
+
+  -- another one
+  other_seen : (j k n : ℕ) (a : Standing) → j ≢ k → HasSeen kinds code first schedule j a → HasSeen kinds code first (schedule ++ replicate n k) j a
+  other_seen j k n a h old =
+      let now : Shared = scheduled kinds code schedule first in
+      let lf = last_frames kinds code j schedule first in
+      let lw = last_words kinds code j schedule first in
+      let of = old.frames in
+      let ow = old.words in
+      let f = frames_on kinds code j schedule (replicate n k) first in
+      let w = words_on kinds code j schedule (replicate n k) first in
+      let sf = other_frames kinds code j k n now h in
+      let sw = other_words kinds code j k n now h in
+      record {
+        frames = omega (arith, lf, of, f, sf);
+        words = omega (arith, lw, ow, w, sw);
+        freed = λ size some few.
+            let freed = old.freed size some few in
+            let on = released_on kinds code j size schedule (replicate n k) first in
+            let none = other_released kinds code j k n size now h in
+            omega (arith, freed, on, none);
+      }
+
+  -- all of them
+  all_seen : (ts : List Task) (k n : ℕ) (x t : Task) (before behind : Store) (cells pushed : Stored) (r : Run) → slice_get ts k ≡ Some x → HasGone kinds code first schedule k n (standing x) (standing t) before behind r → HaveSeen kinds code first schedule (seen ts cells) → HaveSeen kinds code first (schedule ++ replicate n k) (seen (slice_set ts k t) pushed)
+  all_seen ts k n x t before behind cells pushed r at g old j c is =
+      let there_at : slice_get (map standing ts) k ≡ Some (standing x) = slice_get-map standing ts k ∙ ap (λ o. option_map standing o) at in
+      elim (same_place j k) [
+        | inl e ↦ (
+            let now : slice_get (slice_set (map standing ts) k (standing t)) j ≡ Some c = ap (λ zs. slice_get zs j) (sym (map_set standing ts k t)) ∙ is in
+            let own : standing t ≡ c = same_Some (standing t) c (sym (at_same (map standing ts) k (standing x) (standing t) there_at) ∙ ap (slice_get (slice_set (map standing ts) k (standing t))) (sym e) ∙ now) in
+            let s : HasSeen kinds code first (schedule ++ replicate n k) k (standing t) = own_seen k n (standing x) (standing t) before behind r g (old k (standing x) there_at) in
+            subst (λ i. HasSeen kinds code first (schedule ++ replicate n k) i c) (sym e) (subst (λ (z : Standing). HasSeen kinds code first (schedule ++ replicate n k) k z) own s))
+        | inr m ↦ other_seen j k n c m (old j c (sym (others_at ts k j t m) ∙ is))
+      ]
+
+-- the task did so many turns of its own, behind a schedule that the tasks have followed
+pub followed_landed : (v : Checked) (kinds : Kinds) (first : Shared) (schedule : List ℕ) (ts : List Task) (before behind : Stored) (k : ℕ) (x t : Task) (n : ℕ) (r : Run) → HaveFollowed v kinds first schedule (seen ts before) → slice_get ts k ≡ Some x → slice_get (scheduled kinds (plain v.code) schedule first).runs k ≡ Some r → HasCounted (standing x) (cells_of before) (standing t) (cells_of behind) → (IsWithin (standing x) r → HasRisen (standing x) (standing t) (G.seen kinds (plain v.code) n (in_store (scheduled kinds (plain v.code) schedule first).store r))) → Shows v (seen (slice_set ts k t) behind) (scheduled kinds (plain v.code) (replicate n k) (scheduled kinds (plain v.code) schedule first)) → HaveFollowed v kinds first (schedule ++ replicate n k) (seen (slice_set ts k t) behind)
+followed_landed v kinds first schedule ts before behind k x t n r h at run counted risen shows = record {
+  small = h.small;
+  shows = subst (λ (s : Shared). Shows v (seen (slice_set ts k t) behind) s) (sym (goes_on kinds (plain v.code) schedule (replicate n k) first)) shows;
+  seen = all_seen kinds (plain v.code) first schedule ts k n x t (cells_of before) (cells_of behind) before behind r at (record {
+    is = run;
+    store = h.shows.store;
+    stored = shows.store;
+    small = h.small;
+    risen = risen;
+    counted = counted;
+  }) h.seen;
+}
+
+pub turn_followed : (v : Checked) (kinds : Kinds) (first : Shared) (schedule : List ℕ) (ts : List Task) (before behind : Stored) (k : ℕ) (x t : Task) → HaveFollowed v kinds first schedule (seen ts before) → CanTurn v kinds (scheduled kinds (plain v.code) schedule first) k → slice_get ts k ≡ Some x → Lands (standing x) before (standing t) behind → HaveFollowed v kinds first (schedule ++ k ∷ []) (seen (slice_set ts k t) behind)
+turn_followed v kinds first schedule ts before behind k x t h can at lands =
+    let shared : Shared = scheduled kinds (plain v.code) schedule first in
+    let r = run_at v ts before shared k x h.shows at in
+    let can_go : CanGo v kinds (in_store (cells_of before) r.0) = subst (λ (c : Store). CanGo v kinds (in_store c r.0)) (sym h.shows.store) (can r.0 r.1) in
+    followed_landed v kinds first schedule ts before behind k x t 1 r.0 h at r.1 lands.counted
+    (λ within. subst (λ (c : Store). HasRisen (standing x) (standing t) (G.seen kinds (plain v.code) 1 (in_store c r.0))) h.shows.store (lands.risen v kinds r.0 h.shows.small h.shows.empty r.2 can_go within))
+    (turn_shows v kinds ts before behind shared k x t h.shows can at lands)
+
+pub turns_followed : (v : Checked) (kinds : Kinds) (first : Shared) (schedule : List ℕ) (ts : List Task) (before behind : Stored) (k : ℕ) (x t : Task) → HaveFollowed v kinds first schedule (seen ts before) → CanFinish v kinds (scheduled kinds (plain v.code) schedule first) k → slice_get ts k ≡ Some x → Goes (standing x) before (standing t) behind → (n : ℕ) × HaveFollowed v kinds first (schedule ++ replicate n k) (seen (slice_set ts k t) behind)
+turns_followed v kinds first schedule ts before behind k x t h can at goes =
+    let shared : Shared = scheduled kinds (plain v.code) schedule first in
+    let r = run_at v ts before shared k x h.shows at in
+    let g = turns_gone v kinds ts before behind shared k x t r.0 h.shows r.1 r.2 can goes in
+    (g.0, followed_landed v kinds first schedule ts before behind k x t g.0 r.0 h at r.1 goes.counted g.2
+    (shows_landed v kinds ts before behind shared k x t g.0 r.0 h.shows at r.1 goes.small goes.empty g.1))
 
 -- ---- for the answers of the start
 
@@ -194,4 +317,34 @@ new_shows v starts ts cells first shared are number same small empty h = record 
       let t = there (map standing ts) ts k a (map_length ts) is in
       let own : standing t.0 ≡ a = same_Some (standing t.0) a (sym (ap (λ o. option_map standing o) t.1) ∙ sym (slice_get-map standing ts k) ∙ is) in
       subst (λ (z : Standing). StandsAt v z r) own (are k b.0 t.0 b.1 t.1 first r (h.runs k b.0 r b.1 on));
+}
+
+-- each of them has seen the state where its function is loaded
+abbrev pub AreBegun : Checked → List Start → List Task → Type 0
+AreBegun v starts ts = (k : ℕ) (b : Start) (t : Task) → slice_get starts k ≡ Some b → slice_get ts k ≡ Some t → Begins v b (standing t)
+
+pub begun_more : (v : Checked) (starts : List Start) (ts : List Task) (b : Start) (t : Task) → slice_get starts (length ts) ≡ Some b → AreBegun v starts ts → Begins v b (standing t) → AreBegun v starts (ts ++ t ∷ [])
+begun_more v starts ts b t at are new k a u is here = elim (at_push ts t k u here) [
+  | inl h ↦ are k a u is h
+  | inr h ↦ (
+      let start : b ≡ a = same_Some b a (sym at ∙ ap (slice_get starts) (sym h.0) ∙ is) in
+      subst (λ (z : Start). Begins v z (standing u)) start (subst (λ (z : Task). Begins v b (standing z)) (sym h.1) new))
+]
+
+-- new tasks have followed no turn
+pub new_followed : (v : Checked) (kinds : Kinds) (starts : List Start) (ts : List Task) (cells : Stored) (first : Store) (shared : Shared) → AreNew v starts ts → AreBegun v starts ts → length ts ≡ length starts → store_of cells.cells cells.released ≡ first → IsSmall first.cells → cells.pushed ≡ [] → AreStarted v first starts shared → HaveFollowed v kinds shared [] (seen ts cells)
+new_followed v kinds starts ts cells first shared are begun number same small empty h = record {
+  small = subst (λ (s : Store). IsSmall s.cells) (sym h.store) small;
+  shows = new_shows v starts ts cells first shared are number same small empty h;
+  seen = λ k a is.
+      let t = there (map standing ts) ts k a (map_length ts) is in
+      let b = there ts starts k t.0 number t.1 in
+      let r = there ts shared.runs k t.0 (number ∙ sym h.number) t.1 in
+      let own : standing t.0 ≡ a = was_set ts k t.0 a t.1 is in
+      let g : HasBegun a r.0 = subst (λ (z : Standing). HasBegun z r.0) own (begun k b.0 t.0 b.1 t.1 first r.0 (h.runs k b.0 r.0 b.1 r.1)) in
+      record {
+        frames = g.frames ∙ sym (ap frames_in r.1);
+        words = g.words ∙ sym (ap words_in r.1);
+        freed = λ size some few. g.freed size;
+      };
 }

@@ -2,6 +2,7 @@ pub mod Turns
 pub mod Gauged
 pub mod Shown
 pub mod Landing
+pub mod Followed
 pub use Rattle.fip_machine.specs.cell_code as cell_code
 pub use Rattle.code_verify.specs as code_verify
 pub use Rattle.fip_base.specs as fip_base

@@ -12,7 +12,7 @@ ghost use Rattle.store_trees.specs.Added.{places_of};
 ghost use Rattle.store_trees.specs.declared.trees.TheConstants.{MOST_CELLS};
 ghost use Rattle.fip_machine.specs.machine_cells.Counting.{CountsOne};
 ghost use Rattle.fip_tasks.specs.Gauged.{IsGaugeOf, left_of, AddsCells, HoldsAtStart, sized};
-ghost use Rattle.fip_tasks.specs.Landing.{standing, end_by, Lands, Goes, IsNew};
+ghost use Rattle.fip_tasks.specs.Landing.{standing, end_by, Lands, Goes, IsNew, Begins};
 
 use cell_store::{Cells, Sealed};
 use code_verify::Verified;
@@ -199,10 +199,12 @@ impl<'a> Task<'a> {
         requires can { CanStart verified.now start.now }
         ensures new { IfOk result (λ t. IsNew verified.now start.now (standing t)) }
         ensures held { IfOk result (λ t. HoldsAtStart verified.now cells.now.cells start.now t.started) }
+        ensures begins { IfOk result (λ t. Begins verified.now start.now (standing t)) }
     {
         let held = held_at_start(alloc, verified, cells, start)?;
         let words = start.words.copy(alloc)?.into_vec();
         let stack = TaskStack::start(alloc, verified, start.entry, words, start.frames)?;
+        let _frames = stack.frames();
         let ended = if start.calls == 0 {
             Some(Ended::Out)
         } else {

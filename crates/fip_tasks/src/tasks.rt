@@ -1,10 +1,11 @@
 // Tasks in one store.
-ghost use Rattle.std.specs.Prelude.{◌≡◌, ◌≢◌, ℕ, ◌<◌, length, IfOk, All, Some, slice_get, replicate};
+ghost use Rattle.std.specs.Prelude.{◌≡◌, ◌≢◌, ℕ, ◌<◌, List, [], ◌∷◌, ◌++◌, length, IfOk, All, Some, slice_get, replicate};
 ghost use Rattle.task_semantics.specs.machine_semantics.Codes.{plain};
 ghost use Rattle.task_semantics.specs.machine_semantics.Steps.{Kinds};
 ghost use Rattle.code_verify.specs.Checked.{Checked};
 ghost use Rattle.fip_machine.specs.machine_cells.Small.{store_of};
 ghost use Rattle.task_semantics.specs.Schedules.{Shared, turn, scheduled};
+ghost use Rattle.fip_tasks.specs.Followed.{HaveFollowed};
 ghost use Rattle.fip_tasks.specs.Gauged.{HasCounted, HoldsAtStart, IsGaugeOf};
 ghost use Rattle.fip_tasks.specs.Turns.{CanStart, Standing};
 ghost use Rattle.fip_tasks.specs.Shown.{Shows, CanTurn, CanFinish, AreStarted, turned_by};
@@ -54,6 +55,9 @@ impl<'a> Tasks<'a> {
         // They stand where the functions are loaded, each with its words.
         ensures first { IfOk result (λ t. (shared : Shared) → AreStarted verified.now
             (store_of loader.cells loader.released) starts.now shared → Shows verified.now t shared) }
+        // They have followed a schedule without a turn.
+        ensures followed { IfOk result (λ t. (kinds : Kinds) (first : Shared) → AreStarted verified.now
+            (store_of loader.cells loader.released) starts.now first → HaveFollowed verified.now kinds first [] t) }
         // At its start each holds the cells of its arguments and credits.
         ensures started { IfOk result (λ t. (k : ℕ) (b : Start) (a : Standing) → slice_get starts.now k ≡ Some b →
             slice_get t.tasks k ≡ Some a → HoldsAtStart verified.now loader.cells b a.started) }
@@ -82,6 +86,11 @@ impl<'a> Tasks<'a> {
         // Tasks that stand where the runs of a schedule do stand where they do after one turn more,
         ensures turn { (v : Checked) (kinds : Kinds) (shared : Shared) → Shows v self.old shared →
             CanTurn v kinds shared k → Shows v self.new (turn kinds (plain v.code) shared k) }
+        // and those that followed a schedule have followed one with this turn more,
+        ensures followed { (v : Checked) (kinds : Kinds) (first : Shared) (schedule : List ℕ) →
+            HaveFollowed v kinds first schedule self.old →
+            CanTurn v kinds (scheduled kinds (plain v.code) schedule first) k →
+            HaveFollowed v kinds first (schedule ++ k ∷ []) self.new }
         // what its turn released is counted, for its gauge, and the others stay as they are,
         ensures counted { (a b : Standing) → slice_get self.old.tasks k ≡ Some a → slice_get self.new.tasks k ≡ Some b →
             HasCounted a self.old.store b self.new.store }
@@ -100,6 +109,11 @@ impl<'a> Tasks<'a> {
         ensures turns { (v : Checked) (kinds : Kinds) (shared : Shared) → Shows v self.old shared →
             CanFinish v kinds shared k →
             (n : ℕ) × Shows v self.new (scheduled kinds (plain v.code) (replicate n k) shared) }
+        // and those that followed a schedule have followed one with these turns more,
+        ensures followed { (v : Checked) (kinds : Kinds) (first : Shared) (schedule : List ℕ) →
+            HaveFollowed v kinds first schedule self.old →
+            CanFinish v kinds (scheduled kinds (plain v.code) schedule first) k →
+            (n : ℕ) × HaveFollowed v kinds first (schedule ++ replicate n k) self.new }
         // what they released is counted, and the others stay as they are,
         ensures counted { (a b : Standing) → slice_get self.old.tasks k ≡ Some a → slice_get self.new.tasks k ≡ Some b →
             HasCounted a self.old.store b self.new.store }

@@ -2,4 +2,5 @@
 #![tactic(auto)]
 
 pub mod answer_theorems;
+pub mod gauge_theorems;
 pub mod turn_theorems;

@@ -20,7 +20,7 @@ returns-in-Went-clause-lands c =
     let t = c.step-stepped.ensures in
     let new : Standing = record { stack = c.step-stepped.new.self; left = old.left; started = old.started; ended = old.ended } in
     let fits : Fits c.step-stepped.result old.left new = subst (λ (q : Stepped). Fits q old.left new) (sym c.in-Went.is) (on, refl) in
-    step_lands old new c.args.cells.now c.step-stepped.new.cells c.step-stepped.result on none t.code t.small t.pushed t.ends fits t.next (record { started = refl; counted = t.counted })
+    step_lands old new c.args.cells.now c.step-stepped.new.cells c.step-stepped.result on none t.code t.small t.pushed t.ends fits t.next t.measured t.raised (record { started = refl; counted = t.counted })
 
 pub returns-in-Entered-clause-lands : goal.returns-in-Entered-clause-lands
 returns-in-Entered-clause-lands c =
@@ -34,7 +34,7 @@ returns-in-Entered-clause-lands c =
     let new : Standing = record { stack = c.step-stepped.new.self; left = old.left - 1; started = old.started; ended = old.ended } in
     let some : 0 < old.left = c.if-self-gt0.true in
     let fits : Fits c.step-stepped.result old.left new = subst (λ (q : Stepped). Fits q old.left new) (sym c.in-Entered.is) (entered_fits old.left new some on refl) in
-    step_lands old new c.args.cells.now c.step-stepped.new.cells c.step-stepped.result on none t.code t.small t.pushed t.ends fits t.next (record { started = refl; counted = t.counted })
+    step_lands old new c.args.cells.now c.step-stepped.new.cells c.step-stepped.result on none t.code t.small t.pushed t.ends fits t.next t.measured t.raised (record { started = refl; counted = t.counted })
 
 pub returns-clause-lands : goal.returns-clause-lands
 returns-clause-lands c =
@@ -52,4 +52,4 @@ returns-clause-lands c =
       | in-Trap w ↦ subst (λ (q : Stepped). Fits q old.left new) (sym w.in-Trap.is) (ap (λ (e : Ended). Some e) w.ended-is)
       | in-Deep w ↦ subst (λ (q : Stepped). Fits q old.left new) (sym w.in-Deep.is) (ap (λ (e : Ended). Some e) w.ended-is)
     ] in
-    step_lands old new c.args.cells.now c.step-stepped.new.cells c.step-stepped.result on none t.code t.small t.pushed t.ends fits t.next (record { started = refl; counted = t.counted })
+    step_lands old new c.args.cells.now c.step-stepped.new.cells c.step-stepped.result on none t.code t.small t.pushed t.ends fits t.next t.measured t.raised (record { started = refl; counted = t.counted })

@@ -4,7 +4,7 @@ use Rattle.fip_machine.specs.declared.machine.Ended.TheVariants as M
 use Rattle.task_semantics.specs.machine_semantics.Codes.{plain}
 use Rattle.task_semantics.specs.machine_semantics.Runs.{loaded}
 use Rattle.fip_tasks.specs.Turns.{Standing}
-use Rattle.fip_tasks.proofs.Landings.{IsLoaded, is_new}
+use Rattle.fip_tasks.proofs.Landings.{IsLoaded, is_new, has_begun}
 use Rattle.fip_tasks.proofs.task.Task.new.Goals.{then-start-eq0, else-start-eq0}
 use Rattle.fip_tasks.proofs.task.Task.new.Goals as goal
 
@@ -26,4 +26,4 @@ returns c =
       | else-start-eq0 w ↦ w.ended-is
     ] in
     let left : (n : ℕ) → start.calls ≡ suc n → t.left ≡ n = λ n z. (let f = c.saturating_sub.ensures in omega (arith, f, z)) in
-    record { held = c.in_ok-held.ensures.held; new = is_new v start t c.in_ok-stack.ensures.code c.in_ok-stack.ensures.going loads out (λ n z. (on n z, left n z)) }
+    record { held = c.in_ok-held.ensures.held; new = is_new v start t c.in_ok-stack.ensures.code c.in_ok-stack.ensures.going loads out (λ n z. (on n z, left n z)); begins = has_begun v start t loads c.in_ok-stack.ensures.fresh c.frames-frames.ensures.measured c.in_ok-stack.ensures.freed }

@@ -7,7 +7,7 @@ use Rattle.fip_machine.specs.machine_cells.Small.{IsSmall, store_of}
 use Rattle.fip_tasks.specs.declared.task.Task.{Task}
 use Rattle.cell_store.specs.Cells.{Cells}
 use Rattle.fip_tasks.specs.Gauged.{HoldsAtStart}
-use Rattle.fip_tasks.proofs.Turning.{AreNew, new_more, new_shows, AreHeld, held_more, held_seen}
+use Rattle.fip_tasks.proofs.Turning.{AreNew, new_more, new_shows, AreHeld, held_more, held_seen, AreBegun, begun_more, new_followed}
 use Rattle.fip_tasks.proofs.tasks.Tasks.new.Goals as goal
 
 pub loop-start-preserved : goal.loop-start-preserved
@@ -23,6 +23,7 @@ loop-start-preserved c =
     record {
       number = (let e = ap length c.in_ok-push.ensures.items in let f = length-append old (task ∷ []) in let n = c.loop-start.invariant.number in omega (arith, e, f, n));
       each = subst (λ (ts : List Task). AreNew v starts ts) (sym c.in_ok-push.ensures.items) are;
+      begun = subst (λ (ts : List Task). AreBegun v starts ts) (sym c.in_ok-push.ensures.items) (begun_more v starts old c.start-item.result task at c.loop-start.invariant.begun c.in_ok-new.ensures.begins);
       held = subst (λ (ts : List Task). AreHeld v c.args.loader.cells starts ts) (sym c.in_ok-push.ensures.items) held;
     }
 
@@ -35,6 +36,16 @@ returns-clause-first c shared started =
     let small : IsSmall first.cells = omega (arith, few) in
     let number : length c.loop-start.tasks.items ≡ length c.args.starts.now = (let n = c.loop-start.invariant.number in let m = c.loop-start.auto.start-index-end in let f = c.loop-start-test.false in omega (arith, n, m, f)) in
     new_shows c.args.verified.now c.args.starts.now c.loop-start.tasks.items cells first shared c.loop-start.invariant.each number same small c.seal-cells.ensures.pushed started
+
+pub returns-clause-followed : goal.returns-clause-followed
+returns-clause-followed c kinds shared started =
+    let cells = c.seal-cells.result in
+    let first : Store = store_of c.args.loader.cells c.args.loader.released in
+    let same : store_of cells.cells cells.released ≡ first = λ i. store_of (c.seal-cells.ensures.cells i) (c.seal-cells.ensures.released i) in
+    let few = c.left-left.ensures.few in
+    let small : IsSmall first.cells = omega (arith, few) in
+    let number : length c.loop-start.tasks.items ≡ length c.args.starts.now = (let n = c.loop-start.invariant.number in let m = c.loop-start.auto.start-index-end in let f = c.loop-start-test.false in omega (arith, n, m, f)) in
+    new_followed c.args.verified.now kinds c.args.starts.now c.loop-start.tasks.items cells first shared c.loop-start.invariant.each c.loop-start.invariant.begun number same small c.seal-cells.ensures.pushed started
 
 pub returns-clause-started : goal.returns-clause-started
 returns-clause-started c k b a at is = held_seen c.args.verified.now c.args.loader.cells c.args.starts.now c.loop-start.tasks.items k b a c.loop-start.invariant.held at is

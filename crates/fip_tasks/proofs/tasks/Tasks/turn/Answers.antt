@@ -4,8 +4,9 @@ use Rattle.std.specs.Prelude.{slice_get}
 use Rattle.fip_tasks.specs.Turns.{Standing, Turns}
 use Rattle.fip_tasks.specs.Gauged.{HasCounted}
 use Rattle.fip_tasks.specs.Landing.{cells_of}
+use Rattle.fip_tasks.specs.Followed.{HaveFollowed}
 use Rattle.fip_tasks.specs.Shown.{Shows, turned_by}
-use Rattle.fip_tasks.proofs.Turning.{turn_shows, is_set, within, read_at, seen, counts_at, others_at}
+use Rattle.fip_tasks.proofs.Turning.{turn_shows, is_set, within, read_at, seen, counts_at, others_at, turn_followed}
 use Rattle.fip_tasks.proofs.tasks.Tasks.turn.Goals as goal
 
 pub returns-clause-turn : goal.returns-clause-turn
@@ -15,6 +16,14 @@ returns-clause-turn c v kinds shared shows can =
     let s : Shows v (seen ts before) shared = subst (λ (t : Turns). Shows v t shared) (sym c.self.view_is) shows in
     let there : c.args.k < length ts = within ts c.args.k (subst (λ (t : Turns). c.args.k < length t.tasks) (sym c.self.view_is) c.requires.there) in
     turn_shows v kinds ts before c.turn.new.cells shared c.args.k c.index_mut.result.now c.turn.new.self s can (read_at ts c.args.k c.index_mut.result.now there c.index_mut.ensures.value) c.turn.ensures.lands
+
+pub returns-clause-followed : goal.returns-clause-followed
+returns-clause-followed c v kinds first schedule followed can =
+    let ts = c.self.inside.tasks.items in
+    let before = c.self.inside.cells in
+    let h : HaveFollowed v kinds first schedule (seen ts before) = subst (λ (t : Turns). HaveFollowed v kinds first schedule t) (sym c.self.view_is) followed in
+    let there : c.args.k < length ts = within ts c.args.k (subst (λ (t : Turns). c.args.k < length t.tasks) (sym c.self.view_is) c.requires.there) in
+    turn_followed v kinds first schedule ts before c.turn.new.cells c.args.k c.index_mut.result.now c.turn.new.self h can (read_at ts c.args.k c.index_mut.result.now there c.index_mut.ensures.value) c.turn.ensures.lands
 
 pub returns-clause-told : goal.returns-clause-told
 returns-clause-told c a is =

@@ -9,10 +9,10 @@
 #define FIP_ARENA_BYTES ((size_t)1 << 20)
 #endif
 
-/* 16 bytes. The first ones of a block have its size in such units, these among them, and whether it is free. */
+/* 16 bytes. The first ones of a block have its size in such units, these among them, and whether it is used. */
 struct unit {
     _Alignas(16) size_t size;
-    size_t is_free;
+    size_t is_used;
 };
 
 /* A block, or none; `at` is never null. */
@@ -22,55 +22,33 @@ struct tried {
 };
 
 static struct unit arena[FIP_ARENA_BYTES / sizeof(struct unit)];
-static const size_t all = sizeof arena / sizeof arena[0];
-static size_t end, peak, requests;
+static size_t peak, requests;
 static bool is_closed;
 
 void *memcpy(void *to, const void *from, size_t size);
 
-static size_t units(size_t size) {
-    return size / sizeof arena[0] + (size % sizeof arena[0] != 0) + 1;
-}
-
-/* The block becomes so large, in place or at the end of all blocks. */
-static struct tried give(size_t at, size_t size) {
-    if (at + size >= end) end = at + size;
-    else if (arena[at].size > size) arena[at + size] = (struct unit){arena[at].size - size, true};
-    arena[at] = (struct unit){size, false};
-    if (end > peak) peak = end;
-    return (struct tried){true, arena + at + 1};
-}
-
-/* The size of a block that is free, with the free ones behind it. */
-static size_t joined(size_t at) {
-    for (size_t next = at + arena[at].size; next < end && arena[next].is_free; next = at + arena[at].size) {
-        arena[at].size += arena[next].size;
-    }
-    return arena[at].size;
-}
-
 struct tried rattle_alloc(size_t size, size_t alignment) {
-    size_t at = 0, wanted = units(size);
+    const size_t all = sizeof arena / sizeof arena[0], wanted = (size + 2 * sizeof arena[0] - 1) / sizeof arena[0];
     (void)alignment;
     requests++;
-    while (at < end && !(arena[at].is_free && joined(at) >= wanted)) at += arena[at].size;
-    if (is_closed || wanted > all - at) return (struct tried){false, arena};
-    return give(at, wanted);
+    if (arena[0].size == 0) arena[0].size = all;
+    for (size_t at = 0; !is_closed && at < all; at += arena[at].size) {
+        struct unit *block = arena + at;
+        while (!block->is_used && at + block->size < all && !block[block->size].is_used) block->size += block[block->size].size;
+        if (block->is_used || block->size < wanted) continue;
+        if (block->size > wanted) block[wanted] = (struct unit){block->size - wanted, false};
+        *block = (struct unit){wanted, true};
+        if (at + wanted > peak) peak = at + wanted;
+        return (struct tried){true, block + 1};
+    }
+    return (struct tried){false, arena};
 }
 
 void rattle_dealloc(void *block) {
-    size_t at = (size_t)((struct unit *)block - arena) - 1;
-    arena[at].is_free = true;
-    if (at + joined(at) == end) end = at;
+    ((struct unit *)block - 1)->is_used = false;
 }
 
 struct tried rattle_realloc(void *block, size_t kept, size_t size, size_t alignment) {
-    size_t at = (size_t)((struct unit *)block - arena) - 1, wanted = units(size);
-    bool is_last = at + arena[at].size == end;
-    if (wanted <= arena[at].size || (is_last && !is_closed && wanted <= all - at)) {
-        requests++;
-        return give(at, wanted);
-    }
     struct tried found = rattle_alloc(size, alignment);
     if (found.ok) {
         memcpy(found.at, block, kept < size ? kept : size);

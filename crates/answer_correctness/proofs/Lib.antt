@@ -3,6 +3,7 @@ mod Coming
 mod EmptySource
 mod Examples
 mod Joined
+mod LongCodes
 mod MeantRuns
 mod OneAnswer
 mod Refused
@@ -11,5 +12,9 @@ mod SomeAnswer
 mod SomeRun
 mod SomeEnd
 mod SomeSource
+mod SomeTalk
+mod SomeTurns
+mod SomeVerdict
 mod TracedRuns
 mod WholeExample
+mod WholeAnswers

@@ -1,28 +1,36 @@
 -- A command on a source that is there has an end, where the source is refused or has what the command wants.
-use Rattle.std.proofs.Common.{◌≡◌, ◌≤◌, ◌<◌, inl, inr, ℕ, List, Some, length, refl, sym, subst}
+use Rattle.std.proofs.Common.{◌≡◌, ◌∙◌, ◌≤◌, ◌<◌, inl, inr, ℕ, List, Some, length, refl, sym, subst}
 use Rattle.std.specs.Prelude.{◌⊎◌, Ok, Err}
 use Rattle.std.proofs.lemmas.Option.{same_Some}
 use Rattle.command_answers.proofs.command_library.fip_language.Search.{le_or_less}
 use Rattle.command_answers.specs.fip_outside.Files.{File, file_of}
 use Rattle.command_answers.specs.command_library.fip_language.declared.limits.TheConstants.{MOST_FILE_BYTES}
-use Rattle.command_answers.specs.command_library.fip_language.declared.rule.Rule.TheVariants.{E74}
+use Rattle.command_answers.specs.command_library.fip_language.declared.rule.Rule.TheVariants.{E61, E74}
 use Rattle.command_answers.specs.command_library.fip_base.declared.refusal.Refusal.{Refusal as a_refusal}
-use Rattle.worked_examples.specs.source_report.Report.{bare}
+use Rattle.worked_examples.specs.code_file.Plain.{PlainCode}
+use Rattle.worked_examples.specs.fip_trees.Tree.{Program}
+use Rattle.worked_examples.specs.source_report.Report.{bare, IsMatched}
 use Rattle.command_answers.specs.command_library.command_words.Words.{Command, Check, Compile, Verify, Upgrade, Exec, Run, Eval, Trace, Session, Tasks, Derive, Audit, Replay, Library, Gen}
-use Rattle.command_answers.specs.command_library.command_words.Words.{IsTextName}
+use Rattle.command_answers.specs.command_library.command_words.Words.{Room, IsTextName}
 use Rattle.command_answers.specs.command_library.command_outcome.Successes.{derived_text}
 use Rattle.command_answers.specs.command_library.command_outcome.declared.failure.Failure.TheVariants as F
 use Rattle.command_answers.specs.command_library.command_source.Derived.{IsDerivedFile, IsUnderived}
+use Rattle.command_answers.specs.command_library.command_source.Judged.{IsEarlyReport}
 use Rattle.command_answers.specs.command_library.command_source.Wanted.{Wanted, Lawful, Root, Compiled, Refuses, IsReady}
 use Rattle.command_answers.specs.command_library.GenAnswer.{tree_source, build}
-use Rattle.command_answers.specs.Answer.{ComesTo}
+use Rattle.command_answers.specs.Answer.{ComesTo, OnFound}
 use Rattle.command_answers.specs.Asks.{ReadsInput, fetched_name, wanted}
+use Rattle.command_answers.specs.CodeOf.{IsSourceCode, IsSourceFile}
+use Rattle.command_answers.proofs.SourceCode.{coded_ready}
 use Rattle.command_answers.specs.Ends as A
 use Rattle.command_answers.specs.Ends.{Does, OnSource, Derives}
 use Rattle.command_answers.specs.Exec.{End}
 use Rattle.command_answers.specs.Generating as G
 use Rattle.answer_correctness.specs.Certain.{IsCertain}
 use Rattle.answer_correctness.proofs.Coming.{of_source}
+use Rattle.answer_correctness.proofs.SomeTalk.{some_replies}
+use Rattle.answer_correctness.proofs.SomeTurns.{some_turns}
+use Rattle.answer_correctness.proofs.SomeVerdict.{some_audit}
 use Rattle.answer_correctness.proofs.SomeSource.{evaluated, executed, listed, derivable, named_text, generated}
 
 -- ---- on a source that has what is wanted
@@ -89,3 +97,32 @@ some_text files input name h = let t = named_text name h in (Ok t.0, t.1)
 pub some_tree : (files : List File) (input : List ℕ) (seed count : ℕ) → ((r : a_refusal) × Refuses tree_source (Compiled build) r) ⊎ IsReady tree_source (Compiled build) → (e : End) × ComesTo files input (Gen seed count) e
 some_tree files input seed count (inl (r, h)) = (Err (F.Refused r), G.Refused r h)
 some_tree files input seed count (inr h) = generated seed count h
+
+-- ---- where no end is shown, but that there is one
+
+pub never_without : (files : List File) (source input name : List ℕ) (c : Command) → fetched_name c ≡ Some name → wanted c ≡ Some Lawful → file_of name files ≡ Some source → ReadsInput c → ((r : a_refusal) × Refuses source Lawful r) ⊎ IsReady source Lawful → (IsReady source Lawful → ((e : End) → Does source input c e → ⊥) → ⊥) → ((e : End) → ComesTo files input c e → ⊥) → ⊥
+never_without files source input name c names asks there reads (inl (r, h)) some none = none (Err (F.Refused r)) (of_source files source input name c Lawful (Err (F.Refused r)) names asks there (A.Refused r h))
+never_without files source input name c names asks there reads (inr h) some none = elim (le_or_less (length input) MOST_FILE_BYTES) as (λ v. ⊥) [
+  | inl short ↦ some h (λ e d. none e (of_source files source input name c Lawful e names asks there (A.Ready e h (λ r. short) d)))
+  | inr long ↦ none (Err (F.BadInput MOST_FILE_BYTES)) (of_source files source input name c Lawful (Err (F.BadInput MOST_FILE_BYTES)) names asks there (A.LongInput h reads long))
+]
+
+pub session_ends : (files : List File) (source input file : List ℕ) (room : Room) → file_of file files ≡ Some source → ((r : a_refusal) × Refuses source Lawful r) ⊎ IsReady source Lawful → ((e : End) → ComesTo files input (Session file room) e → ⊥) → ⊥
+session_ends files source input file room there is = never_without files source input file (Session file room) refl refl there tt is (λ ready none. some_replies source input room ready none)
+
+pub tasks_end : (files : List File) (source input file : List ℕ) (seed turns : ℕ) (room : Room) → file_of file files ≡ Some source → ((r : a_refusal) × Refuses source Lawful r) ⊎ IsReady source Lawful → ((e : End) → ComesTo files input (Tasks file seed turns room) e → ⊥) → ⊥
+tasks_end files source input file seed turns room there is = never_without files source input file (Tasks file seed turns room) refl refl there tt is (λ ready none. some_turns source input room ready none)
+
+pub audit_ends : (files : List File) (source input file proof : List ℕ) → file_of file files ≡ Some source → ((p : Program) × IsMatched source p) ⊎ ((r : a_refusal) × IsEarlyReport source r) → ((e : End) → ComesTo files input (Audit file proof) e → ⊥) → ⊥
+audit_ends files source input file proof there is none = some_audit source (file_of proof files) is (λ e h. none e (subst (λ o. OnFound files input (Audit file proof) o e) (sym there) h))
+
+-- ---- `compile`, where there is a code
+
+pub compile_ends : (source : List ℕ) (code : PlainCode) → IsSourceCode source code → ((text file : List ℕ) × A.Compiles source (Ok text) × IsSourceFile source file) ⊎ A.Compiles source (Err (F.Refused (bare E61)))
+compile_ends source code h = elim (le_or_less (length file) MOST_FILE_BYTES) [
+  | inl short ↦ let l = listed source (coded_ready source code h) in inl (l.0, file, l.1, record { code = code; of' = h; spelt = h.is.spelt.1; short = short })
+  | inr long ↦ inr ((code, h, λ other text. subst (λ (xs : List ℕ). MOST_FILE_BYTES < length xs) (same_Some file other (sym h.is.spelt.1 ∙ text)) long), refl)
+]
+  where
+    file : List ℕ
+    file = h.is.spelt.0

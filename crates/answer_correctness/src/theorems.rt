@@ -1,5 +1,5 @@
 // The laws of answers. Each is the contract of a function that does nothing.
-ghost use Rattle.std.specs.Prelude.{◌≡◌, ◌≢◌, ◌<◌, ◌⊎◌, ℕ, Bool, pos, true, List, [], ◌∷◌, ◌++◌, Some, None, Ok, Err, codes};
+ghost use Rattle.std.specs.Prelude.{◌≡◌, ◌≢◌, ◌<◌, ◌≤◌, ◌⊎◌, ℕ, Bool, pos, true, List, [], ◌∷◌, ◌++◌, Some, None, Ok, Err, codes};
 ghost use Rattle.std.specs.Prelude.{length, slice_get};
 ghost use Rattle.std.specs.Fmt.{decimal};
 ghost use Rattle.command_answers.specs.fip_outside.Files.{File};
@@ -32,7 +32,8 @@ ghost use Rattle.command_answers.specs.command_library.command_source.Wanted.{Wa
 ghost use Rattle.command_answers.specs.command_source.derivation_making.Weakening.{IsLean};
 ghost use Rattle.command_answers.specs.command_library.MadeTree.{keys_line, pads_line, lines_of_tree};
 ghost use Rattle.command_answers.specs.Answer.{Answered, Host, IsAnswer, IsNoCommand};
-ghost use Rattle.command_answers.specs.CodeOf.{IsCodeOf, IsLoaded, IsSourceFile};
+ghost use Rattle.command_answers.specs.CodeOf.{HasLongCode, IsCodeOf, IsLoaded, IsSourceFile};
+ghost use Rattle.compile_correctness.specs.code_bytes.Bytes.{most_bytes};
 ghost use Rattle.command_answers.specs.Ends.{OnSource};
 ghost use Rattle.command_answers.specs.Exec.{End as an_end, Execs, TellsAll};
 ghost use Rattle.command_answers.specs.GaugeText.{highest_of, lowest_of};
@@ -51,8 +52,7 @@ pub fn no_command_has_one_answer()
 /// Two answers of the same words, on the same files and input and behind the same on out and err, have the same status,
 /// and leave the same on out and err, unless memory was wanting. But two codes of an accepted source may differ in whether
 /// they have a file or a trace that can be stored: then of two answers of `compile` one is E61, and of two of `trace` one is
-/// E75; and of two of `session` it isn't shown that they are the same. So codes differ in what is left, stored and traced
-/// alone. For who compares two calls.
+/// E75. So codes differ in what is left, stored and traced alone. For who compares two calls.
 pub fn an_answer_is_one()
     ensures law { (words : List (List ℕ)) (files : List File) (input out err : List ℕ) (h k : Host) →
         Finds h out err → Finds k out err → Answered words files input h → Answered words files input k →
@@ -118,6 +118,16 @@ pub fn an_example_of_weakening()
 pub fn only_a_long_code_is_unspelt()
     ensures law { (p : Program) (code : PlainCode) → IsCodeOf p code → IsUnspelt code →
         (file : List ℕ) × CodeText file Second code × (MOST_FILE_BYTES < length file) }
+{}
+
+/// The file of a code of a program, whatever made it, has no more bytes than the program's places, names and types allow. So
+/// a code has no file that isn't too long only where the source's program allows more than 16,777,216 bytes, whatever the
+/// code is padded with. For who asks which sources may be told E61.
+pub fn a_code_is_no_longer_than_its_program_allows()
+    ensures law { (p : Program) (code : PlainCode) (file : List ℕ) → IsCodeOf p code → CodeText file Second code →
+        length file ≤ most_bytes p }
+    ensures refused { (source : List ℕ) (p : Program) → HasLongCode source → IsAccepted source p →
+        MOST_FILE_BYTES < most_bytes p }
 {}
 
 /// What runs of a function of a program's code hold of the stack at the most is what the groups tell of its instance,

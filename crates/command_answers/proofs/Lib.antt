@@ -9,8 +9,11 @@ pub mod FileTexts
 pub mod CodeOf
 pub mod SourceCode
 pub mod OneCode
+pub mod Written
+pub mod TalkOnce
 pub mod OneEnd
 pub mod OneCommand
 pub use Rattle.command_library.proofs as command_library
 pub use Rattle.command_library.proofs.command_tasks as command_tasks
 pub use Rattle.command_library.proofs.command_tasks.command_session as command_session
+pub use Rattle.fip_outside.proofs as fip_outside

@@ -1,4 +1,4 @@
--- A command ends with one thing, but where two codes of a source, or the replies of a session, may differ.
+-- A command ends with one thing, but where two codes of a source may differ.
 use Rattle.std.proofs.Common.{◌≡◌, ◌∙◌, inl, inr, ℕ, false, List, sym, ap, subst, refl, arith}
 use Rattle.std.specs.Prelude.{◌⊎◌, Option, Some, None, Ok, Err}
 use Rattle.fip_outside.specs.Files.{File, file_of}
@@ -24,6 +24,7 @@ use Rattle.command_answers.specs.Asks.{fetched_name, wanted, IsReadyFor, HasWant
 use Rattle.command_answers.specs.Ends.{Compiles, TracesTo, Ended, Traced, TooLong, Derives, Does, IsTaken, OnSource, Refused, LongInput, Ready, Judges, Audits, Reported, NoProof, Judged, Replays}
 use Rattle.command_answers.specs.Exec.{End}
 use Rattle.command_answers.proofs.OneCode.{code_once}
+use Rattle.command_answers.proofs.TalkOnce.{replies_same}
 use Rattle.command_answers.proofs.TreesOnce.{trees_once, generated_once}
 
 -- ---- on a source
@@ -59,7 +60,7 @@ does_once source input (Compile file out) d e h k = compiled_once source d e h k
 does_once source input (Exec r) d e h k = inl (trees_once source r.entry input r.room r.gauge d e h k)
 does_once source input (Eval file entry calls frames) d e h k = inl (evaluated_once source entry input calls frames d e h k)
 does_once source input (Trace file entry out room) d e h k = traced_once source entry input room d e h k
-does_once source input (Session file room) d e h k = inr tt
+does_once source input (Session file room) d e h k = inl (replies_same source input room d e h k)
 does_once source input (Tasks file seed turns room) d e h k = inl (turns_once source input room d e h k)
 does_once source input (Derive file out) d e h k = inl (derives_once source d e h k)
 does_once source input c d e h k = absurd h

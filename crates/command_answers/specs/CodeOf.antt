@@ -61,7 +61,7 @@ abbrev pub Means : Program → S.PlainCode → Type 0
 Means p c = (before waits : Kinds) → AreKinds c before waits → (i n : ℕ) (vs : Values) (calls frames : ℕ) (s : State) →
     IsLoaded p c i n vs frames s → EndsAs c before n s calls (flat_meaning p i vs calls frames).answer
 
--- Each run that has a call holds, over all its states, as much of the stack as its instance means, however it ends.
+-- Each run that is given a call holds, over all its states, as much of the stack as its instance means, however it ends.
 abbrev pub Peaks : Program → S.PlainCode → Type 0
 Peaks p c = (before waits : Kinds) → AreKinds c before waits → (i n : ℕ) (vs : Values) (calls frames : ℕ) (s : State) →
     IsLoaded p c i n vs frames s → 0 < calls → (end : End) (last : State) (left steps : ℕ) →

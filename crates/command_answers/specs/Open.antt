@@ -1,13 +1,12 @@
 -- It serves the law that a command ends with one thing: where it may not.
 --
 -- Two codes of a source may differ in whether their files, or the traces of their runs, are short enough. So of two ends of
--- `compile` on an accepted source that aren't the same one is E61, and of `trace` one is E75; and that two ends of
--- `session` are the same isn't shown.
+-- `compile` on an accepted source that aren't the same one is E61, and of `trace` one is E75.
 use Rattle.std.specs.Prelude.{◌≡◌, ◌⊎◌, ℕ, List, Some, Err}
 use Rattle.fip_outside.specs.Files.{File}
 use Rattle.command_library.specs.fip_language.declared.rule.Rule.{Rule}
 use Rattle.command_library.specs.fip_language.declared.rule.Rule.TheVariants.{E61, E75}
-use Rattle.command_library.specs.command_words.Words.{Command, Compile, Trace, Session}
+use Rattle.command_library.specs.command_words.Words.{Command, Compile, Trace}
 use Rattle.command_library.specs.command_outcome.declared.failure.Failure.TheVariants as F
 use Rattle.command_library.specs.command_tasks.source_report.Report.{bare}
 use Rattle.command_answers.specs.Asks.{ComesToInput}
@@ -21,7 +20,6 @@ IsEither rule d e = (d ≡ Err (F.Refused (bare rule))) ⊎ (e ≡ Err (F.Refuse
 abbrev pub MayDiffer : Command → End → End → Type 0
 MayDiffer (Compile file out) d e = IsEither E61 d e
 MayDiffer (Trace file entry out room) d e = IsEither E75 d e
-MayDiffer (Session file room) d e = Unit {0}
 MayDiffer c d e = ⊥
 
 -- It is such a command, its source has what it wants, and the input isn't too long.

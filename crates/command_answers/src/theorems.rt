@@ -11,8 +11,8 @@ ghost use Rattle.command_answers.specs.Open.{IsOpen};
 
 /// Words ask for one command at most, and a command ends with one thing, but where two codes of an accepted source may
 /// differ: of two ends of `compile` that aren't the same one is E61, which is only where some code of the source has no
-/// file that isn't too long, and of `trace` one is E75, only where the trace of some code's run can't be stored; and that
-/// two of `session` are the same isn't shown. For who compares two calls.
+/// file that isn't too long, and of `trace` one is E75, only where the trace of some code's run can't be stored. For who
+/// compares two calls.
 pub fn a_command_ends_with_one_thing()
     ensures words { (words : List (List ℕ)) (c d : Command) → IsCommand words c → IsCommand words d → c ≡ d }
     ensures ends { (files : List File) (input : List ℕ) (c : Command) (d e : an_end) → ComesTo files input c d →

@@ -10,7 +10,7 @@ use Rattle.command_run.specs.cell_lower.fip_language.Table.{Table}
 use Rattle.command_run.specs.fip_trees.declared.groups.Member.{Member}
 use Rattle.command_run.specs.fip_trees.Tree.{Instance, Program}
 use Rattle.command_run.specs.cell_lower.Limits.{is_ruled, registers}
-use Rattle.command_run.specs.cell_lower.Shape.{Header, header_of, entry_name, and_if, headers_from}
+use Rattle.command_run.specs.cell_lower.Shape.{Header, header_of, entry_name, and_if, headers, headers_from}
 use Rattle.code_bytes.specs.Bytes.{label_bytes, function_bytes, functions_bytes, table_bytes, most_constructors, most_bytes}
 use Rattle.code_bytes.specs.Operands.{most_operands}
 use Rattle.code_bytes.proofs.Lengths.{AllHaveFew, IsShort, shorter, together, some_short, LabelsFew, bytes_for, function_short, code_short, maps_few}
@@ -22,9 +22,11 @@ use Rattle.command_run.proofs.separation.Sound.{formed}
 use Rattle.command_run.specs.cell_lower.code_size.Bounds.{most_instructions, most_labels}
 use Rattle.command_run.proofs.machine_correctness.separation_kinds.Basics.{both}
 use Rattle.command_run.specs.lowering_relation.LoweredBodies.{has_function, one_more, if_function, function_of}
+use Rattle.command_run.specs.code_rules.Breaks.{IsSound}
 use Rattle.command_run.specs.code_rules.Codes as S
 use Rattle.command_run.specs.code_rules.Headers.{is_formed, are_good_maps, are_params, are_sizes, are_types}
 use Rattle.command_run.specs.code_rules.Limits.{most_credits, most_registers, most_results}
+use Rattle.command_run.specs.tail_groups.Members.{AreMembers}
 use Rattle.command_run.specs.tail_groups.Registers as G
 use Rattle.command_run.specs.source_report.Report.{IsAccepted}
 use Rattle.command_run.proofs.source_report.Once.{accepted_once}
@@ -55,25 +57,32 @@ good_maps c f e =
     let k = both (are_sizes f.credits) _ j.1 in
     (both (are_types c.types f.results) (are_good_maps c.types f 0 f.labels) k.1).1
 
-module _ (source : List ℕ) (code : PlainCode) (h : IsCodeOfSource source code) where
-  abbrev p : Program
-  p = h.program
+-- what a code of a program says beside its instructions, and how large its functions are
+pub record IsSized (p : Program) (code : PlainCode) : Type 0 where
+  pub types : code.types ≡ p.types
+  pub members : List Member
+  pub found : AreMembers p.instances members
+  pub functions : map C.plain_header code.functions ≡ headers members p.instances
+  pub within : C.AreWithin p code.functions
+  pub narrow : C.AreNarrow p code.functions
+  pub sound : IsSound (sound_view code)
 
+module _ (p : Program) (code : PlainCode) (h : IsSized p code) where
   labels_few : (n : ℕ) (f : PlainFunction) → slice_get code.functions n ≡ Some f → LabelsFew (most_constructors p.types) f.labels
   labels_few n f there i l at =
       let there_view : S.function_at (sound_view code) n ≡ Some (sound_function f) = slice_get-map sound_function code.functions n ∙ ap (option_map sound_function) there in
       let good = good_maps (sound_view code) (sound_function f) (formed (sound_view code) n (sound_function f) h.sound there_view) in
-      subst (λ tb. AllHaveFew (most_constructors tb) l.kinds) h.lowered.types
+      subst (λ tb. AllHaveFew (most_constructors tb) l.kinds) h.types
       (maps_few code.types (sound_function f) 0 (map sound_label f.labels) good i (sound_label l) (slice_get-map sound_label f.labels i ∙ ap (option_map sound_label) at))
 
   each_short : (i n : ℕ) (d : Instance) (f : PlainFunction) → slice_get p.instances i ≡ Some d → function_of p.instances i ≡ Some n → slice_get code.functions n ≡ Some f → IsShort (function_text Second f) (function_bytes p.types (most_constructors p.types) (most_operands p.instances d) d)
   each_short i n d f at number there =
-      let ms = h.lowered.members in
+      let ms = h.members in
       let zeroth : 0 + i ≡ i = omega arith in
       let header : C.plain_header f ≡ header_of (registers ms i) d =
       same_Some (C.plain_header f) (header_of (registers ms i) d)
-      (sym (slice_get-map C.plain_header code.functions n ∙ ap (option_map C.plain_header) there) ∙ ap (λ hs. slice_get hs n) h.lowered.functions ∙ header_at ms 0 p.instances i n d number at ∙ ap (λ k. Some (header_of (registers ms k) d)) zeroth) in
-      let counted : registers ms i ≡ G.registers d = counted_at p.instances ms i d h.lowered.found at (slice_get ms i) refl in
+      (sym (slice_get-map C.plain_header code.functions n ∙ ap (option_map C.plain_header) there) ∙ ap (λ hs. slice_get hs n) h.functions ∙ header_at ms 0 p.instances i n d number at ∙ ap (λ k. Some (header_of (registers ms k) d)) zeroth) in
+      let counted : registers ms i ≡ G.registers d = counted_at p.instances ms i d h.found at (slice_get ms i) refl in
       let own : f.registers ≡ G.registers d = ap (λ (q : Header). q.registers) header ∙ counted in
       let name = ap (λ (q : Header). length q.name) header in
       let few_name = name_short d in
@@ -81,10 +90,10 @@ module _ (source : List ℕ) (code : PlainCode) (h : IsCodeOfSource source code)
       let credits = ap (λ (q : Header). length q.signature.credits) header in
       let results = ap (λ (q : Header). length q.signature.results) header in
       let maps = ap (λ r. most_labels p.types d * label_bytes (most_constructors p.types) r) own in
-      let within = h.lowered.bounded i n d f at number there in
+      let within = h.within i n d f at number there in
       shorter (function_text Second f) (bytes_for f (most_instructions p.types d) (most_operands p.instances d) (most_labels p.types d) (most_constructors p.types)) (function_bytes p.types (most_constructors p.types) (most_operands p.instances d) d)
       (omega (arith, name, few_name, params, credits, results, maps))
-      (function_short f (most_instructions p.types d) (most_operands p.instances d) (most_labels p.types d) (most_constructors p.types) (h.lowered.narrow i n d f at number there) within.few_instructions (labels_few n f there) within.few_labels)
+      (function_short f (most_instructions p.types d) (most_operands p.instances d) (most_labels p.types d) (most_constructors p.types) (h.narrow i n d f at number there) within.few_instructions (labels_few n f there) within.few_labels)
 
 -- ---- all of them
 
@@ -115,14 +124,27 @@ module _ (tb : Table) (m : ℕ) (all : List Instance) where
 
 -- ---- the file
 
+pub sized_short : (p : Program) (file : List ℕ) (code : PlainCode) → IsSized p code → CodeText file Second code → length file ≤ most_bytes p
+sized_short p file code h spelt =
+    let all = functions_short p.types (most_constructors p.types) p.instances h.members 0 p.instances code.functions h.functions (each_short p code h) in
+    let long = code_short code (functions_bytes p.types (most_constructors p.types) p.instances p.instances) all file spelt in
+    let types = ap table_bytes h.types in
+    omega (arith, long, types)
+
+sized : (source : List ℕ) (code : PlainCode) → (h : IsCodeOfSource source code) → IsSized h.program code
+sized source code h = record {
+  types = h.lowered.types;
+  members = h.lowered.members;
+  found = h.lowered.found;
+  functions = h.lowered.functions;
+  within = h.lowered.bounded;
+  narrow = h.lowered.narrow;
+  sound = h.sound;
+}
+
 pub file_short : (source file : List ℕ) (code : PlainCode) (p : Program) → IsCodeOfSource source code → CodeText file Second code → IsAccepted source p → length file ≤ most_bytes p
 file_short source file code p h spelt accepted =
-    let o : Program = h.program in
-    let all = functions_short o.types (most_constructors o.types) o.instances h.lowered.members 0 o.instances code.functions h.lowered.functions (each_short source code h) in
-    let long = code_short code (functions_bytes o.types (most_constructors o.types) o.instances o.instances) all file spelt in
-    let types = ap table_bytes h.lowered.types in
-    let own : length file ≤ most_bytes o = omega (arith, long, types) in
-    subst (λ (q : Program). length file ≤ most_bytes q) (accepted_once source o p h.accepted accepted) own
+    subst (λ (q : Program). length file ≤ most_bytes q) (accepted_once source h.program p h.accepted accepted) (sized_short h.program file code (sized source code h) spelt)
 
 -- E61 is told of large sources alone
 pub uncompiled_large : (source : List ℕ) (p : Program) → IsUncompiled source → IsAccepted source p → MOST_FILE_BYTES < most_bytes p

@@ -8,7 +8,7 @@
 --
 -- The trace of `rev` on Cons(1, Nil) and Nil tells the one cell, the step in which it gets Cons(1, Nil) once more, and
 -- the seven steps of the run; and the line `Cons(1, Nil)` is printed.
-use Rattle.std.specs.Prelude.{◌≡◌, ◌⊎◌, ◌<◌, ◌≤◌, ◌^◌, ℕ, false, List, length, Result, Ok, Err}
+use Rattle.std.specs.Prelude.{◌≡◌, ◌⊎◌, ◌<◌, ◌≤◌, ◌^◌, ℕ, false, List, length, Option, Some, None, Result, Ok, Err}
 use Rattle.fip_language.specs.declared.limits.TheConstants.{MOST_FILE_BYTES}
 use Rattle.fip_language.specs.declared.rule.Rule.TheVariants.{E75}
 use Rattle.command_words.specs.Words.{Room}
@@ -17,9 +17,11 @@ use Rattle.command_outcome.specs.declared.failure.Failure.TheVariants as F
 use Rattle.trace_files.specs.machine_semantics.Runs.{Value}
 use Rattle.command_run.specs.code_rules.Codes.{PlainCode}
 use Rattle.trace_files.specs.run_loading.TraceText.{Trace, trace_text}
+use Rattle.code_verify.specs.Checked.{Checked}
 use Rattle.command_run.specs.command_source.Codes.{sound_view}
 use Rattle.command_run.specs.command_source.declared.files.Compiled.{Compiled}
 use Rattle.command_run.specs.source_report.Report.{bare}
+use Rattle.command_run.specs.declared.running.Left.{Left}
 use Rattle.command_run.specs.ExecAnswer.{Coded, Execs}
 use Rattle.command_run.specs.LoadedRun.{InputRun, trace_of_run}
 
@@ -60,6 +62,11 @@ TracesRun c n input room (Ok kept) =
     (t : Trace) × IsRunTrace c n input room t × (IsLong t → ⊥) × (kept.file.items ≡ trace_text t)
 TracesRun c n input room (Err (F.Refused r)) = (t : Trace) × IsRunTrace c n input room t × IsLong t
 TracesRun c n input room (Err failure) = Unit {0}
+
+-- The code of a call: that of what is left, or else the one that is handed out by itself.
+abbrev pub code_of : Option Left → Option Checked → Option Checked
+code_of None made = made
+code_of (Some l) made = Some l.verified
 
 -- This is said of a result, whatever memory its bytes lie in; or memory is wanting.
 abbrev pub KeptOrNoMemory : (Result Kept Failure → Type 0) → Result Compiled Failure → Type 0

@@ -22,13 +22,14 @@ ghost use Rattle.command_run.specs.command_source.ProgramCode.{IsEntryOf};
 ghost use Rattle.command_run.specs.command_source.Wanted.{Compiled as compiled_entry, IsReady};
 ghost use Rattle.command_run.specs.source_report.Report.{bare};
 ghost use Rattle.trace_files.specs.Plain.{plain_trace};
-ghost use Rattle.command_trace.specs.TraceAnswer.{Traces, TracesRun, KeptOrNoMemory};
+ghost use Rattle.command_trace.specs.TraceAnswer.{Traces, TracesRun, KeptOrNoMemory, code_of};
 
 use cell_store::Sealed;
 use cell_trace::{Trace, TraceError};
+use code_verify::Verified;
 use command_outcome::Failure;
 use command_run::source::{Compiled, Ready};
-use command_run::{Left, failure_of, leave, started, types_of, values_text};
+use command_run::{Left, failure_of, started, types_of, values_text};
 use command_words::Room;
 use fip_base::plain::{Detail, NoMemory};
 use fip_base::refusal::{Refusal, Rule};
@@ -122,16 +123,42 @@ fn trace_leaving(
     }
 }
 
+// Leaves a code and the cells of its run; where the run left none, the code is handed out by itself.
+fn leave_or_show(
+    ready: Ready,
+    cells: Option<Sealed>,
+    left: &mut Option<Left>,
+    made: &mut Option<Verified>,
+)
+    ensures left { IfSome left.new (λ l. (l.verified ≡ ready.checked) × (cells ≡ Some l.cells)) }
+    ensures some { is_some left.new ≡ is_some cells }
+    ensures code { code_of left.new made.new ≡ Some ready.checked }
+{
+    *left = None;
+    *made = None;
+    match cells {
+        Some(cells) => {
+            *left = Some(Left {
+                verified: ready.into_verified(),
+                cells,
+            });
+        }
+        None => *made = Some(ready.into_verified()),
+    }
+}
+
 /// Runs the entry on the text of its arguments, and keeps what it writes: the file of the trace, and the lines of the
 /// results. The failures are those of `run`, and after them E75 where the run gives a value and its trace is too long:
 /// its file would have more than 16,777,216 bytes, or there are more than 4,294,967,295 events or more steps than 64
-/// bits count. The code and the cells are left as `run` leaves them; none with E75.
+/// bits count. The code and the cells are left as `run` leaves them. Where none are, as with E75, the code that ran is
+/// handed out by itself.
 pub fn trace(
     alloc: Global,
     ready: Ready,
     input: &[u8],
     room: Room,
     left: &mut Option<Left>,
+    made: &mut Option<Verified>,
 ) -> Result<Compiled, Failure>
     ensures traces { (source name : List ℕ) → IsReady source (compiled_entry name) → IsEntryOf source name ready →
         IsAllowed room → length input.now ≤ MOST_FILE_BYTES →
@@ -145,10 +172,11 @@ pub fn trace(
         IsAllowed room → length input.now ≤ MOST_FILE_BYTES →
         IfSome left.new (IsLeftBy ready input.now (room_of room)) }
     ensures some { is_some left.new ≡ is_run_end result }
+    ensures made { code_of left.new made.new ≡ Some ready.checked }
     ensures long { (r : a_refusal) → result ≡ Err (Refused r) → r ≡ bare E75 }
     ensures stage { IfErr result IsOfTrace }
 {
     let (end, cells) = trace_leaving(alloc, &ready, input, room);
-    leave(ready, cells, left);
+    leave_or_show(ready, cells, left, made);
     end
 }

@@ -7,3 +7,4 @@ mod Unread
 mod Remains
 mod Storing
 mod Counted
+mod Making

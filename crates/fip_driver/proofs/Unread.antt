@@ -10,7 +10,7 @@ use Rattle.command_outcome.specs.Failures.{failure_status, failure_text}
 use Rattle.command_outcome.specs.Texts.{no_memory_text}
 use Rattle.fip_driver.specs.Delivered.{Seen, Told, ToldFailure, Delivered, Outcome}
 use Rattle.fip_driver.specs.Faults.{IsBeforeInput, IsBeforeTrace, IsBeforeInputOf, HadInput, LeavesInput, IsEarly, MayHaveRead, HasRead, HasCalled, AreAfter}
-use Rattle.fip_driver.specs.Outcome.{AreKept, IsBeforeSource, HadFolder}
+use Rattle.fip_driver.specs.Outcome.{AreKept, IsBeforeSource, HadFolder, IsRefused}
 use Rattle.command_answers.specs.Asks.{ReadsInput, CallsNoFolder, ComesToInput}
 use Rattle.fip_driver.specs.Fetched.{FetchFails, StoreFails, ReadFails, IsEarlyFailure, IsLateFailure}
 use Rattle.command_outcome.specs.declared.failure.Failure.{Failure}
@@ -271,6 +271,17 @@ failure_last old new f s h e = differs s (failure_status f) 0 (either_status old
 pub last_status : (out out' err err' : Seen) (o : Outcome) (s : ℕ) (A : Type 0) → Delivered out out' err err' o s → OnOk o A → s ≡ 0 → A
 last_status out out' err err' (Ok text) s A d h e = h
 last_status out out' err err' (Err f) s A d h e = absurd (failure_last err err' f s d.1 e)
+
+failure_refused : (old new : Seen) (f : Failure) (s : ℕ) → ToldFailure old new f s → s ≡ 1 → IsRefused (Err f)
+failure_refused old new (F.Refused r) s h e = tt
+failure_refused old new (F.Fault object) s h e = absurd (let nine = h.0 in omega (arith, nine, e))
+failure_refused old new f s h e = differs s (failure_status f) 1 (either_status old new (failure_status f) (failure_text f) s h) (λ a. omega (arith, a)) (omega arith) e
+
+-- status 1 comes with a rule that is told
+pub refused_status : (out out' err err' : Seen) (o : Outcome) (s : ℕ) → Delivered out out' err err' o s → s ≡ 1 → IsRefused o
+refused_status out out' err err' (Ok text) s (inl d) e = absurd (let zero = d.0 in omega (arith, zero, e))
+refused_status out out' err err' (Ok text) s (inr d) e = absurd (let nine = d.0 in omega (arith, nine, e))
+refused_status out out' err err' (Err f) s d e = failure_refused err err' f s d.1 e
 
 -- the files after a command, by its status
 pub files_after : (out out' err err' : Seen) (c : Command) (left stored : Option (List ℕ)) (rose : Type 0) (old new : Option (List File)) (o : Outcome) (s : ℕ) → Delivered out out' err err' o s → AreKept c left stored rose old new o → AreAfter c left stored rose out out' old new s

@@ -6,27 +6,31 @@ ghost use Rattle.command_words.specs.Words.{IsCommand};
 ghost use Rattle.command_words.specs.View.{command_of};
 ghost use Rattle.command_answers.specs.Asks.{ReadsInput, CallsNoFolder, ComesToInput, stored_name};
 ghost use Rattle.command_answers.specs.command_library.command_run.CodeRun.{is_run_end};
+ghost use Rattle.command_answers.specs.command_trace.TraceAnswer.{code_of};
 ghost use Rattle.fip_driver.specs.Faults.{IsCounted, IsBeforeInputOf};
-ghost use Rattle.fip_driver.specs.Outcome.{CommandOutcome, AreKept, IsBeforeSource, Leaves};
+ghost use Rattle.fip_driver.specs.Made.{MadeBy};
+ghost use Rattle.fip_driver.specs.Outcome.{CommandOutcome, AreKept, IsBeforeSource, IsDone, IsRefused, Leaves};
 
 use crate::commands::{check, compile, eval, upgrade, verify};
 use crate::derivations::{audit, derive};
 use crate::exec::{exec, run};
 use crate::sessions::{session, tasks};
 use crate::traces::{replay, trace};
+use code_verify::Verified;
 use command_answers::runner::Left;
 use command_outcome::Failure;
 use command_words::Command;
 use fip_outside::outside::{Folder, Source};
 use std::alloc::Global;
 
-/// What a command comes to.
+/// What a command comes to. The code that `compile` or `trace` made is handed out, where it isn't left.
 pub fn answer<F: Folder, S: Source>(
     alloc: Global,
     command: &Command<'_>,
     folder: &mut F,
     input: &mut S,
     left: &mut Option<Left>,
+    made: &mut Option<Verified>,
 ) -> Result<Vec<u8>, Failure>
     requires asked { (words : List (List ℕ)) × IsCommand words (command_of command.now) }
     ensures outcome { CommandOutcome (command_of command.now) (F.files folder.old) (S.left input.old)
@@ -42,11 +46,14 @@ pub fn answer<F: Folder, S: Source>(
     ensures counted { IsCounted (F.files folder.old) (Rose (F.faults folder.old) (F.faults folder.new)) result }
     ensures left { Leaves (command_of command.now) (F.files folder.old) (S.left input.old) (is_run_end result)
         left.new }
+    ensures made { MadeBy (command_of command.now) (F.files folder.old) (F.files folder.new) (S.left input.old)
+        (IsDone result) (IsRefused result) (code_of left.new made.new) }
 {
     *left = None;
+    *made = None;
     match command {
         Command::Check { file } => check(alloc, file, folder),
-        Command::Compile { file, out } => compile(alloc, file, out, folder),
+        Command::Compile { file, out } => compile(alloc, file, out, folder, made),
         Command::Verify { file } => verify(alloc, file, folder),
         Command::Upgrade { file, out } => upgrade(alloc, file, out, folder),
         Command::Exec { request } => exec(alloc, request, folder, input, left),
@@ -64,7 +71,7 @@ pub fn answer<F: Folder, S: Source>(
             entry,
             out,
             room,
-        } => trace(alloc, file, entry, out, *room, folder, input, left),
+        } => trace(alloc, file, entry, out, *room, folder, input, left, made),
         Command::Session { file, room } => session(alloc, file, *room, folder, input),
         Command::Tasks {
             file,

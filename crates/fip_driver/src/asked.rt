@@ -4,12 +4,16 @@ ghost use Rattle.std.specs.Io.KnownBytes.{IsAtEnd};
 ghost use Rattle.fip_outside.specs.Faults.{Rose};
 ghost use Rattle.command_words.specs.Words.{Command, IsCommand};
 ghost use Rattle.command_answers.specs.command_library.command_run.CodeRun.{is_run_end};
+ghost use Rattle.command_answers.specs.command_trace.TraceAnswer.{code_of};
 ghost use Rattle.command_answers.specs.Asks.{stored_name};
 ghost use Rattle.fip_driver.specs.Faults.{HadInput, IsCounted, LeavesInput, WordsOutcome};
 ghost use Rattle.fip_driver.specs.Left.{LeavesFor, is_run_status};
-ghost use Rattle.fip_driver.specs.Outcome.{AreKept, HadFolder};
+ghost use Rattle.fip_driver.specs.Made.{MadeBy};
+ghost use Rattle.fip_driver.specs.Outcome.{AreKept, HadFolder, IsDone, IsRefused};
 
 use crate::answer::answer;
+use crate::traces::keep_code;
+use code_verify::Verified;
 use command_answers::runner::Left;
 use command_outcome::Failure;
 use command_words::{WordsError, read_words};
@@ -17,13 +21,14 @@ use fip_base::plain::Status;
 use fip_outside::outside::{Folder, Source};
 use std::alloc::Global;
 
-/// What the words come to.
+/// What the words come to. The code that `compile` or `trace` made is handed out, where it isn't left.
 pub fn outcome<F: Folder, S: Source>(
     alloc: Global,
     words: &[String],
     folder: &mut F,
     input: &mut S,
     left: &mut Option<Left>,
+    made: &mut Option<Verified>,
 ) -> Result<Vec<u8>, Failure>
     ensures outcome { WordsOutcome (map string_bytes words.now) (F.files folder.old) (S.left input.old)
         (Rose (F.faults folder.old) (F.faults folder.new)) (Rose (S.faults input.old) (S.faults input.new)) result }
@@ -36,22 +41,26 @@ pub fn outcome<F: Folder, S: Source>(
     ensures counted { IsCounted (F.files folder.old) (Rose (F.faults folder.old) (F.faults folder.new)) result }
     ensures left { LeavesFor (map string_bytes words.now) (F.files folder.old) (S.left input.old) (is_run_end result)
         left.new }
+    ensures made { (c : Command) → IsCommand (map string_bytes words.now) c → MadeBy c (F.files folder.old)
+        (F.files folder.new) (S.left input.old) (IsDone result) (IsRefused result) (code_of left.new made.new) }
 {
     *left = None;
+    *made = None;
     match read_words(alloc, words) {
-        Ok(command) => answer(alloc, &command, folder, input, left),
+        Ok(command) => answer(alloc, &command, folder, input, left, made),
         Err(WordsError::NotUnderstood) => Err(Failure::NotUnderstood),
         Err(WordsError::NoMemory) => Err(Failure::NoMemory),
     }
 }
 
-/// Hands out what a run left, by the status: with values, in a trap, or out of calls or frames; else nothing.
-pub fn hand_out(status: Status, ran: Option<Left>, left: &mut Option<Left>)
-    ensures ended { is_run_status status.0 ≡ true → left.new ≡ ran }
+/// Keeps what a run left, by the status: with values, in a trap, or out of calls or frames; else nothing but its code.
+pub fn hand_out(status: Status, left: &mut Option<Left>, made: &mut Option<Verified>)
+    ensures ended { is_run_status status.0 ≡ true → left.new ≡ left.old }
     ensures none { is_run_status status.0 ≡ false → left.new ≡ None }
+    ensures code { code_of left.new made.new ≡ code_of left.old made.old }
 {
-    *left = match status.0 {
-        0 | 3 | 4 | 7 => ran,
-        _ => None,
-    };
+    match status.0 {
+        0 | 3 | 4 | 7 => {}
+        _ => keep_code(left.take(), made),
+    }
 }

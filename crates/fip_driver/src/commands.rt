@@ -1,19 +1,27 @@
 // What the commands come to that fetch one file: which object is called when.
-ghost use Rattle.std.specs.Prelude.{◌≡◌, ◌⊎◌, ◌≤◌, ℕ, List, Option, OnOk, Some};
+ghost use Rattle.std.specs.Prelude.{◌≡◌, ◌⊎◌, ◌≤◌, ℕ, List, Option, IfOk, IfErr, IfSome, OnOk, Some};
 ghost use Rattle.std.specs.Io.KnownBytes.{IsAtEnd};
 ghost use Rattle.fip_language.specs.declared.limits.TheConstants.{MOST_FRAMES};
 ghost use Rattle.fip_outside.specs.Faults.{Rose};
 ghost use Rattle.fip_trees.specs.TreeView as V;
 ghost use Rattle.command_words.specs.Words as W;
+ghost use Rattle.command_outcome.specs.Stages.{IsOfSource};
+ghost use Rattle.command_answers.specs.command_tasks.code_file.Plain.{plain_code};
 ghost use Rattle.command_answers.specs.command_library.command_source.Entries.{IsRootedIn};
+ghost use Rattle.command_answers.specs.command_library.command_source.ProgramCode.{IsCodeOfSource, IsCompiledFile, KeepsFromCompile};
+ghost use Rattle.command_answers.specs.command_library.command_source.Roots.{IsListing};
+ghost use Rattle.command_answers.specs.command_library.command_source.Wanted.{IsRefusedBy};
 ghost use Rattle.command_answers.specs.command_library.command_eval.EvalAnswer.{Evaluates};
 ghost use Rattle.command_answers.specs.Asks.{ComesToInput};
 ghost use Rattle.fip_driver.specs.Faults.{IsCounted, end_of, IsBeforeInput};
-ghost use Rattle.fip_driver.specs.Outcome.{FileOutcome, ReadOutcome, AreKept, IsBeforeSource};
+ghost use Rattle.fip_driver.specs.Made.{MadeBy};
+ghost use Rattle.fip_driver.specs.Outcome.{FileOutcome, ReadOutcome, AreKept, IsBeforeSource, IsDone, IsRefused};
+ghost use Rattle.fip_driver.specs.Outcome.{IsFileOfMade, KeepsFromFile};
 
 use crate::fetched::{fetch_code, fetch_source, read_input};
 use crate::stored::store;
-use command_answers::source::Evaluable;
+use code_verify::Verified;
+use command_answers::source::{Compiled, Evaluable, Front};
 use command_outcome::Failure;
 use fip_outside::outside::{Folder, Source};
 use std::alloc::Global;
@@ -32,12 +40,36 @@ pub fn check<F: Folder>(alloc: Global, file: &str, folder: &mut F) -> Result<Vec
     }
 }
 
-/// Stores the code of a source that breaks no rule; its lines.
+// The file of the code that is made of a source, and the lines of `check`: what `file_of` makes of the code of `front`.
+// The code is handed out, also with E61; none where `front` gives none.
+fn made_file(alloc: Global, source: &[u8], made: &mut Option<Verified>) -> Result<Compiled, Failure>
+    ensures listed { IfOk result (λ c. IsListing source.now c.text.items) }
+    ensures stored { IfOk result (λ c. IsCompiledFile source.now c.file.items) }
+    ensures kept { IfErr result (KeepsFromCompile source.now) }
+    ensures made { IfSome made.new (λ v. IsCodeOfSource source.now (plain_code v.code)) }
+    ensures own { IfOk result (λ c. IsFileOfMade made.new c.file.items) }
+    ensures unspelt { IfErr result (IsRefusedBy (KeepsFromFile source.now made.new)) }
+    ensures stage { IfErr result IsOfSource }
+{
+    *made = None;
+    match command_answers::source::front(alloc, source) {
+        Ok(front) => {
+            let end = command_answers::source::file_of(alloc, &front);
+            let Front { verified, .. } = front;
+            *made = Some(verified);
+            end
+        }
+        Err(failure) => Err(failure),
+    }
+}
+
+/// Stores the code of a source that breaks no rule; its lines. The code that was made is handed out, where one was.
 pub fn compile<F: Folder>(
     alloc: Global,
     file: &str,
     out: &str,
     folder: &mut F,
+    made: &mut Option<Verified>,
 ) -> Result<Vec<u8>, Failure>
     ensures outcome { (left : Option (List ℕ)) → FileOutcome (W.Compile file.now out.now) (F.files folder.old) left
         (Rose (F.faults folder.old) (F.faults folder.new)) ⊥ (end_of result) }
@@ -45,9 +77,12 @@ pub fn compile<F: Folder>(
         (Rose (F.faults folder.old) (F.faults folder.new)) (F.files folder.old) (F.files folder.new) result }
     ensures counted { IsCounted (F.files folder.old) (Rose (F.faults folder.old) (F.faults folder.new)) result }
     ensures understood { IsBeforeSource result → ⊥ }
+    ensures made { (told : Option (List ℕ)) → MadeBy (W.Compile file.now out.now) (F.files folder.old)
+        (F.files folder.new) told (IsDone result) (IsRefused result) made.new }
 {
+    *made = None;
     match fetch_source(alloc, folder, file) {
-        Ok(bytes) => match command_answers::source::compile(alloc, bytes.as_slice()) {
+        Ok(bytes) => match made_file(alloc, bytes.as_slice(), made) {
             Ok(compiled) => store(folder, out, compiled),
             Err(failure) => Err(failure),
         },

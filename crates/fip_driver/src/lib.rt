@@ -3,6 +3,7 @@
 
 mod answer;
 mod asked;
+mod coded;
 mod commands;
 mod delivery;
 mod derivations;
@@ -13,6 +14,8 @@ mod sessions;
 mod stored;
 mod traces;
 
+pub use code_verify::Verified;
+pub use coded::fp2_with_code;
 pub use command_answers::runner::Left;
 pub use delivery::tell_no_memory;
 pub use program::fp2;

@@ -4,9 +4,9 @@ ghost use Rattle.std.specs.Io.KnownBytes.{IsAtEnd};
 ghost use Rattle.command_words.specs.Words.{Command, IsCommand};
 ghost use Rattle.fip_driver.specs.Faults.{called, AnswersWhole, Delivers, FilesAfter, HasCalled, HasRead, LeavesInput};
 ghost use Rattle.fip_driver.specs.Left.{LeavesFor, is_run_status};
+ghost use Rattle.fip_driver.specs.Made.{MadeFor, SomeCode};
 
-use crate::asked::{hand_out, outcome};
-use crate::delivery::deliver;
+use crate::coded::fp2_with_code;
 use command_answers::runner::Left;
 use fip_base::plain::Status;
 use fip_outside::outside::{Folder, Sink, Source};
@@ -51,10 +51,11 @@ pub fn fp2<F: Folder, S: Source, O: Sink, E: Sink>(
     // Just where a run ended something is left: the code that ran, and the cells of the last state of its run.
     ensures left { LeavesFor (map string_bytes words.now) (F.files folder.old) (S.left input.old)
         (is_run_status result.0) left.new }
+    // Just the code that `compile` or `trace` made decides what is stored, and where E61 or E75 is told. It is the one that
+    // is left, or else one that `fp2_with_code` hands out.
+    ensures made { SomeCode left.new (MadeFor (map string_bytes words.now) (F.files folder.old) (F.files folder.new)
+        (S.left input.old) result.0) }
 {
-    let mut ran = None;
-    let outcome = outcome(alloc, words, folder, input, &mut ran);
-    let status = deliver(alloc, outcome, out, err);
-    hand_out(status, ran, left);
-    status
+    let mut made = None;
+    fp2_with_code(alloc, words, folder, input, out, err, left, &mut made)
 }

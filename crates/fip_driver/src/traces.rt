@@ -10,14 +10,19 @@ ghost use Rattle.command_answers.specs.command_library.command_source.Wanted.{Co
 ghost use Rattle.command_answers.specs.command_library.command_run.CodeRun.{is_run_end};
 ghost use Rattle.command_answers.specs.Asks.{ComesToInput};
 ghost use Rattle.command_answers.specs.Ends.{TracesTo};
-ghost use Rattle.command_answers.specs.Stored.{IsTraceFile};
+ghost use Rattle.command_answers.specs.Stored.{IsTold, IsTraceFile};
+ghost use Rattle.command_answers.specs.command_library.code_rules.Codes.{plain};
+ghost use Rattle.command_answers.specs.command_trace.TraceAnswer.{TracesRun, code_of};
 ghost use Rattle.fip_driver.specs.Fetched.{IsLateFailure, StoreFails, StoreKeeps};
 ghost use Rattle.fip_driver.specs.Faults.{IsCounted, end_of, IsBeforeTrace};
 ghost use Rattle.fip_driver.specs.Left.{LeftOn};
+ghost use Rattle.fip_driver.specs.Made.{MadeBy};
 ghost use Rattle.fip_driver.specs.Outcome.{FileOutcome, ReadOutcome, compiled_end, AreKept, IsBeforeSource, Leaves, Remains};
+ghost use Rattle.fip_driver.specs.Outcome.{IsDone, IsRefused};
 
 use crate::fetched::{fetch_source, fetch_trace, read_input};
 use crate::stored::store;
+use code_verify::Verified;
 use command_answers::runner::Left;
 use command_answers::source::{Compiled, Ready};
 use command_outcome::Failure;
@@ -32,6 +37,7 @@ fn traced<S: Source>(
     room: Room,
     input: &mut S,
     left: &mut Option<Left>,
+    made: &mut Option<Verified>,
 ) -> Result<Compiled, Failure>
     requires words { room.words ≤ MOST_STORE_WORDS }
     requires frames { room.frames ≤ MOST_FRAMES }
@@ -44,20 +50,38 @@ fn traced<S: Source>(
     ensures fails { IfErr result IsLateFailure }
     ensures left { (source name : List ℕ) → IsReady source (compiled_entry name) → IsEntryOf source name ready →
         Remains (LeftOn (IsEntryOf source name) (S.left input.old) (room_of room)) (is_run_end result) left.new }
+    ensures own { (source name : List ℕ) → IsReady source (compiled_entry name) → IsEntryOf source name ready →
+        (bytes : List ℕ) × IsTold (S.left input.old) bytes
+        × TracesRun (plain ready.checked.code) ready.entry bytes (room_of room) result }
+    ensures code { code_of left.new made.new ≡ Some ready.checked }
 {
     *left = None;
     match read_input(alloc, input) {
-        Ok(bytes) => command_answers::trace(alloc, ready, bytes.as_slice(), room, left),
-        Err(failure) => Err(failure),
+        Ok(bytes) => command_answers::trace(alloc, ready, bytes.as_slice(), room, left, made),
+        Err(failure) => {
+            *made = Some(ready.into_verified());
+            Err(failure)
+        }
     }
 }
 
-// Stores the trace, and gives the text that is printed. Where that fails, nothing is left of the run.
+/// Lets go of what a run left, but for its code, which is handed out by itself.
+pub fn keep_code(left: Option<Left>, made: &mut Option<Verified>)
+    ensures code { made.new ≡ code_of left made.old }
+{
+    match left {
+        Some(left) => *made = Some(left.verified),
+        None => {}
+    }
+}
+
+// Stores the trace, and gives the text that is printed. Where that fails, nothing is left of the run but its code.
 fn store_leaving<F: Folder>(
     folder: &mut F,
     name: &str,
     compiled: Compiled,
     left: &mut Option<Left>,
+    made: &mut Option<Verified>,
 ) -> Result<Vec<u8>, Failure>
     ensures told { IfOk result (λ v. v.items ≡ compiled.text.items) }
     ensures fails { IfErr result (StoreFails (F.faults folder.old) (F.faults folder.new)) }
@@ -65,17 +89,19 @@ fn store_leaving<F: Folder>(
     ensures understood { IsBeforeSource result → ⊥ }
     ensures left { OnOk result (left.new ≡ left.old) }
     ensures none { OnErr result (left.new ≡ None) }
+    ensures code { code_of left.new made.new ≡ code_of left.old made.old }
 {
     match store(folder, name, compiled) {
         Ok(text) => Ok(text),
         Err(failure) => {
-            *left = None;
+            keep_code(left.take(), made);
             Err(failure)
         }
     }
 }
 
-/// Runs the entry of a source and stores the trace of the run; the lines of its results.
+/// Runs the entry of a source and stores the trace of the run; the lines of its results. The code that ran is handed out
+/// by itself where it isn't left.
 pub fn trace<F: Folder, S: Source>(
     alloc: Global,
     file: &str,
@@ -85,6 +111,7 @@ pub fn trace<F: Folder, S: Source>(
     folder: &mut F,
     input: &mut S,
     left: &mut Option<Left>,
+    made: &mut Option<Verified>,
 ) -> Result<Vec<u8>, Failure>
     requires words { room.words ≤ MOST_STORE_WORDS }
     requires frames { room.frames ≤ MOST_FRAMES }
@@ -101,12 +128,15 @@ pub fn trace<F: Folder, S: Source>(
     ensures understood { IsBeforeSource result → ⊥ }
     ensures left { Leaves (W.Trace file.now entry.now out.now (room_of room)) (F.files folder.old) (S.left input.old)
         (is_run_end result) left.new }
+    ensures made { MadeBy (W.Trace file.now entry.now out.now (room_of room)) (F.files folder.old) (F.files folder.new)
+        (S.left input.old) (IsDone result) (IsRefused result) (code_of left.new made.new) }
 {
     *left = None;
+    *made = None;
     match fetch_source(alloc, folder, file) {
         Ok(source) => match command_answers::source::exec_entry(alloc, source.as_slice(), entry) {
-            Ok(ready) => match traced(alloc, ready, room, input, left) {
-                Ok(compiled) => store_leaving(folder, out, compiled, left),
+            Ok(ready) => match traced(alloc, ready, room, input, left, made) {
+                Ok(compiled) => store_leaving(folder, out, compiled, left, made),
                 Err(failure) => Err(failure),
             },
             Err(failure) => Err(failure),

@@ -1,10 +1,12 @@
 use Rattle.std.proofs.Common.{◌≡◌, refl, sym, subst, inl, inr}
-use Rattle.std.specs.Prelude.{◌⊎◌}
+use Rattle.std.specs.Prelude.{◌⊎◌, None}
 use Rattle.fip_outside.specs.Faults.{Rose}
 use Rattle.command_words.specs.View.{command_of}
 use Rattle.command_answers.specs.command_library.command_run.CodeRun.{is_run_end}
 use Rattle.command_answers.specs.Asks.{stored_name, ComesToInput}
-use Rattle.fip_driver.specs.Outcome.{CommandOutcome, AreKept, Leaves}
+use Rattle.fip_driver.specs.Outcome.{CommandOutcome, AreKept, IsDone, IsRefused, Leaves}
+use Rattle.command_answers.specs.command_trace.TraceAnswer.{code_of}
+use Rattle.fip_driver.specs.Made.{MadeBy}
 use Rattle.fip_driver.proofs.Remains.{leaves_gen}
 use Rattle.command_words.specs.Words.{IsCommand, IsTextName}
 use Rattle.fip_driver.proofs.SourceEnds.{file_outcome, audit_outcome, library_ends, gen_ends}
@@ -174,3 +176,50 @@ returns-in-Trace-clause-left g c = subst (λ x. Leaves (command_of x) (g.F.Folde
 pub returns-in-Gen-clause-left : goal.returns-in-Gen-clause-left
 returns-in-Gen-clause-left g c = subst (λ x. Leaves (command_of x) (g.F.Folder.files c.args.folder.now) (g.S.Source.left c.args.input.now) (is_run_end c.generate.result) c.generate.new.left) (sym c.in-Gen.is)
     (leaves_gen _ _ (g.F.Folder.files c.args.folder.now) (g.S.Source.left c.args.input.now) _ c.generate.new.left c.generate.ensures.some c.generate.ensures.left)
+
+-- ---- the code that was made
+
+pub returns-in-Check-clause-made : goal.returns-in-Check-clause-made
+returns-in-Check-clause-made g c = subst (λ x. MadeBy (command_of x) (g.F.Folder.files c.args.folder.now) (g.F.Folder.files c.check.new.folder) (g.S.Source.left c.args.input.now) (IsDone c.check.result) (IsRefused c.check.result) (code_of None None)) (sym c.in-Check.is) tt
+
+pub returns-in-Compile-clause-made : goal.returns-in-Compile-clause-made
+returns-in-Compile-clause-made g c = subst (λ x. MadeBy (command_of x) (g.F.Folder.files c.args.folder.now) (g.F.Folder.files c.compile.new.folder) (g.S.Source.left c.args.input.now) (IsDone c.compile.result) (IsRefused c.compile.result) (code_of None c.compile.new.made)) (sym c.in-Compile.is) (c.compile.ensures.made (g.S.Source.left c.args.input.now))
+
+pub returns-in-Verify-clause-made : goal.returns-in-Verify-clause-made
+returns-in-Verify-clause-made g c = subst (λ x. MadeBy (command_of x) (g.F.Folder.files c.args.folder.now) (g.F.Folder.files c.verify.new.folder) (g.S.Source.left c.args.input.now) (IsDone c.verify.result) (IsRefused c.verify.result) (code_of None None)) (sym c.in-Verify.is) tt
+
+pub returns-in-Upgrade-clause-made : goal.returns-in-Upgrade-clause-made
+returns-in-Upgrade-clause-made g c = subst (λ x. MadeBy (command_of x) (g.F.Folder.files c.args.folder.now) (g.F.Folder.files c.upgrade.new.folder) (g.S.Source.left c.args.input.now) (IsDone c.upgrade.result) (IsRefused c.upgrade.result) (code_of None None)) (sym c.in-Upgrade.is) tt
+
+pub returns-in-Derive-clause-made : goal.returns-in-Derive-clause-made
+returns-in-Derive-clause-made g c = subst (λ x. MadeBy (command_of x) (g.F.Folder.files c.args.folder.now) (g.F.Folder.files c.derive.new.folder) (g.S.Source.left c.args.input.now) (IsDone c.derive.result) (IsRefused c.derive.result) (code_of None None)) (sym c.in-Derive.is) tt
+
+pub returns-in-Audit-clause-made : goal.returns-in-Audit-clause-made
+returns-in-Audit-clause-made g c = subst (λ x. MadeBy (command_of x) (g.F.Folder.files c.args.folder.now) (g.F.Folder.files c.audit.new.folder) (g.S.Source.left c.args.input.now) (IsDone c.audit.result) (IsRefused c.audit.result) (code_of None None)) (sym c.in-Audit.is) tt
+
+pub returns-in-Replay-clause-made : goal.returns-in-Replay-clause-made
+returns-in-Replay-clause-made g c = subst (λ x. MadeBy (command_of x) (g.F.Folder.files c.args.folder.now) (g.F.Folder.files c.replay.new.folder) (g.S.Source.left c.args.input.now) (IsDone c.replay.result) (IsRefused c.replay.result) (code_of None None)) (sym c.in-Replay.is) tt
+
+pub returns-in-Exec-clause-made : goal.returns-in-Exec-clause-made
+returns-in-Exec-clause-made g c = subst (λ x. MadeBy (command_of x) (g.F.Folder.files c.args.folder.now) (g.F.Folder.files c.exec.new.folder) (g.S.Source.left c.args.input.now) (IsDone c.exec.result) (IsRefused c.exec.result) (code_of c.exec.new.left None)) (sym c.in-Exec.is) tt
+
+pub returns-in-Run-clause-made : goal.returns-in-Run-clause-made
+returns-in-Run-clause-made g c = subst (λ x. MadeBy (command_of x) (g.F.Folder.files c.args.folder.now) (g.F.Folder.files c.run.new.folder) (g.S.Source.left c.args.input.now) (IsDone c.run.result) (IsRefused c.run.result) (code_of c.run.new.left None)) (sym c.in-Run.is) tt
+
+pub returns-in-Eval-clause-made : goal.returns-in-Eval-clause-made
+returns-in-Eval-clause-made g c = subst (λ x. MadeBy (command_of x) (g.F.Folder.files c.args.folder.now) (g.F.Folder.files c.eval.new.folder) (g.S.Source.left c.args.input.now) (IsDone c.eval.result) (IsRefused c.eval.result) (code_of None None)) (sym c.in-Eval.is) tt
+
+pub returns-in-Trace-clause-made : goal.returns-in-Trace-clause-made
+returns-in-Trace-clause-made g c = subst (λ x. MadeBy (command_of x) (g.F.Folder.files c.args.folder.now) (g.F.Folder.files c.trace.new.folder) (g.S.Source.left c.args.input.now) (IsDone c.trace.result) (IsRefused c.trace.result) (code_of c.trace.new.left c.trace.new.made)) (sym c.in-Trace.is) c.trace.ensures.made
+
+pub returns-in-Session-clause-made : goal.returns-in-Session-clause-made
+returns-in-Session-clause-made g c = subst (λ x. MadeBy (command_of x) (g.F.Folder.files c.args.folder.now) (g.F.Folder.files c.session.new.folder) (g.S.Source.left c.args.input.now) (IsDone c.session.result) (IsRefused c.session.result) (code_of None None)) (sym c.in-Session.is) tt
+
+pub returns-in-Tasks-clause-made : goal.returns-in-Tasks-clause-made
+returns-in-Tasks-clause-made g c = subst (λ x. MadeBy (command_of x) (g.F.Folder.files c.args.folder.now) (g.F.Folder.files c.tasks.new.folder) (g.S.Source.left c.args.input.now) (IsDone c.tasks.result) (IsRefused c.tasks.result) (code_of None None)) (sym c.in-Tasks.is) tt
+
+pub returns-in-Library-clause-made : goal.returns-in-Library-clause-made
+returns-in-Library-clause-made g c = subst (λ x. MadeBy (command_of x) (g.F.Folder.files c.args.folder.now) (g.F.Folder.files c.args.folder.now) (g.S.Source.left c.args.input.now) (IsDone c.library.result) (IsRefused c.library.result) (code_of None None)) (sym c.in-Library.is) tt
+
+pub returns-in-Gen-clause-made : goal.returns-in-Gen-clause-made
+returns-in-Gen-clause-made g c = subst (λ x. MadeBy (command_of x) (g.F.Folder.files c.args.folder.now) (g.F.Folder.files c.args.folder.now) (g.S.Source.left c.args.input.now) (IsDone c.generate.result) (IsRefused c.generate.result) (code_of c.generate.new.left None)) (sym c.in-Gen.is) tt

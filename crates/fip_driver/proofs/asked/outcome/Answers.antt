@@ -1,10 +1,13 @@
 use Rattle.std.proofs.Common.{ap, refl, subst, Err, map, string_bytes}
 use Rattle.fip_outside.specs.Faults.{Rose}
 use Rattle.command_words.specs.View.{command_of}
+use Rattle.command_answers.specs.command_trace.TraceAnswer.{code_of}
+use Rattle.fip_driver.specs.Made.{MadeBy}
+use Rattle.fip_driver.proofs.Making.{nothing_made}
 use Rattle.fip_driver.proofs.Outcomes.{no_command_outcome, no_memory_outcome}
 use Rattle.command_outcome.specs.declared.failure.Failure.TheVariants as F
 use Rattle.command_answers.specs.Asks.{stored_name}
-use Rattle.fip_driver.specs.Outcome.{AreKept}
+use Rattle.fip_driver.specs.Outcome.{AreKept, IsDone, IsRefused}
 use Rattle.command_answers.proofs.OneCommand.{command_once}
 use Rattle.fip_driver.proofs.Remains.{leaves_words}
 use Rattle.fip_driver.proofs.Storing.{nothing_stored}
@@ -43,3 +46,12 @@ returns-in-Err-NotUnderstood-clause-left g c = λ d asked cells. refl
 
 pub returns-in-Err-NoMemory-clause-left : goal.returns-in-Err-NoMemory-clause-left
 returns-in-Err-NoMemory-clause-left g c = λ d asked cells. refl
+
+pub returns-in-Ok-clause-made : goal.returns-in-Ok-clause-made
+returns-in-Ok-clause-made g c = λ d asked. subst (λ x. MadeBy x (g.F.Folder.files c.args.folder.now) (g.F.Folder.files c.answer.new.folder) (g.S.Source.left c.args.input.now) (IsDone c.answer.result) (IsRefused c.answer.result) (code_of c.answer.new.left c.answer.new.made)) (command_once (map string_bytes c.args.words.now) (command_of c.in-Ok.command) d c.in-Ok.ensures.ok asked) c.answer.ensures.made
+
+pub returns-in-Err-NotUnderstood-clause-made : goal.returns-in-Err-NotUnderstood-clause-made
+returns-in-Err-NotUnderstood-clause-made g c = λ d asked. nothing_made d (g.F.Folder.files c.args.folder.now) (g.S.Source.left c.args.input.now) F.NotUnderstood (λ r. r)
+
+pub returns-in-Err-NoMemory-clause-made : goal.returns-in-Err-NoMemory-clause-made
+returns-in-Err-NoMemory-clause-made g c = λ d asked. nothing_made d (g.F.Folder.files c.args.folder.now) (g.S.Source.left c.args.input.now) F.NoMemory (λ r. r)

@@ -1,10 +1,11 @@
-use Rattle.std.proofs.Common.{true, refl, subst, inl, inr}
+use Rattle.std.proofs.Common.{◌∙◌, true, refl, subst, inl, inr}
 use Rattle.command_words.specs.Words as W
 use Rattle.command_words.specs.View.{room_of}
 use Rattle.command_answers.specs.command_library.command_source.Wanted.{Compiled, IsReady}
 use Rattle.command_answers.specs.Ends.{TracesTo}
 use Rattle.command_answers.specs.Stored.{IsTraceFile}
 use Rattle.fip_driver.specs.Faults.{end_of}
+use Rattle.fip_driver.proofs.Making.{traced, untraced, unfetched, refused}
 use Rattle.fip_driver.proofs.SourceEnds.{trace_stored, input_ends, kept_ends, source_ends, fetch_ends}
 use Rattle.fip_driver.proofs.Storing.{stored_kept, unstored}
 use Rattle.fip_driver.proofs.Unread.{late_after_input, stored_after_input}
@@ -85,3 +86,17 @@ returns-in-Ok-clause-left g c = λ cells. source_ran c.in-Err-exec_entry.failure
 
 pub returns-clause-left : goal.returns-clause-left
 returns-clause-left g c = λ cells. fetch_ran (g.F.Folder.files c.args.folder.now) c.args.file.now _ _ c.in-Err.failure c.in-Err.ensures.fails
+
+pub returns-in-Ok-traced-clause-made : goal.returns-in-Ok-traced-clause-made
+returns-in-Ok-traced-clause-made g c = traced c.args.file.now c.args.entry.now c.args.out.now (room_of c.args.room) (g.F.Folder.files c.args.folder.now) _ _ (g.S.Source.left c.args.input.now) c.in-Ok.source.items c.as_slice.result.now c.in-Ok-exec_entry.ready c.in-Ok.ensures.found c.as_slice.ensures.value c.in-Ok-exec_entry.ensures.code _ (c.store_leaving.ensures.code ∙ c.in-Ok-traced.ensures.code)
+    c.in-Ok-traced.compiled _ _ c.store_leaving.result (c.in-Ok-traced.ensures.own c.as_slice.result.now c.args.entry.now c.in-Ok-exec_entry.ensures.ready c.in-Ok-exec_entry.ensures.code) c.store_leaving.ensures.fails c.store_leaving.ensures.kept
+
+pub returns-in-Ok-exec_entry-clause-made : goal.returns-in-Ok-exec_entry-clause-made
+returns-in-Ok-exec_entry-clause-made g c = untraced c.args.file.now c.args.entry.now c.args.out.now (room_of c.args.room) (g.F.Folder.files c.args.folder.now) (g.F.Folder.files c.args.folder.now) _ (g.S.Source.left c.args.input.now) c.in-Ok.source.items c.as_slice.result.now c.in-Ok-exec_entry.ready c.in-Ok.ensures.found c.as_slice.ensures.value c.in-Ok-exec_entry.ensures.code _ c.in-Err-traced.ensures.code
+    c.in-Err-traced.failure (c.in-Err-traced.ensures.own c.as_slice.result.now c.args.entry.now c.in-Ok-exec_entry.ensures.ready c.in-Ok-exec_entry.ensures.code)
+
+pub returns-in-Ok-clause-made : goal.returns-in-Ok-clause-made
+returns-in-Ok-clause-made g c = refused (W.Trace c.args.file.now c.args.entry.now c.args.out.now (room_of c.args.room)) (Compiled c.args.entry.now) (λ s k. k) c.args.file.now (g.F.Folder.files c.args.folder.now) _ c.in-Ok.ensures.same c.in-Ok.source.items c.as_slice.result.now c.in-Err-exec_entry.failure c.in-Ok.ensures.found c.as_slice.ensures.value c.in-Err-exec_entry.ensures.kept
+
+pub returns-clause-made : goal.returns-clause-made
+returns-clause-made g c = unfetched (W.Trace c.args.file.now c.args.entry.now c.args.out.now (room_of c.args.room)) (Compiled c.args.entry.now) (λ s k. k) c.args.file.now (g.F.Folder.files c.args.folder.now) _ c.in-Err.ensures.same _ _ c.in-Err.failure c.in-Err.ensures.fails

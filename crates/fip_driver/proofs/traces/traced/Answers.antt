@@ -7,6 +7,7 @@ use Rattle.command_answers.specs.command_trace.TraceAnswer.{Traces, KeptOrNoMemo
 use Rattle.command_answers.specs.Ends.{TracesTo}
 use Rattle.command_answers.specs.command_library.command_source.ProgramCode.{IsEntryOf}
 use Rattle.command_answers.specs.command_library.command_run.Leaving.{IsLeftBy}
+use Rattle.fip_driver.proofs.Making.{read_runs, unread_runs}
 use Rattle.fip_driver.proofs.Remains.{read_ran, remains_on}
 use Rattle.fip_driver.proofs.SourceEnds.{unread_says, read_traces, trace_made}
 use Rattle.fip_driver.proofs.Telling.{whole_of}
@@ -38,3 +39,12 @@ returns-in-Ok-clause-left g c = λ source name ready entry.
 
 pub returns-in-Err-clause-left : goal.returns-in-Err-clause-left
 returns-in-Err-clause-left g c = λ source name ready entry. read_ran (g.S.Source.left c.args.input.now) _ _ _ c.in-Err.failure c.in-Err.ensures.fails
+
+pub returns-in-Ok-clause-own : goal.returns-in-Ok-clause-own
+returns-in-Ok-clause-own g c = λ source name ready entry.
+    let within = subst (λ (xs : List ℕ). length xs ≤ MOST_FILE_BYTES) (sym c.as_slice.ensures.value) c.in-Ok.ensures.within in
+    let allowed : IsAllowed c.args.room = record { frames = c.requires.frames; words = c.requires.words } in
+    read_runs c.args.ready (room_of c.args.room) (g.S.Source.left c.args.input.now) _ c.in-Ok.bytes.items c.as_slice.result.now c.trace.result c.in-Ok.ensures.all c.in-Ok.ensures.end c.as_slice.ensures.value (c.trace.ensures.own source name ready entry allowed within)
+
+pub returns-in-Err-clause-own : goal.returns-in-Err-clause-own
+returns-in-Err-clause-own g c = λ source name ready entry. unread_runs c.args.ready (room_of c.args.room) (g.S.Source.left c.args.input.now) _ _ _ c.in-Err.failure c.in-Err.ensures.fails

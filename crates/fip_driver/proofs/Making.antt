@@ -1,0 +1,198 @@
+-- Which code a call made: what is said of it by what the command comes to, and then by the status.
+-- Idea: a code that was made is handed up as it is; where none was made the source isn't there, or is refused, and nothing is
+-- stored.
+use Rattle.std.proofs.Common.{◌≡◌, ◌∙◌, ◌<◌, ◌≤◌, ℕ, List, Option, Some, None, length, refl, sym, ap, subst, arith}
+use Rattle.std.specs.Prelude.{Result, Ok, Err, IfOk, IfErr, IfSome, IsSomeAnd, OnOk}
+use Rattle.std.specs.declared.vec.Vec.{Vec}
+use Rattle.std.specs.declared.alloc.Global.{Global}
+use Rattle.std.specs.Io.KnownBytes.{Consumes, IsAtEnd}
+use Rattle.fip_language.specs.declared.limits.TheConstants.{MOST_SOURCE_BYTES}
+use Rattle.fip_outside.specs.Files.{File, file_of, HoldsFile, HoldsLonger}
+use Rattle.command_words.specs.Words.{Room, Command, Compile, Trace, IsCommand}
+use Rattle.command_outcome.specs.declared.failure.Failure.{Failure}
+use Rattle.command_outcome.specs.declared.failure.Failure.TheVariants as F
+use Rattle.command_outcome.specs.declared.failure.Object.TheVariants as O
+use Rattle.command_answers.specs.command_tasks.code_file.Plain.{PlainCode, plain_code}
+use Rattle.command_answers.specs.command_tasks.code_file.CodeText.{CodeText}
+use Rattle.command_answers.specs.command_tasks.code_file.declared.tags.Version.TheVariants.{Second}
+use Rattle.command_answers.specs.command_tasks.source_report.cell_code.declared.code.Code.{Code}
+use Rattle.command_answers.specs.command_tasks.source_report.Report.{bare, IsAccepted}
+use Rattle.command_answers.specs.command_library.code_rules.Breaks.{IsSound}
+use Rattle.command_answers.specs.command_library.code_rules.Codes.{plain}
+use Rattle.command_answers.proofs.command_library.command_source.CodeFiles.{view_same}
+use Rattle.fip_base.specs.declared.refusal.Refusal.{Refusal}
+use Rattle.fip_language.specs.declared.rule.Rule.TheVariants.{E61}
+use Rattle.fip_trees.specs.Tree.{Program}
+use Rattle.code_verify.specs.Checked.{Checked}
+use Rattle.command_answers.specs.command_library.command_source.Codes.{IsUnspelt}
+use Rattle.command_answers.specs.command_library.command_source.Entries.{Chosen}
+use Rattle.command_answers.specs.command_library.command_source.ProgramCode.{IsCodeOfSource, IsEntryOf, IsLoweredFrom, HasFile}
+use Rattle.command_answers.specs.command_library.command_source.Wanted.{Wanted, Lawful, Compiled, Refuses, IsReady, IsRefusedBy, KeepsFrom}
+use Rattle.command_answers.specs.command_library.command_source.declared.files.Compiled.{Compiled as compiled_file}
+use Rattle.command_answers.specs.command_library.run_loading.TraceText as T
+use Rattle.command_answers.specs.command_library.run_loading.TraceText.{trace_text}
+use Rattle.command_answers.specs.command_trace.TraceAnswer as A
+use Rattle.command_answers.specs.command_trace.TraceAnswer.{IsRunTrace, IsLong}
+use Rattle.command_answers.specs.Asks.{HasWanted}
+use Rattle.command_answers.specs.Stored.{IsTold}
+use Rattle.command_answers.proofs.SourceCode.{source_code, source_entry}
+use Rattle.command_answers.proofs.command_library.command_source.Once.{refused_not_ready}
+use Rattle.fip_driver.specs.Delivered.{Outcome, Seen, Delivered}
+use Rattle.fip_driver.specs.Fetched.{FetchFails, StoreFails, StoreKeeps, ReadFails}
+use Rattle.fip_driver.specs.Made.{CompilesCode, TracesRun, IsUnmade, MadeBy}
+use Rattle.fip_driver.specs.Outcome.{IsDone, IsRefused, IsFileOfMade, KeepsFromFile}
+use Rattle.fip_driver.proofs.Telling.{any_told, bytes_of, whole_of}
+use Rattle.fip_driver.proofs.Unread.{last_status, refused_status}
+
+-- ---- no code was made
+
+-- a source that is too long isn't ready
+long_unready : (source : List ℕ) (w : Wanted) → MOST_SOURCE_BYTES < length source → IsReady source w → ⊥
+long_unready source w more ready =
+    let short : length source ≤ 1048576 = ready.accepted.tailed.credited.owned.matched.typed.flat.declared.parsed.short in
+    omega (arith, more, short)
+
+long_source : (files : Option (List File)) (name : List ℕ) → HoldsLonger files name MOST_SOURCE_BYTES → (source : List ℕ) × HoldsFile files name source × (MOST_SOURCE_BYTES < length source)
+long_source None name h = let b = bytes_of 1048577 in let n = b.1 in (b.0, tt, omega (arith, n))
+long_source (Some files) name h = by (file_of name files) refl h
+  where
+    by : (o : Option (List ℕ)) → file_of name files ≡ o → IsSomeAnd o (λ bytes. MOST_SOURCE_BYTES < length bytes) → (source : List ℕ) × (file_of name files ≡ Some source) × (MOST_SOURCE_BYTES < length source)
+    by None e h = absurd h
+    by (Some source) e h = (source, e, h)
+
+-- the source wasn't fetched
+module _ (c : Command) (w : Wanted) (wants : (source : List ℕ) → HasWanted c source → IsReady source w) (file : List ℕ) (old new : Option (List File)) (same : new ≡ old) where
+  pub unfetched : (before now : ℕ) (f : Failure) → FetchFails old file before now f → IsUnmade c file old new (IsDone (Err f)) (IsRefused (Err f))
+  unfetched before now f h = record { undone = λ d. d; kept = same; unready = by f h }
+    where
+      by : (f : Failure) → FetchFails old file before now f → IsRefused (Err f) → (source : List ℕ) × HoldsFile old file source × (HasWanted c source → ⊥)
+      by (F.Refused r) h k = let l = long_source old file h.1 in (l.0, l.1, λ x. long_unready l.0 w l.2 (wants l.0 x))
+      by f h k = absurd k
+
+  -- it is refused
+  pub refused : (source text : List ℕ) (f : Failure) → HoldsFile old file source → text ≡ source → IsRefusedBy (Refuses text w) f → IsUnmade c file old new (IsDone (Err f)) (IsRefused (Err f))
+  refused source text f holds is h = record { undone = λ d. d; kept = same; unready = by f (subst (λ xs. IsRefusedBy (Refuses xs w) f) is h) }
+    where
+      by : (f : Failure) → IsRefusedBy (Refuses source w) f → IsRefused (Err f) → (source : List ℕ) × HoldsFile old file source × (HasWanted c source → ⊥)
+      by (F.Refused r) h k = (source, holds, λ x. refused_not_ready source w r h (wants source x))
+      by f h k = absurd k
+
+-- of no command's turn
+unasked : (c : Command) (file : List ℕ) (files : Option (List File)) (f : Failure) → (IsRefused (Err f) → ⊥) → IsUnmade c file files files (IsDone (Err f)) (IsRefused (Err f))
+unasked c file files f never = record { undone = λ d. d; kept = refl; unready = λ d. absurd (never d) }
+
+pub nothing_made : (c : Command) (files : Option (List File)) (told : Option (List ℕ)) (f : Failure) → (IsRefused (Err f) → ⊥) → MadeBy c files files told (IsDone (Err f)) (IsRefused (Err f)) None
+nothing_made (Compile file out) files told f never = unasked (Compile file out) file files f never
+nothing_made (Trace file entry out room) files told f never = unasked (Trace file entry out room) file files f never
+nothing_made c files told f never = tt
+
+-- ---- `compile`
+
+-- the code that is made of a source, its file, and where it has none
+pub code_made : (source : List ℕ) (p : Program) (code : Code) → IsAccepted source p → IsLoweredFrom p (plain_code code) → IsSound (plain code) → HasFile (plain_code code) → IsCodeOfSource source (plain_code code)
+code_made source p code accepted lowered sound filed =
+    record { program = p; accepted = accepted; lowered = lowered; sound = subst IsSound (sym (view_same code)) sound; filed = filed }
+
+pub own_file : (v : Checked) (o : Result compiled_file Failure) → IfOk o (λ c. CodeText c.file.items Second (plain_code v.code)) → IfOk o (λ c. length c.file.items ≤ 16777216) → IfOk o (λ c. IsFileOfMade (Some v) c.file.items)
+own_file v (Ok c) spelt short = (spelt, short)
+own_file v (Err f) spelt short = tt
+
+pub own_unspelt : (source : List ℕ) (v : Checked) (o : Result compiled_file Failure) → ((r : Refusal) → o ≡ Err (F.Refused r) → IsUnspelt (plain_code v.code)) → IfErr o (IsRefusedBy (λ r. r ≡ bare E61)) → IfErr o (IsRefusedBy (KeepsFromFile source (Some v)))
+own_unspelt source v (Ok c) unspelt long = tt
+own_unspelt source v (Err f) unspelt long = by f (λ r e. unspelt r (ap Err e)) long
+  where
+    by : (f : Failure) → ((r : Refusal) → ◌≡◌ {A = Failure} f (F.Refused r) → IsUnspelt (plain_code v.code)) → IsRefusedBy (λ r. r ≡ bare E61) f → IsRefusedBy (KeepsFromFile source (Some v)) f
+    by (F.Refused r) unspelt h = unspelt r refl
+    by F.NoMemory unspelt h = tt
+    by f unspelt h = absurd h
+
+module _ (file out : List ℕ) (old mid new : Option (List File)) (told : Option (List ℕ)) (source text : List ℕ) (holds : HoldsFile old file source) (is : text ≡ source) (kept : mid ≡ old) where
+  -- its file was to be stored
+  pub compiled : (made : Option Checked) (bytes : List ℕ) (before now : ℕ) (o : Outcome) → IfSome made (λ v. IsCodeOfSource text (plain_code v.code)) → IsFileOfMade made bytes → IfErr o (StoreFails before now) → StoreKeeps out bytes mid new o → MadeBy (Compile file out) old new told (IsDone o) (IsRefused o) made
+  compiled None bytes before now o code own fails keeps = absurd own
+  compiled (Some v) bytes before now o code own fails keeps =
+      (source, holds, source_code source (plain_code v.code) (subst (λ xs. IsCodeOfSource xs (plain_code v.code)) is code), record { stored = done o keeps; long = unrefused o fails })
+    where
+      done : (o : Outcome) → StoreKeeps out bytes mid new o → IsDone o → (b : List ℕ) × HoldsFile new out b × IsFileOfMade (Some v) b
+      done (Ok v) k d = (bytes, k.1, own)
+      done (Err f) k d = absurd d
+
+      unrefused : (o : Outcome) → IfErr o (StoreFails before now) → IsRefused o → IsUnspelt (plain_code v.code)
+      unrefused (Err (F.Refused r)) k d = absurd k
+      unrefused o k d = absurd d
+
+  -- none was
+  pub uncompiled : (made : Option Checked) (f : Failure) → IfSome made (λ v. IsCodeOfSource text (plain_code v.code)) → IsRefusedBy (KeepsFromFile text made) f → MadeBy (Compile file out) old mid told (IsDone (Err f)) (IsRefused (Err f)) made
+  uncompiled None f code h = refused (Compile file out) Lawful (λ s k. k) file old mid kept source text f holds is h
+  uncompiled (Some v) f code h =
+      (source, holds, source_code source (plain_code v.code) (subst (λ xs. IsCodeOfSource xs (plain_code v.code)) is code), record { stored = λ d. absurd d; long = by f h })
+    where
+      by : (f : Failure) → IsRefusedBy (KeepsFromFile text (Some v)) f → IsRefused (Err f) → IsUnspelt (plain_code v.code)
+      by (F.Refused r) h k = h
+      by f h k = absurd k
+
+-- ---- `trace`
+
+module _ (file entry out : List ℕ) (room : Room) (old mid new : Option (List File)) (told : Option (List ℕ)) (source text : List ℕ) (r : Chosen) (holds : HoldsFile old file source) (is : text ≡ source) (ran : IsEntryOf text entry r) (made : Option Checked) (own : made ≡ Some r.checked) where
+  its : (done refused : Type 0) (input : List ℕ) → IsTold told input → TracesRun r input room out new done refused → MadeBy (Trace file entry out room) old new told done refused made
+  its done refused input tells runs =
+      subst (λ m. MadeBy (Trace file entry out room) old new told done refused m) (sym own)
+      (source, holds, input, tells, r, refl, source_entry source entry r (subst (λ xs. IsEntryOf xs entry r) is ran), runs)
+
+  -- its file was to be stored
+  pub traced : (compiled : compiled_file) (before now : ℕ) (o : Outcome) → (bytes : List ℕ) × IsTold told bytes × A.TracesRun (plain r.checked.code) r.entry bytes room (Ok compiled) → IfErr o (StoreFails before now) → StoreKeeps out compiled.file.items mid new o → MadeBy (Trace file entry out room) old new told (IsDone o) (IsRefused o) made
+  traced compiled before now o (input, tells, t, run, short, same) fails keeps = its (IsDone o) (IsRefused o) input tells (record { stored = done o keeps; long = unrefused o fails })
+    where
+      done : (o : Outcome) → StoreKeeps out compiled.file.items mid new o → IsDone o → (t : T.Trace) × IsRunTrace (plain r.checked.code) r.entry input room t × (IsLong t → ⊥) × HoldsFile new out (trace_text t)
+      done (Ok v) k d = (t, run, short, subst (HoldsFile new out) same k.1)
+      done (Err f) k d = absurd d
+
+      unrefused : (o : Outcome) → IfErr o (StoreFails before now) → IsRefused o → (t : T.Trace) × IsRunTrace (plain r.checked.code) r.entry input room t × IsLong t
+      unrefused (Err (F.Refused r)) k d = absurd k
+      unrefused o k d = absurd d
+
+  -- none was
+  pub untraced : (f : Failure) → (bytes : List ℕ) × IsTold told bytes × A.TracesRun (plain r.checked.code) r.entry bytes room (Err f) → MadeBy (Trace file entry out room) old new told (IsDone (Err f)) (IsRefused (Err f)) made
+  untraced f (input, tells, h) = its (IsDone (Err f)) (IsRefused (Err f)) input tells (record { stored = λ d. absurd d; long = by f h })
+    where
+      by : (f : Failure) → A.TracesRun (plain r.checked.code) r.entry input room (Err f) → IsRefused (Err f) → (t : T.Trace) × IsRunTrace (plain r.checked.code) r.entry input room t × IsLong t
+      by (F.Refused r) h k = h
+      by f h k = absurd k
+
+-- a run on an input that was read to its end, and one on an input that wasn't
+pub read_runs : (r : Chosen) (room : Room) (before left : Option (List ℕ)) (read text : List ℕ) (o : Result compiled_file Failure) → Consumes before left read → IsAtEnd left → text ≡ read → A.TracesRun (plain r.checked.code) r.entry text room o → (bytes : List ℕ) × IsTold before bytes × A.TracesRun (plain r.checked.code) r.entry bytes room o
+read_runs r room before left read text o all end is h = (read, whole_of before left read all end, subst (λ xs. A.TracesRun (plain r.checked.code) r.entry xs room o) is h)
+
+pub unread_runs : (r : Chosen) (room : Room) (before left : Option (List ℕ)) (old new : ℕ) (f : Failure) → ReadFails before left old new f → (bytes : List ℕ) × IsTold before bytes × A.TracesRun (plain r.checked.code) r.entry bytes room (Err f)
+unread_runs r room before left old new f h = let i = any_told before [] in (i.0, i.1, by f h)
+  where
+    by : (f : Failure) → ReadFails before left old new f → A.TracesRun (plain r.checked.code) r.entry (any_told before []).0 room (Err f)
+    by (F.Refused r) h = absurd h
+    by f h = tt
+
+-- ---- by the status
+
+-- what is said where it is done and where it is refused is said where more is known
+compiles_when : (code : PlainCode) (out : List ℕ) (new : Option (List File)) (a b done refused : Type 0) → (done → a) → (refused → b) → CompilesCode code out new a b → CompilesCode code out new done refused
+compiles_when code out new a b done refused f g h = record { stored = λ d. h.stored (f d); long = λ d. h.long (g d) }
+
+traces_when : (r : Chosen) (input : List ℕ) (room : Room) (out : List ℕ) (new : Option (List File)) (a b done refused : Type 0) → (done → a) → (refused → b) → TracesRun r input room out new a b → TracesRun r input room out new done refused
+traces_when r input room out new a b done refused f g h = record { stored = λ d. h.stored (f d); long = λ d. h.long (g d) }
+
+unmade_when : (c : Command) (file : List ℕ) (old new : Option (List File)) (a b done refused : Type 0) → (done → a) → (refused → b) → IsUnmade c file old new a b → IsUnmade c file old new done refused
+unmade_when c file old new a b done refused f g h = record { undone = λ d. h.undone (f d); kept = h.kept; unready = λ d. h.unready (g d) }
+
+made_when : (c : Command) (old new : Option (List File)) (told : Option (List ℕ)) (a b done refused : Type 0) (made : Option Checked) → (done → a) → (refused → b) → MadeBy c old new told a b made → MadeBy c old new told done refused made
+made_when (Compile file out) old new told a b done refused None f g h = unmade_when (Compile file out) file old new a b done refused f g h
+made_when (Compile file out) old new told a b done refused (Some v) f g (source, holds, code, h) = (source, holds, code, compiles_when (plain_code v.code) out new a b done refused f g h)
+made_when (Trace file entry out room) old new told a b done refused None f g h = unmade_when (Trace file entry out room) file old new a b done refused f g h
+made_when (Trace file entry out room) old new told a b done refused (Some v) f g (source, holds, input, tells, r, is, such, h) = (source, holds, input, tells, r, is, such, traces_when r input room out new a b done refused f g h)
+made_when c old new told a b done refused made f g h = tt
+
+pub made_status : (c : Command) (old new : Option (List File)) (told : Option (List ℕ)) (made : Option Checked) (out out' err err' : Seen) (o : Outcome) (s : ℕ) → Delivered out out' err err' o s → MadeBy c old new told (IsDone o) (IsRefused o) made → MadeBy c old new told (s ≡ 0) (s ≡ 1) made
+made_status c old new told made out out' err err' o s d h =
+    made_when c old new told (IsDone o) (IsRefused o) (s ≡ 0) (s ≡ 1) made (last_status out out' err err' o s (IsDone o) d (by o)) (refused_status out out' err err' o s d) h
+  where
+    by : (o : Outcome) → OnOk o (IsDone o)
+    by (Ok text) = tt
+    by (Err f) = tt

@@ -1,0 +1,70 @@
+-- Which code a call of `compile` or `trace` made of its source, and that just this code decides what is stored, and where
+-- E61 or E75 is told in its place.
+--
+-- `compile rev.fp o` made one code of rev.fp. At status 0 the file o is that of this code; at status 1 this code has no file
+-- of at most 16,777,216 bytes. `trace rev.fp rev o` made one and ran its function rev from where the input is loaded. At
+-- status 0 the file o is that of the trace of this run, and what is left is this code; at status 1 this trace has no file.
+-- Of a source that isn't there, or is refused, no code is made, and no file changes.
+use Rattle.std.specs.Prelude.{◌≡◌, ◌≤◌, ℕ, List, length, Option, Some, None}
+use Rattle.fip_language.specs.declared.limits.TheConstants.{MOST_FILE_BYTES}
+use Rattle.fip_outside.specs.Files.{File, HoldsFile}
+use Rattle.code_verify.specs.Checked.{Checked}
+use Rattle.command_words.specs.Words.{Room, Command, Compile, Trace, IsCommand}
+use Rattle.command_answers.specs.command_tasks.code_file.CodeText.{CodeText}
+use Rattle.command_answers.specs.command_tasks.code_file.Plain.{PlainCode, plain_code}
+use Rattle.command_answers.specs.command_tasks.code_file.declared.tags.Version.TheVariants.{Second}
+use Rattle.command_answers.specs.command_library.code_rules.Codes.{plain}
+use Rattle.command_answers.specs.command_library.command_source.Codes.{IsUnspelt}
+use Rattle.command_answers.specs.command_library.command_source.Entries.{Chosen}
+use Rattle.command_answers.specs.command_library.run_loading.TraceText as T
+use Rattle.command_answers.specs.command_library.run_loading.TraceText.{trace_text}
+use Rattle.command_answers.specs.command_library.command_run.declared.running.Left.{Left}
+use Rattle.command_answers.specs.command_trace.TraceAnswer.{IsRunTrace, IsLong, code_of}
+use Rattle.command_answers.specs.Asks.{HasWanted}
+use Rattle.command_answers.specs.CodeOf.{IsSourceCode, IsSourceEntry}
+use Rattle.command_answers.specs.Stored.{IsTold}
+
+-- `compile` made this code: where it is done its file is stored; where it is refused it has none that isn't too long.
+pub record CompilesCode (code : PlainCode) (out : List ℕ) (new : Option (List File)) (done refused : Type 0) : Type 0
+  where
+    pub stored : done → (file : List ℕ) × HoldsFile new out file × CodeText file Second code
+        × (length file ≤ MOST_FILE_BYTES)
+    pub long : refused → IsUnspelt code
+
+-- `trace` ran this function of a code on the input: where it is done the file of the run's trace is stored; where it is
+-- refused this trace is too long, or tells more than a file can.
+pub record TracesRun (r : Chosen) (input : List ℕ) (room : Room) (out : List ℕ) (new : Option (List File))
+    (done refused : Type 0) : Type 0 where
+  pub stored : done → (t : T.Trace) × IsRunTrace (plain r.checked.code) r.entry input room t × (IsLong t → ⊥)
+      × HoldsFile new out (trace_text t)
+  pub long : refused → (t : T.Trace) × IsRunTrace (plain r.checked.code) r.entry input room t × IsLong t
+
+-- no code was made: the command isn't done, no file changes, and it is refused only where its source hasn't what it wants
+pub record IsUnmade (c : Command) (file : List ℕ) (old new : Option (List File)) (done refused : Type 0) : Type 0 where
+  pub undone : done → ⊥
+  pub kept : new ≡ old
+  pub unready : refused → (source : List ℕ) × HoldsFile old file source × (HasWanted c source → ⊥)
+
+-- What was made of the source that the command fetched, by the files before and after it and what the input told.
+abbrev pub MadeBy : Command → Option (List File) → Option (List File) → Option (List ℕ) → (done refused : Type 0) →
+    Option Checked → Type 0
+MadeBy (Compile file out) old new told done refused None = IsUnmade (Compile file out) file old new done refused
+MadeBy (Compile file out) old new told done refused (Some v) =
+    (source : List ℕ) × HoldsFile old file source × IsSourceCode source (plain_code v.code)
+    × CompilesCode (plain_code v.code) out new done refused
+MadeBy (Trace file entry out room) old new told done refused None =
+    IsUnmade (Trace file entry out room) file old new done refused
+MadeBy (Trace file entry out room) old new told done refused (Some v) =
+    (source : List ℕ) × HoldsFile old file source × (input : List ℕ) × IsTold told input
+    × (r : Chosen) × (r.checked ≡ v) × IsSourceEntry source entry r × TracesRun r input room out new done refused
+MadeBy c old new told done refused made = Unit {0}
+
+-- The same of the command that the words ask for: status 0 is told where it is done, 1 where it is refused.
+abbrev pub MadeFor : List (List ℕ) → Option (List File) → Option (List File) → Option (List ℕ) → ℕ → Option Checked →
+    Type 0
+MadeFor words old new told s made =
+    (c : Command) → IsCommand words c → MadeBy c old new told (s ≡ 0) (s ≡ 1) made
+
+-- It is so of some code of a call: of that of what is left, or else of another, or of none.
+abbrev pub SomeCode : Option Left → (Option Checked → Type 0) → Type 0
+SomeCode left Is = (made : Option Checked) × Is (code_of left made)

@@ -163,9 +163,10 @@ typedef struct FipKept {
 
 /* Codes: verifying one, what it has, its end */
 
-/* Reads and verifies a code file. Status 0: `machine` gets the address of a machine of that code, with no store
- * and no run; `fip_free` ends it. Else nothing is written there: 8 where the bytes are no code file, 11 where
- * the code isn't sound, 10 where there is no memory; `verdict` says more. Proved: is, status. */
+/* Reads and verifies a code file. Status 0: `machine` gets a machine of just that code, with no store and no
+ * run; `fip_free` ends it. What was in `machine` before is written over, and not ended. Else nothing is written
+ * there: 8 where the bytes are no code file, 11 where the code isn't sound, 10 where there is no memory;
+ * `verdict` says more. Proved: is, status, machine, none. */
 uint32_t fip_verify(const uint8_t *bytes, size_t bytes_size, FipMachine *machine, FipVerdict *verdict);
 
 /* Ends a machine, and frees all its memory: the code, the store, the run, what was kept. */
@@ -211,8 +212,8 @@ uint32_t fip_constructor(FipMachine *machine, uint32_t type_number, size_t i, si
 uint32_t fip_field_type(FipMachine *machine, uint32_t type_number, size_t i, size_t field, uint32_t *field_type);
 
 /* The bytes of memory that a store of so many words, with room for so many kept values, and a run of a function
- * with so many frames take at the most. Status 12: there is no such function. The machine stays as it is.
- * Proved: same, none. */
+ * with so many frames take at the most, by functions for memory that add at most 32 bytes to each block. Status
+ * 12: there is no such function. The machine stays as it is. Proved: same, tells, none. */
 uint32_t fip_need(FipMachine *machine, size_t number, size_t words, size_t kept, uint64_t frames, FipNeed *need);
 
 /* The store and its cells */

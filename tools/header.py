@@ -122,7 +122,7 @@ def parameters(name, kind, names):
         return []
     if kind == "Handle":
         return [f"FipMachine {name}"]
-    if kind == "&mut Handle" or (name, kind) == ("machine", "&mut *mut u8"):
+    if kind in ("&mut Handle", "&mut Slot"):
         return [f"FipMachine *{name}"]
     found = re.fullmatch(r"&(mut )?(\[)?(\w+)\]?", kind)
     if not found:

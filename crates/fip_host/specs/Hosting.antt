@@ -6,6 +6,7 @@
 -- end, status 0, and leaves the words of its results.
 use Rattle.std.specs.Prelude.{◌≡◌, ◌≤◌, ℕ, Bool, true, false, List, [], ◌++◌, Option, Some, None, length, slice_get}
 use Rattle.std.specs.Prelude.{IfSome}
+use Rattle.fip_language.specs.SoundTable.{IsSoundTable}
 use Rattle.fip_machine.specs.machine_cells.machine_semantics.Codes.{plain}
 use Rattle.fip_machine.specs.machine_cells.machine_semantics.Cells.{Store}
 use Rattle.fip_machine.specs.machine_cells.machine_semantics.States.{Typed, State}
@@ -42,9 +43,10 @@ pub record Seen : Type 0 where
   pub is_open : Bool
   pub kept : List (Option Kept)
 
--- What a machine keeps to between calls: its run can be taken up over its code, no word is on the store's stack, and
--- the places of its cells have 32 bits.
+-- What a machine keeps to between calls: the table of its code's types is sound, its run can be taken up over its code,
+-- no word is on the store's stack, and the places of its cells have 32 bits.
 pub record IsHosted (code : Checked) (task : Option Paused) (cells : Cells) (pushed : List ℕ) : Type 0 where
+  pub table : IsSoundTable code.code.types
   pub resumes : IfSome task (CanResume code)
   pub empty : pushed ≡ []
   pub small : IsSmall cells

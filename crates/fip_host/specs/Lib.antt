@@ -3,5 +3,7 @@ pub mod HandleFollows
 pub mod Statuses
 pub mod Verdicts
 pub mod Hosting
+pub mod Handing
+pub mod Needing
 pub mod Telling
 pub mod Starting

@@ -4,6 +4,7 @@ use Rattle.std.specs.Prelude.{◌≡◌, ℕ, List}
 use Rattle.fip_language.specs.Prefix.{IsPlace}
 use Rattle.code_file.specs.CodeText.{IsFileOf}
 use Rattle.code_file.specs.Plain.{plain_code}
+use Rattle.code_verify.specs.Checked.{Checked}
 use Rattle.code_verify.specs.cell_code.declared.code.Code.{Code}
 use Rattle.code_verify.specs.code_rules.Breaks.{IsLeast, IsSound}
 use Rattle.code_verify.specs.code_rules.Codes.{plain}
@@ -22,6 +23,11 @@ rule_number R.S6 = 6
 rule_number R.S7 = 7
 rule_number R.S8 = 8
 rule_number R.S9 = 9
+
+-- The bytes spell this code, and it is sound.
+pub record IsCodeOf (bytes : List ℕ) (v : Checked) : Type 0 where
+  pub spelled : IsFileOf bytes (plain_code v.code)
+  pub sound : IsSound (plain v.code)
 
 -- The bytes spell a sound code.
 pub record SpellsSound (bytes : List ℕ) : Type 0 where

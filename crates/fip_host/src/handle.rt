@@ -1,7 +1,8 @@
 // A machine behind a pointer, which a C program holds.
-ghost use Rattle.std.specs.Prelude.{◌≡◌};
+ghost use Rattle.std.specs.Prelude.{◌≡◌, Option, Some};
+ghost use Rattle.std.specs.Coded.{coded_option};
 ghost use Rattle.fip_host.specs.declared.hosted.Hosted.{Hosted};
-ghost use Rattle.fip_host.specs.HandleOwns.{handle_owns, hosted_coded};
+ghost use Rattle.fip_host.specs.HandleOwns.{handle_owns, hosted_coded, slot_owns};
 
 mod parts;
 
@@ -47,6 +48,39 @@ impl Handle {
         let Handle { at, alloc } = self;
         Parts {
             ptr: at as *mut Hosted,
+            alloc,
+        }
+    }
+}
+
+/// Where a C program is handed a machine: a handle of it, or nothing yet. What is put there takes the place of what was
+/// there, which isn't ended.
+#[repr(C)]
+#[derive(Drop)]
+pub struct Slot {
+    at: *mut u8,
+    alloc: Global,
+    pub ghost held: { Option Hosted } by { coded_option hosted_coded },
+}
+
+impl Model for Slot {
+    ghost also_owns = { λ s. slot_owns s.alloc s.at s.held };
+}
+
+impl Slot {
+    /// A slot with the machine of a box.
+    pub fn of(machine: Box<Hosted>) -> Slot
+        ensures { result.held ≡ Some machine.value }
+    {
+        Slot::of_parts(Parts::of(machine))
+    }
+
+    fn of_parts(parts: Parts<Hosted, Global>) -> Slot
+        ensures { result.held ≡ Some parts.value }
+    {
+        let Parts { ptr, alloc } = parts;
+        Slot {
+            at: ptr as *mut u8,
             alloc,
         }
     }

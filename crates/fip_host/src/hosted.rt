@@ -1,6 +1,7 @@
 // A machine that owns its code.
 ghost use Rattle.std.specs.Prelude.{◌≡◌, ◌<◌, ◌⊎◌, [], None, Err, replicate, slice_get, OnErr, OnOk, IfOk, IfSome};
 ghost use Rattle.std.specs.Prelude.{Some};
+ghost use Rattle.fip_language.specs.SoundTable.{IsSoundTable};
 ghost use Rattle.fip_language.specs.declared.limits.TheConstants.{MOST_STORE_WORDS};
 ghost use Rattle.code_verify.specs.code_rules.Codes.{is_fip};
 ghost use Rattle.fip_host.specs.Hosting.{Seen};
@@ -70,6 +71,7 @@ pub fn no_cells(alloc: Global) -> Sealed
     ensures cells { result.cells ≡ [] }
     ensures released { result.released ≡ [] }
     ensures pushed { result.pushed ≡ [] }
+    ensures left { result.left ≡ 0 }
 {
     seal(Loader::new(alloc, 0))
 }
@@ -89,9 +91,12 @@ pub fn sealed(loader: Loader) -> Sealed
 impl Hosted {
     /// A machine of a code, with no store and no run. It takes no memory.
     pub fn of(alloc: Global, verified: Verified) -> Hosted
+        requires table { IsSoundTable verified.code.types }
         ensures code { result.code ≡ verified }
         ensures task { result.task ≡ None }
         ensures cells { result.store.cells ≡ [] }
+        ensures released { result.store.released ≡ [] }
+        ensures left { result.left ≡ 0 }
         ensures kept { result.kept ≡ [] }
     {
         Hosted {

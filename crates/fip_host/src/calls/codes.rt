@@ -1,16 +1,19 @@
 // Verifying a code, what it has, and its end.
-ghost use Rattle.std.specs.Prelude.{◌≡◌, ◌≢◌, ◌<◌, ℕ, Some, None, Err, IfOk, length, slice_get};
+ghost use Rattle.std.specs.Prelude.{◌≡◌, ◌≢◌, ◌<◌, ℕ, false, Some, None, Err, IfOk, IsTrue, length, slice_get};
+ghost use Rattle.fip_language.specs.SoundTable.{IsSoundTable};
 ghost use Rattle.fip_language.specs.Table.{constructors, Shape};
 ghost use Rattle.cell_code.specs.Naming.{IsNamed};
 ghost use Rattle.cell_code.specs.declared.code.Function.{Function as a_function};
 ghost use Rattle.fip_base.specs.declared.plain.Param.{Param as a_param};
-ghost use Rattle.fip_host.specs.Verdicts.{IsVerdict, SpellsSound, rule_number};
+ghost use Rattle.fip_host.specs.Verdicts.{IsVerdict, IsCodeOf, rule_number};
+ghost use Rattle.fip_host.specs.Handing.{IsNewMachine, IsMachineOf};
+ghost use Rattle.fip_host.specs.Needing.{IsNeed};
 ghost use Rattle.fip_host.specs.Telling.{IsFunction, byte_count, field_count, filled};
 ghost use Rattle.fip_host.specs.declared.answer.FipVerdict.{FipVerdict as a_verdict};
 
 use super::fill;
 use crate::answer::{FipFunction, FipNeed, FipParameter, FipVerdict};
-use crate::handle::Handle;
+use crate::handle::{Handle, Slot};
 use crate::hosted::Hosted;
 use cell_code::named;
 use code_file::{ReadCodeError, read_code};
@@ -50,12 +53,17 @@ fn rule_number(rule: SoundRule) -> u32
 
 // The sound code of a file, or the verdict on its bytes.
 fn verified_of(alloc: Global, bytes: &[u8]) -> Result<Verified, FipVerdict>
-    ensures sound { IfOk result (λ v. SpellsSound bytes.now) }
+    ensures sound { IfOk result (IsCodeOf bytes.now) }
+    ensures table { IfOk result (λ v. IsSoundTable v.code.types) }
     ensures verdict { (v : a_verdict) → result ≡ Err v → IsVerdict bytes.now v }
+    ensures refused { (v : a_verdict) → result ≡ Err v → v.status ≢ 0 }
 {
     match read_code(alloc, bytes) {
         Ok(code) => match verify(alloc, code) {
-            Ok(verified) => Ok(verified),
+            Ok(verified) => {
+                let _code = verified.code();
+                Ok(verified)
+            }
             Err(VerifyError::Unsound { function, at, rule }) => {
                 Err(told(11, rule_number(rule), function, at))
             }
@@ -66,20 +74,26 @@ fn verified_of(alloc: Global, bytes: &[u8]) -> Result<Verified, FipVerdict>
     }
 }
 
-// Puts a machine of the code behind a pointer of the host's; false where there is no memory.
-fn hand_out(alloc: Global, verified: Verified, machine: &mut *mut u8) -> bool {
+// Puts a machine of the code where the host wants it; false where there is no memory.
+fn hand_out(alloc: Global, verified: Verified, machine: &mut Slot) -> bool
+    requires table { IsSoundTable verified.code.types }
+    ensures machine { IsTrue result → IsNewMachine verified machine.new.held }
+    ensures none { result ≡ false → machine.new ≡ machine.old }
+{
     match Box::new(alloc, Hosted::of(alloc, verified)) {
         Ok(boxed) => {
-            *machine = Box::into_raw(boxed) as *mut u8;
+            *machine = Slot::of(boxed);
             true
         }
         Err(_) => false,
     }
 }
 
-// The verdict on the bytes; where they spell a sound code, a machine of it is behind the pointer.
-fn judged(alloc: Global, bytes: &[u8], machine: &mut *mut u8) -> FipVerdict
+// The verdict on the bytes; where they spell a sound code, a machine of it is put where the host wants it.
+fn judged(alloc: Global, bytes: &[u8], machine: &mut Slot) -> FipVerdict
     ensures is { IsVerdict bytes.now result }
+    ensures machine { result.status ≡ 0 → IsMachineOf bytes.now machine.new.held }
+    ensures none { result.status ≢ 0 → machine.new ≡ machine.old }
 {
     match verified_of(alloc, bytes) {
         Ok(verified) => {
@@ -93,18 +107,20 @@ fn judged(alloc: Global, bytes: &[u8], machine: &mut *mut u8) -> FipVerdict
     }
 }
 
-/// Reads and verifies a code file. Status 0: `machine` gets the address of a machine of that code, with no store and no
-/// run; `fip_free` ends it. Else nothing is written there: 8 where the bytes are no code file, 11 where the code isn't
-/// sound, 10 where there is no memory; `verdict` says more.
+/// Reads and verifies a code file. Status 0: `machine` gets a machine of just that code, with no store and no run;
+/// `fip_free` ends it. What was in `machine` before is written over, and not ended. Else nothing is written there: 8
+/// where the bytes are no code file, 11 where the code isn't sound, 10 where there is no memory; `verdict` says more.
 #[unsafe(no_mangle)]
 pub extern "C" fn fip_verify(
     alloc: Global,
     bytes: &[u8],
-    machine: &mut *mut u8,
+    machine: &mut Slot,
     verdict: &mut FipVerdict,
 ) -> u32
     ensures is { IsVerdict bytes.now verdict.new }
     ensures status { result ≡ verdict.new.status }
+    ensures machine { result ≡ 0 → IsMachineOf bytes.now machine.new.held }
+    ensures none { result ≢ 0 → machine.new ≡ machine.old }
 {
     *verdict = judged(alloc, bytes, machine);
     verdict.status
@@ -338,7 +354,8 @@ pub extern "C" fn fip_field_type(
 }
 
 /// The bytes of memory that a store of so many words, with room for so many kept values, and a run of a function with
-/// so many frames take at the most. Status 12: there is no such function.
+/// so many frames take at the most, by functions for memory that add at most 32 bytes to each block. Status 12: there
+/// is no such function.
 #[unsafe(no_mangle)]
 pub extern "C" fn fip_need(
     machine: &mut Handle,
@@ -349,6 +366,7 @@ pub extern "C" fn fip_need(
     need: &mut FipNeed,
 ) -> u32
     ensures same { machine.new.held ≡ machine.old.held }
+    ensures tells { result ≡ 0 → IsNeed machine.old.held.code number words kept frames need.new }
     ensures none { result ≢ 0 → (result ≡ 12) × (need.new ≡ need.old)
         × (slice_get machine.old.held.code.code.functions.items number ≡ None) }
 {

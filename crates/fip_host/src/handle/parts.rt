@@ -16,6 +16,15 @@ impl<T, A: Allocator> Model for Parts<T, A> {
 }
 
 impl<T, A: Allocator> Parts<T, A> {
+    pub fn of(b: Box<T, A>) -> Parts<T, A>
+    where
+        T: Drop,
+        ensures { result.value ≡ b.value }
+    {
+        let (ptr, alloc) = Box::into_raw_with_allocator(b);
+        Parts { ptr, alloc }
+    }
+
     pub fn into_box(self) -> Box<T, A>
         ensures { result.value ≡ self.value }
     {

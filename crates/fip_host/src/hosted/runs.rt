@@ -1,20 +1,29 @@
 // Runs over a machine's store: starting, stepping, running to the end, and what came of them.
-ghost use Rattle.std.specs.Prelude.{◌≡◌, ◌≢◌, ◌≤◌, ◌<◌, [], Some, None, Err, IfSome, IfNone, OnOk, length};
-ghost use Rattle.std.specs.Prelude.{option_map, slice_get};
+ghost use Rattle.std.specs.Prelude.{◌≡◌, ◌≢◌, ◌≤◌, ◌<◌, ◌+◌, ◌*◌, ℕ, [], Some, None, Err, IfSome, IfNone, OnOk, length};
+ghost use Rattle.std.specs.Prelude.{List, option_map, slice_get};
 ghost use Rattle.fip_language.specs.declared.limits.TheConstants.{MOST_FRAMES};
 ghost use Rattle.code_verify.specs.Checked.{Checked};
 ghost use Rattle.fip_machine.specs.Pausing.{stand_of};
-ghost use Rattle.fip_machine.specs.Tasks.{ended_by};
+ghost use Rattle.fip_machine.specs.Tasks.{ended_by, state_with, IsFresh};
+ghost use Rattle.fip_machine.specs.Ending.{KnowsRun, RunsTo};
+ghost use Rattle.fip_machine.specs.GaugeView.{IsUnseen, TellsRun};
+ghost use Rattle.fip_machine.specs.machine_cells.Small.{IsSmall};
+ghost use Rattle.fip_machine.specs.machine_cells.machine_semantics.Codes.{plain};
+ghost use Rattle.fip_machine.specs.machine_cells.machine_semantics.States.{Typed};
+ghost use Rattle.fip_machine.specs.machine_cells.machine_semantics.Steps.{Kinds};
 ghost use Rattle.fip_host.specs.Hosting.{StepsTo, RunsOn, IsAtStart, IsStarted, IsIdle, end_now, results_of};
 ghost use Rattle.fip_host.specs.Hosting.{words_given};
 ghost use Rattle.fip_host.specs.Starting.{IsTextStarted};
+ghost use Rattle.fip_host.specs.Needing.{IsNeed, capped, largest_frame, places_bytes, store_bytes, words_held};
 ghost use Rattle.fip_host.specs.Statuses.{end_at, end_by, end_by_run};
 
 use super::cells::add_credits;
 use super::{Hosted, no_cells, sealed};
 use crate::answer::{FipEnd, FipNeed, Refusal, trap_number};
+use cell_code::Function;
 use code_verify::Verified;
-use fip_language::limits::MOST_FRAMES;
+use fip_base::plain::Stack;
+use fip_language::limits::{MOST_FIELDS, MOST_FRAMES};
 use fip_machine::{Ended, Gauge, Machine, Paused, Stepped, TaskStack};
 use std::alloc::Global;
 use value_text::{LoadError, load_values};
@@ -90,6 +99,23 @@ fn end_of_run(ended: Ended) -> FipEnd
         Ended::Deep => end_of(Some(Stepped::Deep)),
         Ended::Out => end_at(4),
     }
+}
+
+// Runs a machine to the end. It is no part of its caller's code, so that the registers of the processor are the loop's.
+#[inline(never)]
+fn drive<'a>(machine: &mut Machine<'a>, calls: u64, gauge: &mut Gauge) -> Ended
+    ensures code { machine.new.stack.code ≡ machine.old.stack.code }
+    ensures run { (kinds : Kinds) (lent : List Typed) → KnowsRun machine.old.stack.code kinds
+        (state_with machine.old.stack lent machine.old.store) calls → machine.old.stack.ended ≡ None →
+        IsSmall machine.old.store.cells → machine.old.pushed ≡ [] → RunsTo kinds (plain machine.old.stack.code.code)
+        (state_with machine.old.stack lent machine.old.store) calls result
+        (state_with machine.new.stack lent machine.new.store) machine.new.stack.given }
+    ensures gauge { IsUnseen gauge.old → (kinds : Kinds) (lent : List Typed) → KnowsRun machine.old.stack.code kinds
+        (state_with machine.old.stack lent machine.old.store) calls → IsFresh machine.old.stack →
+        IsSmall machine.old.store.cells → machine.old.pushed ≡ [] → TellsRun kinds (plain machine.old.stack.code.code)
+        (state_with machine.old.stack lent machine.old.store) calls gauge.new }
+{
+    machine.run(calls, gauge)
 }
 
 /// The words of the results of a run that ended with values, where they are open to be read.
@@ -247,7 +273,7 @@ impl Hosted {
             Some(paused) => {
                 let cells = std::mem::replace(&mut self.cells, no_cells(alloc));
                 let mut machine = Machine::of(paused.resume(&self.verified), cells);
-                let ended = machine.run(calls, &mut self.gauge);
+                let ended = drive(&mut machine, calls, &mut self.gauge);
                 let (stack, cells) = machine.into_parts();
                 self.cells = sealed(cells.reopen());
                 self.task = Some(stack.pause());
@@ -285,29 +311,39 @@ impl Hosted {
     /// The bytes of memory that a store of so many words, with room for so many kept values, and a run of a function
     /// with so many frames take.
     pub fn need(&self, number: usize, words: usize, kept: usize, frames: u64) -> Option<FipNeed>
+        ensures some { IfSome result (IsNeed self.now.code number words kept frames) }
         ensures none { result ≡ None → slice_get self.now.code.code.functions.items number ≡ None }
     {
         let Some(function) = self.function(number) else {
             return None;
         };
+        let largest = largest_frame(self.verified.code().functions.as_slice());
+        let held = words_held(self.verified.code_stack(number), frames, largest);
         Some(FipNeed {
             store: store_bytes(words, kept),
-            run: run_bytes(&self.verified, number, function.registers as usize, frames),
+            run: run_bytes(held, function.registers as usize, largest),
         })
     }
 }
 
-// A block has a header of at most 16 bytes, and is rounded up to 16.
-const BLOCK: usize = 32;
-
-// The bytes of a store: 8 for each word, a bit for each word, 8 for each cell, and 4 for each cell of each size.
-fn store_bytes(words: usize, kept: usize) -> usize {
-    let mut bytes = 4096usize;
-    for size in 2..18usize {
-        bytes = bytes.saturating_add((words / size).saturating_mul(4));
-        bytes = bytes.saturating_add(BLOCK);
+// The lists of places of a store: for each size of cells 4 bytes for each that it may have, and a block.
+fn places_bytes(words: usize) -> usize
+    ensures is { result ≡ capped (places_bytes 16 words) }
+{
+    let mut bytes = 0usize;
+    for size in 0..MOST_FIELDS {
+        bytes = bytes.saturating_add((words / (size + 2)).saturating_mul(4));
+        bytes = bytes.saturating_add(32);
     }
     bytes
+}
+
+// The bytes of a store.
+fn store_bytes(words: usize, kept: usize) -> usize
+    ensures is { result ≡ capped (store_bytes words kept) }
+{
+    places_bytes(words)
+        .saturating_add(4096)
         .saturating_add(words.saturating_mul(8))
         .saturating_add((words / 64).saturating_mul(8))
         .saturating_add((words / 2).saturating_mul(8))
@@ -315,24 +351,32 @@ fn store_bytes(words: usize, kept: usize) -> usize {
 }
 
 // The words of the greatest frame.
-fn largest_frame(verified: &Verified) -> usize {
+fn largest_frame(functions: &[Function]) -> usize
+    ensures is { result ≡ largest_frame functions.now }
+{
     let mut largest = 2usize;
-    for function in &verified.code().functions {
+    for function in functions {
         largest = largest.max(function.registers as usize + 2);
     }
     largest
 }
 
-// The bytes of a run: the words of its frames, the arguments' beside them, and the greatest frame once more.
-fn run_bytes(verified: &Verified, number: usize, registers: usize, frames: u64) -> usize {
-    let largest = largest_frame(verified);
-    let words = match verified.code_stack(number) {
+// The words of all frames of a run.
+fn words_held(stack: Option<Stack>, frames: u64, largest: usize) -> usize
+    ensures is { result ≡ capped (words_held stack frames largest) }
+{
+    match stack {
         Some(stack) => stack.words,
         None => largest.saturating_mul(frames.min(MOST_FRAMES as u64) as usize + 1),
-    };
-    words
-        .saturating_add(registers)
+    }
+}
+
+// The bytes of a run: the words of its frames, the arguments' beside them, and the greatest frame once more.
+fn run_bytes(held: usize, registers: usize, largest: usize) -> usize
+    ensures is { result ≡ capped ((held + registers + largest) * 8 + 128) }
+{
+    held.saturating_add(registers)
         .saturating_add(largest)
         .saturating_mul(8)
-        .saturating_add(4 * BLOCK)
+        .saturating_add(128)
 }

@@ -21,8 +21,9 @@ pub invariant_of-self : goal.invariant_of-self
 invariant_of-self c =
     let took = c.of-machine.ensures.stack ∙ c.resume.ensures.same in
     let s = c.into_parts-stack.result.0 in
-    let code = ap (λ (t : Stand). t.code) c.into_parts-stack.ensures.stack ∙ c.run-ended.ensures.code in
+    let code = ap (λ (t : Stand). t.code) c.into_parts-stack.ensures.stack ∙ c.drive-ended.ensures.code in
     record {
+      table = c.self.invariant.table;
       resumes = resumed c.self.inside.verified c.in-Some.paused c.pause.result c.of-machine.result.stack s took code c.pause.ensures.can;
       empty = c.sealed.ensures.pushed;
       small = c.sealed.ensures.small;
@@ -35,26 +36,26 @@ returns-in-Some-clause-runs c =
     let p = c.in-Some.paused in
     let q = c.pause.result in
     let m = c.of-machine.result in
-    let n = c.run-ended.new.self in
+    let n = c.drive-ended.new.machine in
     let s = c.into_parts-stack.result.0 in
     let k = c.sealed.result in
     let calls = c.args.calls in
-    let ended = c.run-ended.result in
-    let g = c.run-ended.new.gauge in
+    let ended = c.drive-ended.result in
+    let g = c.drive-ended.new.gauge in
     let old = c.args.self.now in
     let new : Seen = record { code = v; task = Some (stand_of v q); store = store_of k.cells k.released; left = k.left; gauge = g; entry = i.entry; is_open = i.is_open; kept = i.kept.items } in
     let taken : i.task ≡ Some p = sym c.take.ensures.value ∙ c.in-Some.is in
     let is_old : old.task ≡ Some (stand_of v p) = sym (ap (λ (x : Seen). x.task) c.self.view_is) ∙ ap (λ (o : Option Paused). option_map (stand_of v) o) taken in
     let took : m.stack ≡ stand_of v p = c.of-machine.ensures.stack ∙ c.resume.ensures.same in
-    let code : s.code ≡ m.stack.code = ap (λ (t : Stand). t.code) c.into_parts-stack.ensures.stack ∙ c.run-ended.ensures.code in
+    let code : s.code ≡ m.stack.code = ap (λ (t : Stand). t.code) c.into_parts-stack.ensures.stack ∙ c.drive-ended.ensures.code in
     let stood : stand_of v q ≡ s = stands v p q m.stack s took code c.pause.ensures.same in
     let first : m.store ≡ store_of i.cells.cells i.cells.released = c.of-machine.ensures.store ∙ ap (λ (x : Stored). store_of x.cells x.released) c.replace-cells.ensures.value in
     let store : m.store ≡ old.store = first ∙ ap (λ (x : Seen). x.store) c.self.view_is in
     let last : n.store ≡ new.store = sym c.into_parts-stack.ensures.store ∙ same_store _ _ _ _ (sym (c.sealed.ensures.cells ∙ c.reopen.ensures.cells)) (sym (c.sealed.ensures.released ∙ c.reopen.ensures.released)) in
     let empty : m.pushed ≡ [] = c.of-machine.ensures.pushed ∙ ap (λ (x : Stored). x.pushed) c.replace-cells.ensures.value ∙ c.self.invariant.empty in
     let small : IsSmall m.store.cells = subst (λ (x : Store). IsSmall x.cells) (sym first) c.self.invariant.small in
-    let ran : Runs m.stack n.stack m.store n.store calls ended = λ kinds lent knows going. c.run-ended.ensures.run kinds lent knows going small empty in
-    let seen : Gauges m.stack m.store calls i.gauge g = λ unseen kinds lent knows fresh. c.run-ended.ensures.gauge unseen kinds lent knows fresh small empty in
+    let ran : Runs m.stack n.stack m.store n.store calls ended = λ kinds lent knows going. c.drive-ended.ensures.run kinds lent knows going small empty in
+    let seen : Gauges m.stack m.store calls i.gauge g = λ unseen kinds lent knows fresh. c.drive-ended.ensures.gauge unseen kinds lent knows fresh small empty in
     let ran_on : Runs m.stack s old.store new.store calls ended = subst (λ (x : Store). Runs m.stack s x new.store calls ended) store (subst (λ (x : Store). Runs m.stack s m.store x calls ended) last (subst (λ (t : Stand). Runs m.stack t m.store n.store calls ended) (sym c.into_parts-stack.ensures.stack) ran)) in
     let seen_on : Gauges m.stack old.store calls old.gauge g = subst (λ (x : Gauge). Gauges m.stack old.store calls x g) (ap (λ (x : Seen). x.gauge) c.self.view_is) (subst (λ (x : Store). Gauges m.stack x calls i.gauge g) store seen) in
     has_run v p q m.stack s old new calls ended c.end_of_run.result is_old refl took stood c.end_of_run.ensures.is ran_on seen_on

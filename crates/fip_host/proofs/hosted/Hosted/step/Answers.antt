@@ -18,6 +18,7 @@ resume-stack-requires c =
 
 pub invariant_of-self : goal.invariant_of-self
 invariant_of-self c = record {
+  table = c.self.invariant.table;
   resumes = resumed c.self.inside.verified c.in-Some.paused c.pause.result c.resume-stack.result c.step-stepped.new.self c.resume-stack.ensures.same c.step-stepped.ensures.code c.pause.ensures.can;
   empty = c.step-stepped.ensures.pushed c.self.invariant.empty;
   small = c.step-stepped.ensures.small c.self.invariant.small;

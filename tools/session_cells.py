@@ -149,8 +149,8 @@ fn main(rt: HostRuntime) -> ExitCode {
 
 # ---- the program
 
-def made_in(folder):
-    """The program, compiled without a proof of a copy of these sources, in which it stands in the place of fip_cli."""
+def compiled(folder, main, uses):
+    """A program, compiled without a proof of a copy of these sources, in which it stands in the place of fip_cli."""
     copy = folder / "copy"
     listed = subprocess.run(["git", "ls-files", "-co", "--exclude-standard", "--", "crates", "crates.txt", "tools", "fp2"],
                             cwd=TOP, capture_output=True, text=True, check=True).stdout.split("\n")
@@ -160,16 +160,20 @@ def made_in(folder):
             shutil.copy2(TOP / name, copy / name)
     cli = copy / "crates/fip_cli"
     shutil.rmtree(cli / "proofs", ignore_errors=True)
-    main = MAIN.replace("NUMBER", str(len(NAMES))).replace("LIST", ", ".join(f'"{n}"' for n in NAMES))
     (cli / "src/main.rt").write_text(main)
-    line = "fip_cli: fip_base fip_outside fip_session cell_store session_lines command_source"
     crates = (copy / "crates.txt").read_text()
-    (copy / "crates.txt").write_text(re.sub(r"^fip_cli:.*$", line, crates, flags=re.M))
+    (copy / "crates.txt").write_text(re.sub(r"^fip_cli:.*$", "fip_cli: " + uses, crates, flags=re.M))
     subprocess.run([copy / "fp2", "none"], cwd=copy, env={**os.environ, "FP2_LANES": "0"}, check=False)
     found = [p for p in (copy / "out/unproved").glob("*") if p.is_file() and os.access(p, os.X_OK)]
     if not found:
-        sys.exit("tools/session_cells.py: the program wasn't made")
+        sys.exit("the program wasn't made")
     return found[0]
+
+
+def made_in(folder):
+    """The program that tells names and cells."""
+    main = MAIN.replace("NUMBER", str(len(NAMES))).replace("LIST", ", ".join(f'"{n}"' for n in NAMES))
+    return compiled(folder, main, "fip_base fip_outside fip_session cell_store session_lines command_source")
 
 
 # ---- what the definition says

@@ -177,7 +177,7 @@ def exports(text, names):
 def check_statuses(answer, others):
     """That each status of the sources has a name here, and each name its status."""
     told = re.findall(r"Refusal::\w+(?: \{ \.\. \})? => (\d+),", answer)
-    told += [it for text in others for it in re.findall(r"\b(?:told|verdict|end_at)\((\d+)|\bstatus: (\d+)", text)]
+    told += [it for text in others for it in re.findall(r"\b(?:told|reported|verdict|end_at)\((\d+)|\bstatus: (\d+)", text)]
     numbers = {int(number) for it in told for number in ([it] if isinstance(it, str) else it) if number}
     numbers.add(0)
     if numbers != set(STATUSES):

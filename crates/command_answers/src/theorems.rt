@@ -21,8 +21,8 @@ pub fn a_command_ends_with_one_thing()
         Execs source name input room gauge d → Execs source name input room gauge e → d ≡ e }
 {}
 
-/// What the run of an entry's code comes to is what evaluation on trees gives, gauge included; and so is the tree of
-/// `gen`. For who asks what a code has to do with an answer.
+/// What the run of an entry's code comes to is what evaluation on trees gives, gauge included; and what `gen` tells of the
+/// run of the library's `build` is what is told of the drawn keys. For who asks what a code has to do with an answer.
 pub fn a_run_is_told_by_trees()
     ensures executes { (source name input : List ℕ) (room : Room) (gauge : Bool) (e : an_end) →
         R.Execs source name input room gauge e → Execs source name input room gauge e }

@@ -23,7 +23,7 @@ use command_words::Command;
 use fip_outside::outside::{Folder, Source};
 use std::alloc::Global;
 
-/// What a command comes to. The code that `compile` or `trace` made is handed out, where it isn't left.
+/// What a command comes to. The code that `compile` or `trace` made is handed out, or it is the one that is left.
 pub fn answer<F: Folder, S: Source>(
     alloc: Global,
     command: &Command<'_>,

@@ -21,7 +21,7 @@ use fip_base::plain::Status;
 use fip_outside::outside::{Folder, Source};
 use std::alloc::Global;
 
-/// What the words come to. The code that `compile` or `trace` made is handed out, where it isn't left.
+/// What the words come to. The code that `compile` or `trace` made is handed out, or it is the one that is left.
 pub fn outcome<F: Folder, S: Source>(
     alloc: Global,
     words: &[String],

@@ -16,8 +16,7 @@ use fip_outside::outside::{Folder, Sink, Source};
 use std::alloc::Global;
 
 /// Answers words as `fp2` does, which is this call without `made`. There it hands out the code that `compile` or `trace`
-/// made of its source, also where this code has no file that isn't too long (E61), or its run's trace hasn't (E75). Where
-/// the code is left it isn't handed out by itself.
+/// made of its source, also where this code has no file that isn't too long (E61), or its run's trace hasn't (E75).
 pub fn fp2_with_code<F: Folder, S: Source, O: Sink, E: Sink>(
     alloc: Global,
     words: &[String],

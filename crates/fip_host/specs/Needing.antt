@@ -1,4 +1,4 @@
--- The bytes of memory that a store and a run take, which `fip_need` tells.
+-- The bytes of memory that are reckoned for a store and a run, which `fip_need` tells.
 --
 -- rev, which is fip, of 7 registers and with frames of 9 words, alone in its code: 8 * (9 + 7 + 9) + 128 = 328 bytes
 -- for a run.
@@ -29,7 +29,7 @@ abbrev pub places_bytes : ℕ → ℕ → ℕ
 places_bytes zero words = 0
 places_bytes (suc k) words = places_bytes k words + (words / (suc k + 1)) * 4 + 32
 
--- a store: its words, two bits and a half for each, lists of places, and the kept values
+-- a store: its words, one bit and half a word for each, lists of places, and the kept values
 abbrev pub store_bytes : ℕ → ℕ → ℕ
 store_bytes words kept =
     4096 + places_bytes 16 words + words * 8 + (words / 64) * 8 + (words / 2) * 8 + kept * 24

@@ -353,9 +353,9 @@ pub extern "C" fn fip_field_type(
     }
 }
 
-/// The bytes of memory that a store of so many words, with room for so many kept values, and a run of a function with
-/// so many frames take at the most, by functions for memory that add at most 32 bytes to each block. Status 12: there
-/// is no such function.
+/// The bytes of memory that are reckoned for a store of so many words, with room for so many kept values, and for a run
+/// of a function with so many frames, by functions for memory that add at most 32 bytes to each block: a formula, which is
+/// enough as tests show. Status 12: there is no such function.
 #[unsafe(no_mangle)]
 pub extern "C" fn fip_need(
     machine: &mut Handle,

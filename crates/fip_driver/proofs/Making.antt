@@ -1,12 +1,12 @@
 -- Which code a call made: what is said of it by what the command comes to, and then by the status.
 -- Idea: a code that was made is handed up as it is; where none was made the source isn't there, or is refused, and nothing is
 -- stored.
-use Rattle.std.proofs.Common.{◌≡◌, ◌∙◌, ◌<◌, ◌≤◌, ℕ, List, Option, Some, None, length, refl, sym, ap, subst, arith}
+use Rattle.std.proofs.Common.{◌≡◌, ◌<◌, ◌≤◌, ℕ, List, [], Option, Some, None, length, refl, sym, ap, subst, arith}
 use Rattle.std.specs.Prelude.{Result, Ok, Err, IfOk, IfErr, IfSome, IsSomeAnd, OnOk}
 use Rattle.std.specs.declared.vec.Vec.{Vec}
 use Rattle.std.specs.declared.alloc.Global.{Global}
 use Rattle.std.specs.Io.KnownBytes.{Consumes, IsAtEnd}
-use Rattle.fip_language.specs.declared.limits.TheConstants.{MOST_SOURCE_BYTES}
+use Rattle.fip_language.specs.declared.limits.TheConstants.{MOST_FILE_BYTES, MOST_SOURCE_BYTES}
 use Rattle.fip_outside.specs.Files.{File, file_of, HoldsFile, HoldsLonger}
 use Rattle.command_words.specs.Words.{Room, Command, Compile, Trace, IsCommand}
 use Rattle.command_outcome.specs.declared.failure.Failure.{Failure}
@@ -113,8 +113,8 @@ module _ (file out : List ℕ) (old mid new : Option (List File)) (told : Option
   compiled (Some v) bytes before now o code own fails keeps =
       (source, holds, source_code source (plain_code v.code) (subst (λ xs. IsCodeOfSource xs (plain_code v.code)) is code), record { stored = done o keeps; long = unrefused o fails })
     where
-      done : (o : Outcome) → StoreKeeps out bytes mid new o → IsDone o → (b : List ℕ) × HoldsFile new out b × IsFileOfMade (Some v) b
-      done (Ok v) k d = (bytes, k.1, own)
+      done : (o : Outcome) → StoreKeeps out bytes mid new o → IsDone o → (b : List ℕ) × HoldsFile new out b × CodeText b Second (plain_code v.code) × (length b ≤ MOST_FILE_BYTES)
+      done (Ok text) k d = (bytes, k.1, own.0, own.1)
       done (Err f) k d = absurd d
 
       unrefused : (o : Outcome) → IfErr o (StoreFails before now) → IsRefused o → IsUnspelt (plain_code v.code)
@@ -141,7 +141,7 @@ module _ (file entry out : List ℕ) (room : Room) (old mid new : Option (List F
 
   -- its file was to be stored
   pub traced : (compiled : compiled_file) (before now : ℕ) (o : Outcome) → (bytes : List ℕ) × IsTold told bytes × A.TracesRun (plain r.checked.code) r.entry bytes room (Ok compiled) → IfErr o (StoreFails before now) → StoreKeeps out compiled.file.items mid new o → MadeBy (Trace file entry out room) old new told (IsDone o) (IsRefused o) made
-  traced compiled before now o (input, tells, t, run, short, same) fails keeps = its (IsDone o) (IsRefused o) input tells (record { stored = done o keeps; long = unrefused o fails })
+  traced compiled before now o (input, tells, (t, run, short, same)) fails keeps = its (IsDone o) (IsRefused o) input tells (record { stored = done o keeps; long = unrefused o fails })
     where
       done : (o : Outcome) → StoreKeeps out compiled.file.items mid new o → IsDone o → (t : T.Trace) × IsRunTrace (plain r.checked.code) r.entry input room t × (IsLong t → ⊥) × HoldsFile new out (trace_text t)
       done (Ok v) k d = (t, run, short, subst (HoldsFile new out) same k.1)

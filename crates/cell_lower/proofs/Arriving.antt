@@ -55,7 +55,7 @@ held_by (h ∷ hs) (suc r) = held_by hs r
 held_same : (hs ks : List Held) (r : ℕ) → slice_get ks r ≡ slice_get hs r → held_at ks r ≡ held_at hs r
 held_same hs ks r e = held_by ks r ∙ ap held_of e ∙ sym (held_by hs r)
 
-get_held : (hs : List Held) (r : ℕ) (h : Held) → held_at hs r ≡ h → (h ≡ H.Nothing → ⊥) → slice_get hs r ≡ Some h
+pub get_held : (hs : List Held) (r : ℕ) (h : Held) → held_at hs r ≡ h → (h ≡ H.Nothing → ⊥) → slice_get hs r ≡ Some h
 get_held [] r h e ne = absurd (ne (sym e))
 get_held (g ∷ hs) zero h e ne = ap Some e
 get_held (g ∷ hs) (suc r) h e ne = get_held hs r h e ne
@@ -125,7 +125,7 @@ credit_accounted k n r lt within solid low high a = record {
 
 -- ---- which constructor was built is forgotten
 
-wide_credit : (m : ℕ) (o : Option Held) → is_credit_of m (option_map widened o) ≡ is_credit_of m o
+pub wide_credit : (m : ℕ) (o : Option Held) → is_credit_of m (option_map widened o) ≡ is_credit_of m o
 wide_credit m None = refl
 wide_credit m (Some H.Nothing) = refl
 wide_credit m (Some (H.Scalar t)) = refl
@@ -143,11 +143,11 @@ wide_solid (Some (H.Lent t root)) = refl
 wide_solid (Some (H.Credit n)) = refl
 wide_solid (Some (H.Bare t c)) = refl
 
-wide_nothing : (o : Option Held) (h : Held) → ((g : Held) → o ≡ Some g → g ≡ H.Nothing) → option_map widened o ≡ Some h → h ≡ H.Nothing
+pub wide_nothing : (o : Option Held) (h : Held) → ((g : Held) → o ≡ Some g → g ≡ H.Nothing) → option_map widened o ≡ Some h → h ≡ H.Nothing
 wide_nothing None h none e = absurd (cc)
 wide_nothing (Some g) h none e = sym (same_some (widened g) h e) ∙ ap widened (none g refl)
 
-wide_is_credit : (o : Option Held) (n : ℕ) → option_map widened o ≡ Some (H.Credit n) → o ≡ Some (H.Credit n)
+pub wide_is_credit : (o : Option Held) (n : ℕ) → option_map widened o ≡ Some (H.Credit n) → o ≡ Some (H.Credit n)
 wide_is_credit None n e = absurd (cc)
 wide_is_credit (Some H.Nothing) n e = absurd (cc)
 wide_is_credit (Some (H.Scalar t)) n e = absurd (cc)
@@ -203,7 +203,7 @@ head_count : (tb : Table) (t c : ℕ) (fs : List ℕ) → IsHead tb t (Tag c) fs
 head_count tb zero c fs h = absurd h
 head_count tb (suc t) c fs h = slice_get_within (Rattle.fip_language.specs.Table.shapes tb t) c h.0 h.1
 
-head_fields : (tb : Table) (t c : ℕ) (fs : List ℕ) → IsHead tb t (Tag c) fs → fields tb t c ≡ fs
+pub head_fields : (tb : Table) (t c : ℕ) (fs : List ℕ) → IsHead tb t (Tag c) fs → fields tb t c ≡ fs
 head_fields tb zero c fs h = absurd h
 head_fields tb (suc t) c fs h = ap fields_of h.1 ∙ h.2
 

@@ -35,6 +35,8 @@ use Rattle.lower_frame.specs.Registers.{HasRoom, registers}
 use Rattle.lower_frame.specs.Labels.{labels}
 use Rattle.cell_lower.proofs.Shedding.{full_most, root_length}
 use Rattle.fip_language.proofs.Facts.{if_false, if_true, map_length, same_some}
+use Rattle.fip_trees.proofs.TreeViews.{count_patterns_view as counted}
+pub use Rattle.lower_frame.proofs.Losing.{loses_on as loses_then}
 
 pub adds_pattern : (c d : Choice) (q : Pattern) (root : Spot) (a b : ℕ) (r : Row) → Grows (spot_of c.root) (spot_of root) a b → Roomy q (spot_of root) → d.root ≡ root → d.ty ≡ c.ty → patterns_of d ≡ patterns_of c ++ q ∷ [] → (row r ≡ row_of q → HasRows (record c { root = root }) → HasRows d) → row r ≡ row_of q → AddsPattern c d q a b
 adds_pattern c d q root a b r g h e f p rs rq = record {
@@ -133,10 +135,6 @@ labels_first c d q a b v w p h f = labels_next c d q a b v v w h (let n : length
 
 -- cells
 
-counted : (ps : List Tree) → count_patterns (patterns ps) ≡ length ps
-counted [] = refl
-counted (p ∷ ps) = ap suc (counted ps)
-
 pub cell_credit : (s : Setting) (t c : ℕ) (ps : List Tree) (r : ℕ) (k : Known) → 0 < length ps → with_credit k (length ps) r ≡ with_cell s true t c (patterns ps) r k
 cell_credit s t c [] r k h = absurd (omega (arith, h))
 cell_credit s t c (p ∷ ps) r k h = ap (λ n. with_credit k (suc n) r) (sym (counted ps))
@@ -160,14 +158,6 @@ resumes_reached k l m h e le = let r = resumes_lost k l h in subst (Resumes k) (
   credits = r.credits;
   barer = r.barer;
 })
-
-pub loses_then : (k l m : Known) → Loses k l → Loses l m → Loses k m
-loses_then k l m p q = record {
-  names = q.names ∙ p.names;
-  next = q.next ∙ p.next;
-  credits = fewer_on k.credits l.credits m.credits p.credits q.credits;
-  barer = barer_on k.held l.held m.held p.barer q.barer;
-}
 
 pub entry_room : (k l m o : Known) → l.next ≡ k.next → registers l ≡ registers k → HasRoom l m → o ≡ m → HasRoom k o
 entry_room k l m o e f h g = let n : o.next ≡ m.next = ap (λ (x : Known). x.next) g in omega (arith, e, f, h, n)

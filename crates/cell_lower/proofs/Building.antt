@@ -64,7 +64,7 @@ held_map r [] q = refl
 held_map r (h ∷ hs) zero = refl
 held_map r (h ∷ hs) (suc q) = held_map r hs q
 
-without_lent : (r t : ℕ) (root p : Option ℕ) → (lent_by r p (H.Lent t root) ≡ H.Lent t root) ⊎ (lent_by r p (H.Lent t root) ≡ H.Nothing)
+pub without_lent : (r t : ℕ) (root p : Option ℕ) → (lent_by r p (H.Lent t root) ≡ H.Lent t root) ⊎ (lent_by r p (H.Lent t root) ≡ H.Nothing)
 without_lent r t root None = inl refl
 without_lent r t root (Some q) = by (q == r)
   where
@@ -72,7 +72,7 @@ without_lent r t root (Some q) = by (q == r)
     by true = inr refl
     by false = inl refl
 
-without_lower : (r : ℕ) (h : Held) → (without r h ≡ h) ⊎ (without r h ≡ H.Nothing)
+pub without_lower : (r : ℕ) (h : Held) → (without r h ≡ h) ⊎ (without r h ≡ H.Nothing)
 without_lower r H.Nothing = inl refl
 without_lower r (H.Scalar t) = inl refl
 without_lower r (H.Owned t b) = inl refl

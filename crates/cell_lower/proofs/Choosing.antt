@@ -134,7 +134,7 @@ module _ (s : Scene) (to : ℕ → ℕ) (code : List Instr) where
   good_start a b (d ∷ ds) l g = (subst (λ p. Good s to code p d.known d.read) (placed_same a b d.label l.0) g.0, good_start a b ds l.1 g.1)
 
 -- no side is left over by a side that is taken
-unlabelled : (ds : List Side) (d : Side) → ds ++ d ∷ [] ≡ first_side ∷ [] → (ds ≡ []) × (d ≡ first_side)
+pub unlabelled : (ds : List Side) (d : Side) → ds ++ d ∷ [] ≡ first_side ∷ [] → (ds ≡ []) × (d ≡ first_side)
 unlabelled [] d e = (refl, cc)
 unlabelled (x ∷ []) d e = absurd (cc)
 unlabelled (x ∷ y ∷ ds) d e = absurd (cc)

@@ -38,6 +38,7 @@ use Rattle.lower_frame.specs.Positions.{spot_of, spots_of, spot_at, spot_step, p
 use Rattle.cell_lower.specs.Scenes.{AsksAt, AtSpot, asking, naming_part}
 use Rattle.fip_language.proofs.Facts.{append_none, append_one, same_some}
 pub use Rattle.fip_language.proofs.Facts.{get_at as item, if_false, if_true, nonempty}
+pub use Rattle.code_size.proofs.match_cover.MissingWalk.{known_node as known_is}
 
 -- the parts from a place on
 
@@ -52,7 +53,7 @@ parts_past [] (suc i) h = refl
 parts_past (p ∷ ps) zero h = absurd (omega (arith, h))
 parts_past (p ∷ ps) (suc i) h = parts_past ps i (omega (arith, h))
 
-spots_at : (ss : S.Spots) (i : ℕ) (s : S.Spot) → spot_at ss i ≡ Some s → past i ss ≡ S.MoreSpots s (past (suc i) ss)
+pub spots_at : (ss : S.Spots) (i : ℕ) (s : S.Spot) → spot_at ss i ≡ Some s → past i ss ≡ S.MoreSpots s (past (suc i) ss)
 spots_at S.NoSpots i s e = absurd (cc)
 spots_at (S.MoreSpots t ss) zero s e = ap (λ x. S.MoreSpots x ss) (same_some t s e)
 spots_at (S.MoreSpots t ss) (suc i) s e = spots_at ss i s e
@@ -80,9 +81,6 @@ read_is x y s t i e = e ∙ ap (λ z. read_one x z i (out-Spot t).register) (reg
 
 pub row_test : (t : ℕ) (h : Head) (ps : Vec Row Global) → row (RV.Test t h ps) ≡ M.Test t h (parts ps.items)
 row_test t h ps = ap row (sym (RV.rolls-Test t h ps)) ∙ fold-roll-Row M.Pattern row_step (RO.Test t h ps)
-
-pub known_is : (h : Head) (ks : Vec Knowledge Global) → known (KV.Is h ks) ≡ Is h (knowns ks.items)
-known_is h ks = ap known (sym (KV.rolls-Is h ks)) ∙ fold-roll-Knowledge Known known_step (KO.Is h ks)
 
 -- a change of all positions, where `all` begins at place i of the parts
 module _ {A : Type 0} (all : ℕ → Patterns → S.Spots → A → A) (one : ℕ → Pattern → S.Spot → A → A) (more : (i : ℕ) (p : Pattern) (ps : Patterns) (s : S.Spot) (ss : S.Spots) (a : A) → all i (MorePatterns p ps) (S.MoreSpots s ss) a ≡ all (suc i) ps ss (one i p s a)) (none : (i : ℕ) (ss : S.Spots) (a : A) → all i NoPatterns ss a ≡ a) where

@@ -41,6 +41,7 @@ use Rattle.cell_lower.proofs.Sighting.{fits_same}
 use Rattle.cell_lower.proofs.Sided.{front_part, back_part}
 use Rattle.cell_lower.proofs.Building.{AllRight, Spends, arguments_right, arguments_on, arguments_waits, handed_lower, all_received, received_empty, lower_empty, lower_on, moves_right, moves_wait, moves_fixed, moves_on, moves_longer, right_lower, right_scalar, right_set, right_up, set_other, spends_wait, taken_spends, waits_on}
 use Rattle.fip_language.proofs.Facts.{and_false as and_none, unequal_false as not_equal}
+use Rattle.lower_frame.proofs.Accounts.{nothing_or as nothing_of}
 
 -- what is so behind instructions that tell nothing
 
@@ -132,7 +133,7 @@ call_goes s code at k as' rs mid m g (Into ds) end l founded h i = record {
 
 -- what labels take
 
-tells_takes : (n : ℕ) (ks : List Kind) (m : ℕ → Kind) → Tells n ks m → Takes n ks m
+pub tells_takes : (n : ℕ) (ks : List Kind) (m : ℕ → Kind) → Tells n ks m → Takes n ks m
 tells_takes n ks m t = record { wide = t.wide; each = λ r. fits_same (kind_at ks r) (m r) (sym (t.each r)) }
 
 first_takes : (tb : Table) (k : Known) (v w : Written) → w.maps ≡ v.maps → size v < size w → Underway tb k v → (c : PlainCode) (to : ℕ → ℕ) (f : PlainFunction) → c.types ≡ tb → f.registers ≡ registers k → HasPart (size v) w to f → LabelTakes c f (size v) k
@@ -159,7 +160,7 @@ not_counted n r (c ∷ cs) h =
     let here : one_if ((c.size == n) && (c.register == r)) ≡ 0 = ap one_if (ap (λ b. (c.size == n) && b) (not_equal c.register r (λ e. h.0 (sym e))) ∙ and_none (c.size == n)) in
     omega (arith, here, not_counted n r cs h.1)
 
-none_of_one : (b : Bool) → one_if b ≡ 0 → b ≡ false
+pub none_of_one : (b : Bool) → one_if b ≡ 0 → b ≡ false
 none_of_one true e = absurd (omega (arith, e))
 none_of_one false e = refl
 
@@ -374,10 +375,6 @@ fresh_empty : (hs : List Held) (d : ℕ) → ((h : Held) → slice_get hs d ≡ 
 fresh_empty [] d f = refl
 fresh_empty (h ∷ hs) zero f = f h refl
 fresh_empty (h ∷ hs) (suc d) f = fresh_empty hs d f
-
-nothing_of : (n : ℕ) (o : Option Held) → ((h : Held) → o ≡ Some h → h ≡ H.Nothing) → is_credit_of n o ≡ false
-nothing_of n None f = refl
-nothing_of n (Some h) f = ap (λ x. is_credit_of n (Some x)) (f h refl)
 
 uncounted : (r : ℕ) (cs : List Credit) → ((n : ℕ) → counted n r cs ≡ 0) → NotIn r cs
 uncounted r [] h = tt

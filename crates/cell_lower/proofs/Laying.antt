@@ -28,6 +28,7 @@ use Rattle.cell_lower.specs.Laying.{IntoAt, ResultsIn, GivesUpLaid, SpendsAll, S
 use Rattle.cell_lower.specs.Writing.{HandsOn, Moves, TakesAll}
 use Rattle.lower_frame.proofs.Growing.{room_same}
 use Rattle.cell_lower.proofs.Shedding.{goes_length, handed_length, taken_length}
+use Rattle.cell_lower.proofs.Arriving.{get_held}
 
 -- what registers hold
 
@@ -35,11 +36,6 @@ pub held_get : (hs : List Held) (r : ℕ) (h : Held) → slice_get hs r ≡ Some
 held_get [] r h e = absurd (cc)
 held_get (x ∷ hs) zero h e = cc
 held_get (x ∷ hs) (suc r) h e = held_get hs r h e
-
-get_held : (hs : List Held) (r : ℕ) (h : Held) → holding_at hs r ≡ h → (h ≡ H.Nothing → ⊥) → slice_get hs r ≡ Some h
-get_held [] r h e ne = absurd (ne (sym e))
-get_held (x ∷ hs) zero h e ne = ap Some e
-get_held (x ∷ hs) (suc r) h e ne = get_held hs r h e ne
 
 pub owned_tree : (hs : List Held) (r : ℕ) → is_tree (holding_at hs r) ≡ is_owned (slice_get hs r)
 owned_tree [] r = refl
@@ -384,7 +380,7 @@ operates_laid fip k h l v u w o p x y d target g room e ex b = on (subst (λ z. 
       into = operated target k h l v (added v i) w (result_type o) d g room (one_longer v i) later.grows c.into;
     }
 
-at_end : (target : Target) (m : Known) → Accounted m → AccountedAt target m
+pub at_end : (target : Target) (m : Known) → Accounted m → AccountedAt target m
 at_end Return m x = x
 at_end (Into ds) m x = tt
 

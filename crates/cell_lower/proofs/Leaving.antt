@@ -36,6 +36,9 @@ use Rattle.cell_lower.specs.Leaving.{CanLeave, ClauseLeavesLaid, DropsBut, Drops
 use Rattle.cell_lower.specs.Marks.{is_marked}
 use Rattle.cell_lower.proofs.Laying.{laid_on, nothing_bare, owned_tree, spending}
 use Rattle.fip_language.proofs.Facts.{same_some}
+use Rattle.cell_lower.proofs.Arriving.{wide_credit, wide_is_credit as wide_sized, wide_nothing}
+use Rattle.cell_lower.proofs.Building.{without_lent as lent_less, without_lower as without_less}
+pub use Rattle.cell_lower.proofs.Arriving.{wide_accounted}
 
 -- trees that stay where another is dropped
 
@@ -240,7 +243,7 @@ stays_by true true c e = inl e
 stays_by true false c e = inr (refl, refl)
 stays_by false b c e = inl e
 
-among_contains : (d : ℕ) (rs : List ℕ) → Among d rs → contains d rs ≡ true
+pub among_contains : (d : ℕ) (rs : List ℕ) → Among d rs → contains d rs ≡ true
 among_contains d [] a = absurd a
 among_contains d (r ∷ rs) (inl e) = ap (λ b. if b then true else contains d rs) (eq-eqb d r e)
 among_contains d (r ∷ rs) (inr a) = either (d == r) (contains d rs) (among_contains d rs a)
@@ -345,22 +348,6 @@ less_set (h ∷ hs) zero (suc r) = inl refl
 less_set (h ∷ hs) (suc q) zero = inl refl
 less_set (h ∷ hs) (suc q) (suc r) = less_set hs q r
 
-lent_less : (q t : ℕ) (root o : Option ℕ) → (lent_by q o (H.Lent t root) ≡ H.Lent t root) ⊎ (lent_by q o (H.Lent t root) ≡ H.Nothing)
-lent_less q t root None = inl refl
-lent_less q t root (Some p) = by (p == q)
-  where
-    by : (b : Bool) → ((if b then H.Nothing else H.Lent t root) ≡ H.Lent t root) ⊎ ((if b then H.Nothing else H.Lent t root) ≡ H.Nothing)
-    by true = inr refl
-    by false = inl refl
-
-without_less : (q : ℕ) (h : Held) → (without q h ≡ h) ⊎ (without q h ≡ H.Nothing)
-without_less q H.Nothing = inl refl
-without_less q (H.Scalar t) = inl refl
-without_less q (H.Owned t b) = inl refl
-without_less q (H.Lent t root) = lent_less q t root root
-without_less q (H.Credit n) = inl refl
-without_less q (H.Bare t c) = inl refl
-
 less_lent : (hs : List Held) (q r : ℕ) → (holding_at (map (without q) hs) r ≡ holding_at hs r) ⊎ (holding_at (map (without q) hs) r ≡ H.Nothing)
 less_lent [] q r = inl refl
 less_lent (h ∷ hs) q zero = without_less q h
@@ -434,35 +421,6 @@ ends_bares k l v w x none loses = record {
 pub ruleset ending_bares = (ends_bares)
 
 -- what is known is accounted for, whatever was built
-
-wide_credit : (m : ℕ) (o : Option Held) → is_credit_of m (option_map widened o) ≡ is_credit_of m o
-wide_credit m None = refl
-wide_credit m (Some H.Nothing) = refl
-wide_credit m (Some (H.Scalar t)) = refl
-wide_credit m (Some (H.Owned t b)) = refl
-wide_credit m (Some (H.Lent t root)) = refl
-wide_credit m (Some (H.Credit n)) = refl
-wide_credit m (Some (H.Bare t c)) = refl
-
-wide_nothing : (o : Option Held) (h : Held) → ((g : Held) → o ≡ Some g → g ≡ H.Nothing) → option_map widened o ≡ Some h → h ≡ H.Nothing
-wide_nothing None h none e = absurd (cc)
-wide_nothing (Some g) h none e = sym (same_some (widened g) h e) ∙ ap widened (none g refl)
-
-wide_sized : (o : Option Held) (n : ℕ) → option_map widened o ≡ Some (H.Credit n) → o ≡ Some (H.Credit n)
-wide_sized None n e = absurd (cc)
-wide_sized (Some H.Nothing) n e = absurd (cc)
-wide_sized (Some (H.Scalar t)) n e = absurd (cc)
-wide_sized (Some (H.Owned t b)) n e = absurd (cc)
-wide_sized (Some (H.Lent t root)) n e = absurd (cc)
-wide_sized (Some (H.Credit m)) n e = e
-wide_sized (Some (H.Bare t c)) n e = absurd (cc)
-
-pub wide_accounted : (k : Known) → Accounted k → Accounted (wide k)
-wide_accounted k a = record {
-  fresh = λ r h le e. wide_nothing (slice_get k.held r) h (λ g. a.fresh r g le) (sym (slice_get-map widened k.held r) ∙ e);
-  credits = λ n r. a.credits n r ∙ ap one_if (sym (ap (is_credit_of n) (slice_get-map widened k.held r) ∙ wide_credit n (slice_get k.held r)));
-  sizes = λ n r e. a.sizes n r (wide_sized (slice_get k.held r) n (sym (slice_get-map widened k.held r) ∙ e));
-}
 
 pub clause_leaves : (s : Setting) (fip : Bool) (k k1 k2 l o : Known) (v v1 v2 : Written) (ms : List Bool) (needed given : List ℕ) → GivesUpLaid true k v k1 v1 → NoBares k.next k1.held → Loses k k1 → GivesUpLaid fip k1 v1 k2 v2 → LeavesLaid s fip k1 v1 o ms needed given k2 v2 → Loses k1 k2 → l ≡ wide k2 → ClauseLeavesLaid s fip k v o ms needed given l v2
 clause_leaves s fip k k1 k2 l o v v1 v2 ms needed given x none lost y over lost_then e = record {

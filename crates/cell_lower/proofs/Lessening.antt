@@ -27,6 +27,10 @@ use Rattle.cell_lower.specs.Leaving.{EndsBaresLaid, ClauseLeavesLaid, LeftBehind
 use Rattle.cell_lower.proofs.Arriving.{wide_accounted}
 use Rattle.cell_lower.proofs.Building.{right_nothing}
 use Rattle.cell_lower.proofs.Sided.{widened_again, never_built}
+use Rattle.cell_lower.proofs.Arriving.{wide_credit as wide_credit_of}
+use Rattle.cell_lower.proofs.Going.{none_of_one as one_true}
+use Rattle.lower_frame.proofs.Meeting.{there_or as some_or_nothing}
+pub use Rattle.cell_lower.proofs.Leaving.{less_on}
 
 -- of a register
 
@@ -50,15 +54,6 @@ wide_credit (H.Owned t b) = refl
 wide_credit (H.Lent t root) = refl
 wide_credit (H.Credit n) = refl
 wide_credit (H.Bare t c) = refl
-
-wide_credit_of : (n : ℕ) (o : Option Held) → is_credit_of n (option_map widened o) ≡ is_credit_of n o
-wide_credit_of n None = refl
-wide_credit_of n (Some H.Nothing) = refl
-wide_credit_of n (Some (H.Scalar t)) = refl
-wide_credit_of n (Some (H.Owned t b)) = refl
-wide_credit_of n (Some (H.Lent t root)) = refl
-wide_credit_of n (Some (H.Credit m)) = refl
-wide_credit_of n (Some (H.Bare t c)) = refl
 
 wide_nothing : (h : Held) → h ≡ H.Nothing → widened h ≡ H.Nothing
 wide_nothing h e = ap widened e
@@ -146,20 +141,11 @@ none_credit n [] r e = refl
 none_credit n (h ∷ hs) zero e = ap (λ x. is_credit_of n (Some x)) e
 none_credit n (h ∷ hs) (suc r) e = none_credit n hs r e
 
-some_or_nothing : (hs : List Held) (r : ℕ) → (slice_get hs r ≡ Some (held_at hs r)) ⊎ (held_at hs r ≡ H.Nothing)
-some_or_nothing [] r = inr refl
-some_or_nothing (x ∷ hs) zero = inl refl
-some_or_nothing (x ∷ hs) (suc r) = some_or_nothing hs r
-
 -- a register that isn't used yet holds nothing
 pub not_yet : (k : Known) (r : ℕ) → Accounted k → k.next ≤ r → held_at k.held r ≡ H.Nothing
 not_yet k r a le = elim (some_or_nothing k.held r) [ inl e ↦ a.fresh r (held_at k.held r) le e | inr e ↦ e ]
 
 -- credits of registers that hold nothing
-
-one_true : (b : Bool) → one_if b ≡ 0 → b ≡ false
-one_true true e = absurd (omega (arith, e))
-one_true false e = refl
 
 none_counted : (cs : List Credit) (d : ℕ) → ((n : ℕ) → counted n d cs ≡ 0) → NotIn d cs
 none_counted [] d h = tt
@@ -186,15 +172,6 @@ pub record Less (k l : Known) : Type 0 where
 
 pub less_same : (k : Known) → Less k k
 less_same k = record { held = λ r. inl refl; names = λ x r e. e; grows = omega arith; many = refl; accounts = λ a. a }
-
-pub less_on : (k l m : Known) → Less k l → Less l m → Less k m
-less_on k l m a b = record {
-  held = λ r. less_then (held_at k.held r) (held_at l.held r) (held_at m.held r) (a.held r) (b.held r);
-  names = λ x r e. a.names x r (b.names x r e);
-  grows = let x = a.grows in let y = b.grows in omega (arith, x, y);
-  many = b.many ∙ a.many;
-  accounts = λ x. b.accounts (a.accounts x);
-}
 
 pub reaching_accounted : (k : Known) (n : ℕ) → k.next ≤ n → Accounted k → Accounted (reaching k n)
 reaching_accounted k n le a = record { fresh = λ r h more e. a.fresh r h (omega (arith, le, more)) e; credits = a.credits; sizes = a.sizes }

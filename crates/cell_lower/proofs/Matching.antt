@@ -36,6 +36,7 @@ use Rattle.cell_lower.specs.Scenes.{scene, patterns_of, HasRows, sides_of, first
 use Rattle.cell_lower.specs.Clauses.{Begins, GoesToEnd, JoinsBefore, EndsInto, EndsIn, EndsMatch, ClauseIn, ClausesIn}
 use Rattle.cell_lower.specs.Writing.{Writes}
 use Rattle.cell_lower.proofs.Bounding.{match_few, match_stays}
+use Rattle.lowering_relation.proofs.Arriving.{resumes_lost as lost_resumes}
 
 -- what is known stays
 
@@ -52,9 +53,6 @@ meets_resumed k l h = record { names = λ x r e. ap (λ ns. Rattle.lower_frame.s
 
 first_resumed : (k l : Known) → Resumes k l → MeetsFirst k l
 first_resumed k l h = record { credits = h.credits; grows = h.grows }
-
-lost_resumes : (k l : Known) → Loses k l → Resumes k l
-lost_resumes k l h = record { names = h.names; grows = let e = h.next in omega (arith, e); credits = h.credits; barer = h.barer }
 
 pub resumes_then : (k l m : Known) → Resumes k l → Loses l m → Resumes k m
 resumes_then k l m a b = resumes_on k l m a (lost_resumes l m b)

@@ -24,6 +24,8 @@ use Rattle.cell_lower.specs.Overlays.{may_be, part_told, overlaid, overlaid_all,
 use Rattle.cell_lower.proofs.Folding.{fields_are, if_false, if_true}
 use Rattle.fip_language.proofs.Facts.{append_none as none_more, drop_at_number as drop_at, same_some}
 pub use Rattle.fip_language.proofs.Facts.{get_none as missing}
+use Rattle.cell_lower.proofs.Folding.{spots_at as past_at}
+use Rattle.match_knowledge.proofs.Steps.{no_knowns as knowns_past}
 
 -- the constructors that are left
 
@@ -66,17 +68,6 @@ knowns_at : (ks : List Knowledge) (i : ℕ) (k : Knowledge) → slice_get ks i �
 knowns_at [] i k e = absurd (cc)
 knowns_at (l ∷ ks) zero k e = ap (λ x. MoreKnowns (known x) (knowns ks)) (same_some l k e)
 knowns_at (l ∷ ks) (suc i) k e = knowns_at ks i k e
-
-knowns_past : (ks : List Knowledge) (i : ℕ) → length ks ≤ i → knowns (drop i ks) ≡ NoKnowns
-knowns_past [] zero h = refl
-knowns_past [] (suc i) h = refl
-knowns_past (k ∷ ks) zero h = absurd (omega (arith, h))
-knowns_past (k ∷ ks) (suc i) h = knowns_past ks i (omega (arith, h))
-
-past_at : (ss : S.Spots) (i : ℕ) (s : S.Spot) → spot_at ss i ≡ Some s → past i ss ≡ S.MoreSpots s (past (suc i) ss)
-past_at S.NoSpots i s e = absurd (cc)
-past_at (S.MoreSpots t ss) zero s e = ap (λ x. S.MoreSpots x ss) (same_some t s e)
-past_at (S.MoreSpots t ss) (suc i) s e = past_at ss i s e
 
 past_none : (ss : S.Spots) (i : ℕ) → spot_at ss i ≡ None → (past i ss ≡ S.NoSpots) × (past (suc i) ss ≡ S.NoSpots)
 past_none S.NoSpots zero e = (refl, refl)

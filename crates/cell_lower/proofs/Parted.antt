@@ -28,6 +28,7 @@ use Rattle.cell_lower.specs.Writing.{HandsOn, Kept, Movable, Named, Still, Compu
 use Rattle.cell_lower.proofs.Writing.{computes_none, computes_more, named_on, solid_on}
 use Rattle.cell_lower.proofs.Laying.{room_then}
 use Rattle.fip_language.proofs.Facts.{unequal_false as unequal_is}
+use Rattle.cell_lower.proofs.Laying.{at_end}
 
 -- no label stands past the last one
 
@@ -102,10 +103,6 @@ into_results s (Into ds) k m l v u w as' rs p same many x = λ under solid.
     let al = x.accounts um.accounts dm in
     under_on s.types m l u w same (let z = x.longer in omega (arith, z)) (λ e. absurd (let z = x.longer in omega (arith, z, e))) many al.0 (let a = um.room in let n = x.room in omega (arith, a, n, many))
     (named_on m l um.accounts (λ a. al) x.names x.grows um.named) um
-
-at_end : (target : Target) (k : Known) → Accounted k → AccountedAt target k
-at_end Return k a = a
-at_end (Into ds) k a = tt
 
 -- values, and what they leave
 

@@ -23,6 +23,7 @@ use Rattle.cell_lower.proofs.Headers.{and_if-append}
 use Rattle.cell_lower.specs.Lowered.{instrs_of, function_instrs, IsCodeOf, HaveCodes, AddsCode}
 use Rattle.cell_lower.specs.Writing.{WritesBlock}
 use Rattle.fip_language.proofs.Facts.{append_nil as append_none, same_some}
+pub use Rattle.fip_language.proofs.Plain.{every_at as at_place}
 
 pub ruled_is : (k : FunKind) → is_ruled k ≡ has_function k
 ruled_is Fip = refl
@@ -230,11 +231,6 @@ is_code s n d k l v w code e f b h = record {
 }
 
 -- the whole
-
-pub at_place : {A : Type 0} (P : A → Type 0) (xs : List A) (i : ℕ) (x : A) → Every P xs → slice_get xs i ≡ Some x → P x
-at_place P [] i x h e = absurd (cc)
-at_place P (y ∷ xs) zero x h e = subst P (same_some y x e) h.0
-at_place P (y ∷ xs) (suc i) x h e = at_place P xs i x h.1 e
 
 are_lowered : (p : Program) (s : Setting) (codes : List (List Instr)) → IsSettingOf p s → HaveCodes s p.instances 0 codes → IsWellMatched p → AreLowered p codes
 are_lowered p s codes so h well = record {

@@ -23,6 +23,7 @@ use Rattle.lower_frame.specs.lowering_relation.Sights.{kept, not_in, is_tag, lef
 use Rattle.cell_lower.specs.Seen.{NoneRead, Seen, AllSeen}
 use Rattle.cell_lower.proofs.Folding.{if_true, if_false}
 use Rattle.fip_language.proofs.Facts.{same_some, true_or_false as or_not}
+use Rattle.cell_lower.proofs.Arriving.{head_fields}
 
 -- the constructors that are left
 
@@ -48,10 +49,6 @@ left_last w (suc t) c out ks last none = kept_same (is_tag (Tag c)) (not_in out)
       | inl e ↦ e ∙ sym (ap not (ap (λ y. is_in (Tag y) out) (sym (eqb-true c x e)) ∙ none))
       | inr e ↦ e ∙ sym (ap not (sym (if_false (c == x) true (is_in (Tag x) out) e) ∙ is_all_out (length (constructors w (suc t))) x (Tag c ∷ out) last (let z = numbers_below 0 (count w (suc t)) x m in omega (arith, z))))
     ]
-
-head_fields : (w : Table) (t c : ℕ) (fs : List ℕ) → IsHead w t (Tag c) fs → fields w t c ≡ fs
-head_fields w zero c fs h = absurd h
-head_fields w (suc t) c fs h = ap fields_of h.1 ∙ h.2
 
 opens_fresh : (w : Table) (ts : List ℕ) (ps : M.Patterns) → ArePatterns w ts ps → AllFresh w ts (opens ps)
 opens_fresh w [] ps are = tt

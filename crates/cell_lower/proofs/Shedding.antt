@@ -83,12 +83,12 @@ goes_length (Into (e ∷ ds)) k h d l g = ap registers g.1 ∙ set_length k.held
 
 -- at the start of a function
 
-params_length : (s : Setting) (k : Known) (ps : List Param) (bs : List Binder) → registers (with_params s k ps bs) ≡ registers k
+pub params_length : (s : Setting) (k : Known) (ps : List Param) (bs : List Binder) → registers (with_params s k ps bs) ≡ registers k
 params_length s k [] bs = refl
 params_length s k (p ∷ ps) [] = refl
 params_length s k (p ∷ ps) (b ∷ bs) = params_length s (with_param s k p b) ps bs ∙ set_length k.held k.next (Rattle.lower_frame.specs.lowering_relation.LoweredFunctions.param_held s p)
 
-credits_length : (k : Known) (ns : List ℕ) → registers (with_credits k ns) ≡ registers k
+pub credits_length : (k : Known) (ns : List ℕ) → registers (with_credits k ns) ≡ registers k
 credits_length k [] = refl
 credits_length k (n ∷ ns) = credits_length (with_next_credit k n) ns ∙ set_length k.held k.next (H.Credit n)
 

@@ -28,6 +28,7 @@ use Rattle.cell_lower.proofs.Lessening.{IsWide}
 use Rattle.cell_lower.proofs.Sighting.{fits_self, numbers_has, told_kind, told_long}
 use Rattle.cell_lower.proofs.Sided.{refused, told_here}
 use Rattle.fip_language.proofs.Facts.{both_left, both_right, none_some, same_some}
+pub use Rattle.cell_lower.proofs.Going.{tells_takes}
 
 -- no label stands at the start of a function
 
@@ -99,9 +100,6 @@ fits_narrow w m (H.Owned t (Some d)) b e = built_fits w t d m (b.there t d refl)
 fits_narrow w m (H.Lent t root) b e = e
 fits_narrow w m (H.Credit n) b e = e
 fits_narrow w m (H.Bare t c) b e = e
-
-pub tells_takes : (n : ℕ) (map : List Kind) (m : ℕ → Kind) → Tells n map m → Takes n map m
-tells_takes n map m t = record { wide = t.wide; each = λ r. ap (λ x. fits x (m r)) (t.each r) ∙ fits_self (m r) }
 
 pub takes_same : (n : ℕ) (map : List Kind) (m l : ℕ → Kind) → ((r : ℕ) → m r ≡ l r) → Takes n map m → Takes n map l
 takes_same n map m l e t = record { wide = t.wide; each = λ r. ap (fits (at map r)) (sym (e r)) ∙ t.each r }

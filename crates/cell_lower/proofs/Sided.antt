@@ -40,6 +40,8 @@ use Rattle.cell_lower.proofs.Trying.{all_caught_less}
 use Rattle.cell_lower.proofs.Sighting.{sighted}
 use Rattle.cell_lower.proofs.Choosing.{turned}
 use Rattle.fip_language.proofs.Facts.{less_or_same, same_some, true_or_false as or_not}
+use Rattle.cell_lower.proofs.Choosing.{unlabelled}
+use Rattle.cell_lower.proofs.Parted.{none_past}
 
 -- what is told at a place
 
@@ -48,10 +50,6 @@ refused m p k o ne = elim (or_not (m == p)) as (λ b. (if m == p then Some k els
   | inl e ↦ absurd (ne (eqb-true m p e))
   | inr e ↦ ap (λ b. if b then Some k else o) e
 ]
-
-none_past : (high low : ℕ) (ms : List LabelMap) (p : ℕ) → Rising high low ms → high < p → label_at ms p ≡ None
-none_past high low [] p r lt = refl
-none_past high low (m ∷ ms) p r lt = refused m.at p m.kinds (label_at ms p) (λ e. absurd (omega (arith, e, lt, r.1))) ∙ none_past high m.at ms p r.2 lt
 
 last_above : (n low : ℕ) (ms : List LabelMap) (ks : List Kind) → Rising n low (ms ++ record { at = n; kinds = ks } ∷ []) → low < n
 last_above n low [] ks r = r.0
@@ -196,11 +194,6 @@ module _ (tb : Table) (low : ℕ) (c : Choice) (has : HasRows c) where
         | inl less ↦ r.0 j p less e
         | inr same ↦ (m.each (row_of p) (ap (λ ps. slice_get ps i) has.same ∙ slice_get-map row_of (patterns_of c) i ∙ ap (option_map row_of) (subst (λ n. slice_get (patterns_of c) n ≡ Some p) same e))).0
       ]
-
-unlabelled : (ds : List Side) (d : Side) → ds ++ d ∷ [] ≡ first_side ∷ [] → (ds ≡ []) × (d ≡ first_side)
-unlabelled [] d e = (refl, cc)
-unlabelled (x ∷ []) d e = absurd (cc)
-unlabelled (x ∷ y ∷ ds) d e = absurd (cc)
 
 module _ (st : Setting) (hs : List Held) (ch : Choice) where
   abbrev pub told_of : Side → List Kind

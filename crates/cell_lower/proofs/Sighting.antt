@@ -31,6 +31,7 @@ use Rattle.cell_lower.specs.Seen.{NoneRead, Seen, AllSeen}
 use Rattle.cell_lower.specs.Testing.{Alike}
 use Rattle.cell_lower.proofs.Folding.{if_true, if_false}
 use Rattle.fip_language.proofs.Facts.{both_true, or_last as or_true, true_or_false as or_not}
+use Rattle.cell_lower.proofs.Leaving.{among_contains}
 
 -- lists of kinds
 
@@ -64,14 +65,6 @@ pub get_held : (hs : List Held) (r : ℕ) → get_or hs r H.Nothing ≡ held_at 
 get_held [] r = refl
 get_held (h ∷ hs) zero = refl
 get_held (h ∷ hs) (suc r) = get_held hs r
-
-among_contains : (d : ℕ) (rs : List ℕ) → Among d rs → contains d rs ≡ true
-among_contains d [] a = absurd a
-among_contains d (r ∷ rs) (inl e) = if_true (d == r) true (contains d rs) (eq-eqb d r e)
-among_contains d (r ∷ rs) (inr a) = elim (or_not (d == r)) [
-  | inl e ↦ if_true (d == r) true (contains d rs) e
-  | inr e ↦ if_false (d == r) true (contains d rs) e ∙ among_contains d rs a
-]
 
 -- the positions below one
 

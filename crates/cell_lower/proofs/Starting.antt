@@ -23,13 +23,10 @@ use Rattle.cell_lower.specs.Laying.{is_built}
 use Rattle.cell_lower.specs.Writing.{Named}
 use Rattle.cell_lower.proofs.Shedding.{set_length}
 use Rattle.fip_language.proofs.Facts.{and_false, and_true, equal_true as equal_is, get_replicate as all_alike, get_set_here as get_there, get_set_other as get_other, same_some, unequal_false as unequal_is}
+use Rattle.cell_lower.proofs.Shedding.{credits_length, params_length}
+use Rattle.lower_frame.proofs.Accounts.{counted_both as counted_on, get_same, not_of as no_size, nothing_or as nothing_sized}
 
 -- what stands where after a change
-
-get_same : {A : Type 0} (P : Option A → Type 0) (xs : List A) (i : ℕ) (x : A) → P None → P (Some x) → P (slice_get (slice_set xs i x) i)
-get_same P [] i x p q = p
-get_same P (z ∷ zs) zero x p q = q
-get_same P (z ∷ zs) (suc i) x p q = get_same P zs i x p q
 
 alike_or : {A : Type 0} (P : Option A → Type 0) (n : ℕ) (x : A) (i : ℕ) → P None → P (Some x) → P (slice_get (replicate n x) i)
 alike_or P zero x i p q = p
@@ -97,19 +94,6 @@ lent_plain false t h x = x
 param_plain : (s : Setting) (p : Param) → IsOwn (param_held s p)
 param_plain s p = lent_plain (p.lent && not (is_scalar s p.ty)) p.ty (given s p.ty) (given_plain (is_scalar s p.ty) p.ty)
 
-no_size : (m : ℕ) (o : Option Held) → is_credit o ≡ false → is_credit_of m o ≡ false
-no_size m None e = refl
-no_size m (Some H.Nothing) e = refl
-no_size m (Some (H.Scalar t)) e = refl
-no_size m (Some (H.Owned t b)) e = refl
-no_size m (Some (H.Lent t root)) e = refl
-no_size m (Some (H.Credit n)) e = absurd (true≢false e)
-no_size m (Some (H.Bare t c)) e = refl
-
-nothing_sized : (m : ℕ) (o : Option Held) → ((h : Held) → o ≡ Some h → h ≡ H.Nothing) → is_credit_of m o ≡ false
-nothing_sized m None f = refl
-nothing_sized m (Some h) f = ap (λ x. is_credit_of m (Some x)) (f h refl)
-
 renamed : (k : Known) (names : List (Option ℕ)) → Accounted k → Accounted (record k { names = names })
 renamed k names a = record { fresh = a.fresh; credits = a.credits; sizes = a.sizes }
 
@@ -138,10 +122,6 @@ starts_params s k (p ∷ ps) [] h = h
 starts_params s k (p ∷ ps) (b ∷ bs) h = starts_params s (with_param s k p b) ps bs (starts_param s k p b h)
 
 -- ---- a credit
-
-counted_on : (n r : ℕ) (a b : List Credit) → counted n r (a ++ b) ≡ counted n r a + counted n r b
-counted_on n r [] b = omega arith
-counted_on n r (c ∷ a) b = omega (arith, counted_on n r a b)
 
 unless_there : (names : List (Option ℕ)) (r x q : ℕ) → joined (slice_get (map (unless_in r) names) x) ≡ Some q → (joined (slice_get names x) ≡ Some q) × (q ≡ r → ⊥)
 unless_there [] r x q e = absurd (cc)
@@ -217,15 +197,6 @@ params_next : (s : Setting) (k : Known) (ps : List Param) (bs : List Binder) →
 params_next s k [] bs e = omega arith
 params_next s k (p ∷ ps) [] e = absurd (let z : ⊥ = omega (arith, e) in z)
 params_next s k (p ∷ ps) (b ∷ bs) e = let z = params_next s (with_param s k p b) ps bs (omega (arith, e)) in omega (arith, z)
-
-params_length : (s : Setting) (k : Known) (ps : List Param) (bs : List Binder) → registers (with_params s k ps bs) ≡ registers k
-params_length s k [] bs = refl
-params_length s k (p ∷ ps) [] = refl
-params_length s k (p ∷ ps) (b ∷ bs) = params_length s (with_param s k p b) ps bs ∙ set_length k.held k.next (param_held s p)
-
-credits_length : (k : Known) (ns : List ℕ) → registers (with_credits k ns) ≡ registers k
-credits_length k [] = refl
-credits_length k (n ∷ ns) = credits_length (with_next_credit k n) ns ∙ credit_length k n
 
 -- ---- a function
 

@@ -33,6 +33,7 @@ use Rattle.cell_lower.proofs.Missing.{side_misses}
 use Rattle.cell_lower.specs.Scenes.{reading_of, SettlesBy, Tests}
 use Rattle.lower_frame.specs.lowering_relation.Tests.{Choice, TestLaid, TestsLaid, SettledLaid, ReadOne, ReadsLaid, ReadsFirst, TakeLaid, TakesLaid, TakeAll, NamesLaid, NameAll}
 use Rattle.fip_language.proofs.Facts.{same_some}
+use Rattle.lowering_relation.proofs.Openings.{take_if_extends as if_extends}
 
 -- a part is read once
 
@@ -94,10 +95,6 @@ module _ (n : ℕ) (to : ℕ → ℕ) (f : PlainFunction) where
         (λ rest. first_laid ps ks ss r (suc i) x le rest)
 
 -- cells that are taken apart
-
-if_extends : (r : ℕ) (ps : Patterns) (ss : Spots) (w : Written) → Extends w (take_if r ps ss w)
-if_extends r NoPatterns ss w = same_extends w
-if_extends r (MorePatterns p ps) ss w = added_extends w (I.Take r (as_many (MorePatterns p ps) ss))
 
 all_extends : (ps : Patterns) (ss : Spots) (w : Written) → Extends w (taking_all ps ss w)
 all_extends NoPatterns ss w = same_extends w

@@ -29,6 +29,7 @@ use Rattle.lower_frame.specs.lowering_relation.Written.{Written, size, added, Gi
 use Rattle.cell_lower.specs.Writing.{HandsOn, Movable, Named, Still, Kept, Computes, ComputesAll, Builds, Follow, Gives, Moves, MovesOne, MovesTo, FollowMoves}
 use Rattle.lower_frame.proofs.lowering_relation.Placing.{same_extends, extends_on, added_extends, one_longer, front, back, stands, up_to, given_up}
 use Rattle.fip_language.proofs.Facts.{append_none, append_one, drop_at_next as at_drop, drop_end as drop_done}
+use Rattle.cell_lower.proofs.Laying.{room_then as room_on}
 
 -- equal values may stand for one another
 pub three : {A B C : Type 0} (P : A → B → C → Type 0) (a b : A) (c d : B) (e f : C) → b ≡ a → d ≡ c → f ≡ e → P a c e → P b d f
@@ -71,9 +72,6 @@ computes_literal s k l v w i p r e f room g =
     })
 
 -- what is kept, and where there is room
-
-room_on : (k m l : Known) → registers m ≡ registers k → HasRoom k m → HasRoom m l → HasRoom k l
-room_on k m l e a b = omega (arith, e, a, b)
 
 still_on : (k m l : Known) (v w z : Written) → size v ≤ size w → size w ≤ size z → (size w ≡ size v → Still k m) → (size z ≡ size w → Still m l) → size z ≡ size v → Still k l
 still_on k m l v w z a b f g e tb q = g (omega (arith, a, b, e)) tb q ∙ f (omega (arith, a, b, e)) tb q

@@ -93,7 +93,7 @@ free_append k (o ∷ cs) ds [] qs e = absurd (omega arith)
 free_append k (None ∷ cs) ds (r ∷ rs) qs e = free_append k cs ds rs qs (omega arith)
 free_append k (Some c ∷ cs) ds (r ∷ rs) qs e = let h = free_append k cs ds rs qs (omega arith) in omega (arith, h)
 
-free_gap : (k n : ℕ) → count_free k (replicate n None) (replicate n false) ≡ 0
+pub free_gap : (k n : ℕ) → count_free k (replicate n None) (replicate n false) ≡ 0
 free_gap k zero = refl
 free_gap k (suc n) = free_gap k n
 
@@ -128,10 +128,10 @@ named_in k (Some c) (Some true) h = (c, refl, refl, grind (arith, nat_tests))
 pub named : (k : ℕ) (cs : Cells) (rs : List Bool) (p : ℕ) → 0 < free_at k cs rs p → Named k cs rs p
 named k cs rs p h = let n = named_in k (cell_at cs p) (slice_get rs p) h in record { cell = n.0; is = n.1; released = n.2; size = n.3 }
 
-one_same : (p : ℕ) → one_at p p ≡ 1
+pub one_same : (p : ℕ) → one_at p p ≡ 1
 one_same p = grind (arith, nat_tests)
 
-one_other : (q p : ℕ) → q ≢ p → one_at q p ≡ 0
+pub one_other : (q p : ℕ) → q ≢ p → one_at q p ≡ 0
 one_other q p d = grind (arith, nat_tests)
 
 -- the place on top of a stack is that of a released cell

@@ -30,7 +30,7 @@ marked_set cs p c d bits e m = record {
   exact = λ q. m.exact q ∙ sym (begins_set cs p c d e q);
 }
 
-none_past : (n q : ℕ) → cell_at (replicate n None) q ≡ None
+pub none_past : (n q : ℕ) → cell_at (replicate n None) q ≡ None
 none_past zero q = refl
 none_past (suc n) zero = refl
 none_past (suc n) (suc q) = none_past n q

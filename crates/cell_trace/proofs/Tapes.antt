@@ -15,6 +15,7 @@ use Rattle.cell_trace.specs.declared.trace.Trace.{Trace}
 use Rattle.cell_trace.specs.declared.tape.Tape.{Tape}
 use Rattle.cell_trace.specs.Traced.{Standing, Noted, standing_from, plain_cell, plain_event, cells_bytes, told_bytes, events_bytes, IsTooLong, Tells, IsTraced}
 use Rattle.cell_trace.specs.Taped.{Holds, HoldsOr, IsTape, WasTold, IsLost}
+use Rattle.cell_store.proofs.Parsed.{there as cell_there}
 
 -- bytes
 
@@ -316,10 +317,6 @@ HasLoaded cs (Some q) first t = (limit : ℕ) → IsTape [] [] 0 limit first →
 pub first_loaded : (cs : Cells) (o : Option ℕ) (t : Tape) → IfSome o (λ q. (r : ℕ) → IsBehind None r → r < q → cell_at cs r ≡ None) → IfNone o ((r : ℕ) → IsBehind None r → cell_at cs r ≡ None) → HasLoaded cs o t t
 first_loaded cs None t some none = λ limit a. subst (λ ds. IsTape ds [] 0 limit t) (none_from cs 0 0 (λ r l. none r tt)) a
 first_loaded cs (Some q) t some none = λ limit a. subst (λ ds. IsTape ds [] 0 limit t) (none_between cs 0 0 q (omega arith) (λ r l h. some r tt h)) a
-
-cell_there : (o : Option Cell) → o ≢ None → (c : Cell) × (o ≡ Some c)
-cell_there None there = absurd (there refl)
-cell_there (Some c) there = (c, refl)
 
 pub next_loaded : (cs : Cells) (p : ℕ) (o : Option ℕ) (first old new : Tape) → cell_at cs p ≢ None → IfSome o (IsBehind (Some p)) → IfSome o (λ q. (r : ℕ) → IsBehind (Some p) r → r < q → cell_at cs r ≡ None) → IfNone o ((r : ℕ) → IsBehind (Some p) r → cell_at cs r ≡ None) → ((ds : List Standing) (limit : ℕ) → IsTape ds [] 0 limit old → (c : Cell) → cell_at cs p ≡ Some c → IsTape (ds ++ record { place = p; cell = c } ∷ []) [] 0 limit new) → HasLoaded cs (Some p) first old → HasLoaded cs o first new
 next_loaded cs p o first old new there behind some none more h = by o behind some none

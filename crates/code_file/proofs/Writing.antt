@@ -14,6 +14,7 @@ use Rattle.code_file.specs.Spelling.{◌+++◌, each, two, four}
 use Rattle.code_file.specs.CodeText.{label_text, labels_text, function_text, functions_text}
 use Rattle.code_file.specs.Written.{Written, after, Writes, second_text, label_in}
 use Rattle.fip_language.proofs.Facts.{same_some as some_same}
+use Rattle.fip_base.proofs.TableReads.{shapes_read as shapes_at}
 
 abbrev with_bytes : Written → List ℕ → Written
 with_bytes w t = record { bytes = w.bytes ++ t; limit = w.limit }
@@ -151,11 +152,6 @@ loop_item_is text xs i x w v o lt e h k = loop_item text xs i x w v o lt (subst 
 
 pub loop_fails_is : {A : Type 0} → (X Y : Type 0) (text : A → Option (List ℕ)) (xs : List A) (i : ℕ) (x : A) (w v u : Written) (e : WriteError) (o : Option Written) → i < length xs → x ≡ get_or xs i x → Writes {X = X} (Err e) v (after w (text x)) → after w (each text (drop i xs)) ≡ o → Writes {X = Y} (Err e) u o
 loop_fails_is X Y text xs i x w v u e o lt h g k = loop_fails X Y text xs i x w v u e o lt (subst (λ (y : _). Writes {X = X} (Err e) v (after w (text y))) h g) k
-
-shapes_at : (types : Table) (i : ℕ) (x : List Shape) → i < length types → shapes types i ≡ get_or types i x
-shapes_at [] i x lt = absurd (omega arith)
-shapes_at (row ∷ rows) zero x lt = refl
-shapes_at (row ∷ rows) (suc i) x lt = shapes_at rows i x (omega arith)
 
 -- A type of a table, by its number.
 pub row_is : (types : Table) (i : ℕ) (x : List Shape) → i < length types → x ≡ constructors types (i + 1) → x ≡ get_or types i x

@@ -16,7 +16,7 @@ use Rattle.code_rules.specs.Asked.{known_fields}
 use Rattle.code_rules.specs.Leaves.{received, Leaves}
 use Rattle.code_rules.specs.Flow.{Holds, Comes, KnownAt}
 
-chain_once : (ks : List Kind) (heir : ℕ → Bool) (n m : ℕ) (o : Option From) (d e : ℕ) → Chain ks heir n o d → Chain ks heir m o e → d ≡ e
+pub chain_once : (ks : List Kind) (heir : ℕ → Bool) (n m : ℕ) (o : Option From) (d e : ℕ) → Chain ks heir n o d → Chain ks heir m o e → d ≡ e
 chain_once ks heir zero m None d e x y = absurd x
 chain_once ks heir (suc n) m None d e x y = absurd x
 chain_once ks heir zero zero (Some f) d e x y = sym x.1 ∙ y.1

@@ -92,7 +92,7 @@ next_tells c f i ks x false left r kn is g e s = absurd (true≢false e)
 
 -- ---- what is broken is found
 
-same_instr : (f : PlainFunction) (i : ℕ) (x y : Instr) → IsInstr f i x → IsInstr f i y → x ≡ y
+pub same_instr : (f : PlainFunction) (i : ℕ) (x y : Instr) → IsInstr f i x → IsInstr f i y → x ≡ y
 same_instr f i x y p q = same_Some x y (sym p ∙ q)
 
 in_row : (c : PlainCode) (f : PlainFunction) (i : ℕ) (ks : List Kind) (x : Instr) (r : SoundRule) → in_range c f i x ≡ true → InKept r (row_kept c f ks x) → InKept r (known_kept c f i ks x)

@@ -29,6 +29,7 @@ use Rattle.code_verify.specs.Finding.{BreaksAlone, ReachedCall, Coming, Knowing,
 use Rattle.code_verify.proofs.InstrFacts.{end_leaves, in_left, in_right, in_parts, in_nil, in_calls, calls_in, in_waiting, waiting_in, IsDropOf, in_drops, drops_in, drops_cases}
 use Rattle.code_verify.proofs.Breaking.{known_tells, unknown_tells, next_tells, known_finds, unknown_finds}
 use Rattle.fip_language.proofs.Facts.{less_or_same as below_or_at}
+use Rattle.code_verify.proofs.Breaking.{same_instr}
 
 -- ---- the least violation
 
@@ -83,9 +84,6 @@ unknown_least c n f i x o never is a = answers_same (OrKept (BrokenBelow c n f i
         by (inr h) = inr (p.0, h, inl (unknown_finds c f i x r never is (subst (λ k. BreaksAlone c f k r) h p.2)))
 
 -- ---- what is reached at one instruction
-
-same_instr : (f : PlainFunction) (i : ℕ) (x y : Instr) → IsInstr f i x → IsInstr f i y → x ≡ y
-same_instr f i x y p q = same_Some x y (sym p ∙ q)
 
 call_here : (c : PlainCode) (f : PlainFunction) (i g : ℕ) (w : Bool) (x : Instr) → IsInstr f i x → ReachedCall c f i g w → IsCall x g w
 call_here c f i g w x is r = subst (λ y. IsCall y g w) (same_instr f i r.instr x r.reached.instr is) r.call

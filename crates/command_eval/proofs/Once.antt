@@ -38,7 +38,7 @@ root_among name (x ∷ ds) d e = by x.root (bytes_eq x.name name) (root_among na
     by false c later e = inr (later e)
 
 -- a text has one meaning
-values_once : (tb : Table) (ks bytes : List ℕ) (vs ws : Values) → IsSoundTable tb → AreTypes tb ks → SpellsValues tb ks bytes vs → SpellsValues tb ks bytes ws → vs ≡ ws
+pub values_once : (tb : Table) (ks bytes : List ℕ) (vs ws : Values) → IsSoundTable tb → AreTypes tb ks → SpellsValues tb ks bytes vs → SpellsValues tb ks bytes ws → vs ≡ ws
 values_once tb ks bytes vs ws sound known h k =
     let a = accepts_text tb (is_table tb sound) ks (types_alive tb sound ks known) bytes vs h in
     let b = accepts_text tb (is_table tb sound) ks (types_alive tb sound ks known) bytes ws k in

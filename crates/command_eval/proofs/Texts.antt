@@ -95,7 +95,7 @@ spelt_short : (tb : Table) (ks bytes : List ℕ) (vs : Values) → SpellsValues 
 spelt_short tb ks bytes vs h = let a = input_short tb ks (characters bytes) vs h in let e = length-map bytes character in omega (arith, a, e)
 
 -- a new loader has no cell that is free
-no_free : (cells : Cells) (released : List Bool) (k : ℕ) → cells ≡ [] → released ≡ [] → count_free k cells released ≡ 0
+pub no_free : (cells : Cells) (released : List Bool) (k : ℕ) → cells ≡ [] → released ≡ [] → count_free k cells released ≡ 0
 no_free cells released k e f = ap (λ cs. count_free k cs released) e ∙ ap (λ rs. count_free k [] rs) f
 
 as_counted : (n free : ℕ) → free ≡ 0 → n + 0 - free ≡ n - 0

@@ -15,9 +15,7 @@ use Rattle.command_tasks.proofs.command_run.ExecOnce.{exec_once, same_answer, an
 use Rattle.command_library.specs.GenAnswer.{tree_source, build, gen_room, Makes, LongInput, NoTree, Made, Generates, Refused, Ran as Done}
 use Rattle.command_library.specs.MadeTree.{gen_input, lines_of_results}
 use Rattle.command_library.proofs.Runs.{gives_not_deep, no_text}
-
-same_values : (vs ws : Values) (left other : ℕ) → Gives vs left ≡ Gives ws other → vs ≡ ws
-same_values vs ws left other e = cc
+use Rattle.command_tasks.proofs.command_session.command_run.command_eval.command_source.machine_correctness.compiler_correctness.source_safety.in_place_safety.Counting.{same_values}
 
 module _ (source : List ℕ) (seed count : ℕ) where
   abbrev input : List ℕ

@@ -34,6 +34,7 @@ use Rattle.command_run.specs.CodeRun.{all_seen, words_for}
 use Rattle.command_run.specs.ExecAnswer.{Execs, Misspelt, Small, Ran, RunsOn, TellsRun, answer_of, frames_for, peak_of, words_of}
 use Rattle.command_run.specs.GaugeText.{gauge_by_states, gauge_text, highest_stack, if_asked, size_line, size_lines, stack_lines}
 use Rattle.command_run.proofs.Entry.{root_at}
+pub use Rattle.command_eval.proofs.command_source.Compiling.{member_there as member_at}
 
 -- ---- frames
 
@@ -72,13 +73,6 @@ gauge_alike : (vs us : Values) (ps : List Param) (ks : List ℕ) (peak : Peak) (
 gauge_alike vs us ps ks peak ss ts held x y =
     ap (λ (s : Stack). gauge_text (λ k. lowest k ss) (λ k. highest k ss) s held) (ap₂ (λ f w. record { frames = f; words = w }) (x.frames ∙ sym y.frames) (x.words ∙ sym y.words))
     ∙ sizes_alike (λ k. lowest k ss) (λ k. lowest k ts) (λ k. highest k ss) (λ k. highest k ts) (λ k one. x.lowest k one ∙ sym (y.lowest k one)) (λ k one. x.highest k one ∙ sym (y.highest k one)) MOST_FIELDS (omega arith) (stack_lines (highest_stack ts) held)
-
--- each instance has a member
-pub member_at : (ds : List Instance) (ms : List Member) (i : ℕ) (d : Instance) → length ms ≡ length ds → slice_get ds i ≡ Some d → (m : Member) × (slice_get ms i ≡ Some m)
-member_at [] ms i d l e = absurd (none-some d e)
-member_at (x ∷ ds) [] i d l e = absurd (let z : ⊥ = omega (arith, l) in z)
-member_at (x ∷ ds) (m ∷ ms) zero d l e = (m, refl)
-member_at (x ∷ ds) (m ∷ ms) (suc i) d l e = member_at ds ms i d (omega (arith, l)) e
 
 module _ (source name : List ℕ) (x y : Entry source name) where
   pub answers_alike : (vs : Values) (calls frames : ℕ) → answer_of y vs calls frames ≡ answer_of x vs calls frames

@@ -76,7 +76,7 @@ file_spelt bytes code t c x file at =
 
 -- ---- the table
 
-types_there : (tb : Table) (ts : List ℕ) → ((i t : ℕ) → slice_get ts i ≡ Some t → t ≤ length tb) → AreTypes tb ts
+pub types_there : (tb : Table) (ts : List ℕ) → ((i t : ℕ) → slice_get ts i ≡ Some t → t ≤ length tb) → AreTypes tb ts
 types_there tb [] h = tt
 types_there tb (t ∷ ts) h = (h 0 t refl, types_there tb ts (λ i u e. h (suc i) u e))
 

@@ -15,14 +15,7 @@ use Rattle.value_text.proofs.Exact.{accepts_text}
 use Rattle.value_text.proofs.Tables.{is_table, types_alive}
 use Rattle.command_run.specs.Starting.{IsInNewStore}
 use Rattle.command_run.proofs.SameStore.{store_same, words_same}
-
--- a text has one meaning
-pub one_meaning : (tb : Table) (types input : List ℕ) (vs us : Values) → IsSoundTable tb → AreTypes tb types → SpellsValues tb types input vs → SpellsValues tb types input us → vs ≡ us
-one_meaning tb types input vs us table known h k =
-    let a = accepts_text tb (is_table tb table) types (types_alive tb table types known) input vs h in
-    let b = accepts_text tb (is_table tb table) types (types_alive tb table types known) input us k in
-    let same : Accepted vs ≡ Accepted us = sym a ∙ b in
-    cc
+pub use Rattle.command_eval.proofs.Once.{values_once as one_meaning}
 
 pub first_load : (tb : Table) (types credits input : List ℕ) (words : ℕ) (new : Loading) (ws : List ℕ) → IsSoundTable tb → AreTypes tb types → (h : IsInNewStore tb types credits input words new ws) → (store_of new.cells new.released ≡ first_store (values_of h.loaded.trees) credits) × (ws ≡ first_words (values_of h.loaded.trees) credits)
 first_load tb types credits input words new ws table known h =

@@ -16,6 +16,7 @@ use Rattle.command_eval.specs.machine_correctness.code_rules.Tables.{AreSoundTab
 use Rattle.command_eval.specs.machine_correctness.code_rules.Types.{is_type}
 use Rattle.command_eval.specs.machine_correctness.code_rules.declared.rule.SoundRule.TheVariants.{S0}
 use Rattle.fip_language.proofs.Facts.{and_both as both, same_or_apart as numbers}
+use Rattle.command_run.proofs.FileTypes.{types_there as are_types}
 
 -- it can't be that tables aren't sound
 pub tables : (c : PlainCode) → IsSound c → (AreSoundTables c → ⊥) → ⊥
@@ -27,10 +28,6 @@ within : (tb : Table) (t k : ℕ) (s : Shape) → slice_get (shapes tb t) k ≡ 
 within [] t k s e = absurd (none-some s e)
 within (row ∷ rows) zero k s e = omega arith
 within (row ∷ rows) (suc t) k s e = let h = within rows t k s e in omega (arith, h)
-
-are_types : (tb : Table) (ts : List ℕ) → ((i t : ℕ) → slice_get ts i ≡ Some t → t ≤ length tb) → AreTypes tb ts
-are_types tb [] h = tt
-are_types tb (t ∷ ts) h = (h 0 t refl, are_types tb ts (λ i. h (suc i)))
 
 pub sound_table : (c : PlainCode) → AreSoundTables c → ((t k : ℕ) (s : Shape) → slice_get (shapes c.types t) k ≡ Some s → is_upper_name s.name ≡ true) → IsSoundTable c.types
 sound_table c h names = record {

@@ -16,6 +16,7 @@ use Rattle.value_text.proofs.Credits.{sum_join}
 use Rattle.value_text.proofs.Taken.{one_other, words_same, words_suc, words_zero}
 use Rattle.command_run.specs.CodeRun.{words_for}
 use Rattle.fip_language.proofs.Facts.{times_minus_one as top_one, times_minus_zero as top_zero}
+use Rattle.command_eval.proofs.Texts.{no_free}
 
 -- ---- one cell
 
@@ -95,9 +96,6 @@ credits_words (s ∷ ks) h =
     omega (arith, a, b, d)
 
 -- ---- a new store
-
-no_free : (cells : Cells) (released : List Bool) (k : ℕ) → cells ≡ [] → released ≡ [] → count_free k cells released ≡ 0
-no_free cells released k e f = ap (λ cs. count_free k cs released) e ∙ ap (λ rs. count_free k [] rs) f
 
 as_wanted : (n free : ℕ) → free ≡ 0 → n - free ≡ n - 0
 as_wanted n free e = omega (arith, e)

@@ -56,7 +56,7 @@ instrs_same [] = refl
 instrs_same (f ∷ fs) = ap (λ is. f.instrs.items ∷ is) (instrs_same fs)
 
 -- the registers that the groups tell are the instance's
-member_there : (ds : List Instance) (ms : List Member) (i : ℕ) (d : Instance) → length ms ≡ length ds → slice_get ds i ≡ Some d → (m : Member) × (slice_get ms i ≡ Some m)
+pub member_there : (ds : List Instance) (ms : List Member) (i : ℕ) (d : Instance) → length ms ≡ length ds → slice_get ds i ≡ Some d → (m : Member) × (slice_get ms i ≡ Some m)
 member_there [] ms i d e f = absurd (cc)
 member_there (c ∷ ds) [] i d e f = absurd (omega (arith, e))
 member_there (c ∷ ds) (m ∷ ms) zero d e f = (m, refl)

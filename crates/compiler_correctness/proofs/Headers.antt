@@ -54,7 +54,7 @@ module _ (core : Core) (ns : Numbers) (named : Every (NamedFunction MOST_SOURCE_
   all_named : (d : T.Instance) → Among d (flat_program s ns).instances → IsNamed d
   all_named d a = all_of_have IsNamed (instances_of s ns) ns.instances (λ c b e f. from_closed c e f) d a
 
-from_map : {A B : Type 0} (P : B → Type 0) (f : A → B) (xs : List A) → ((x : A) → Among x xs → P (f x)) → (y : B) → Among y (map f xs) → P y
+pub from_map : {A B : Type 0} (P : B → Type 0) (f : A → B) (xs : List A) → ((x : A) → Among x xs → P (f x)) → (y : B) → Among y (map f xs) → P y
 from_map P f [] h y a = absurd a
 from_map P f (x ∷ xs) h y (inl e) = subst P (sym e) (h x (inl refl))
 from_map P f (x ∷ xs) h y (inr a) = from_map P f xs (λ z b. h z (inr b)) y a

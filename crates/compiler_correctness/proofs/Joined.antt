@@ -41,7 +41,7 @@ has_at : {A : Type 0} (b : Bool) (o : Option ℕ) (f : ℕ) → ((k : ℕ) → o
 has_at b None f h e = absurd (cc)
 has_at b (Some k) f h e = h k refl
 
-instance_at : (ds : List Instance) (i f : ℕ) → function_of ds i ≡ Some f → (d : Instance) × (slice_get ds i ≡ Some d)
+pub instance_at : (ds : List Instance) (i f : ℕ) → function_of ds i ≡ Some f → (d : Instance) × (slice_get ds i ≡ Some d)
 instance_at [] i f e = absurd (cc)
 instance_at (d ∷ ds) zero f e = (d, refl)
 instance_at (d ∷ ds) (suc i) f e = has_at (has_function d.kind) (function_of ds i) f (λ k q. instance_at ds i k q) e

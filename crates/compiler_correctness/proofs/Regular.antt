@@ -44,6 +44,7 @@ use Rattle.lowering_soundness.specs.fip_rules.Shapes.{binders, binders_all}
 use Rattle.lowering_soundness.specs.derivation_check.Scopes.{within, within_block, within_clauses}
 use Rattle.derivation_correctness.specs.source_report.Report.{IsParsed, IsFlat, IsTyped}
 use Rattle.derivation_correctness.proofs.source_report.cell_lower.fip_language.Facts.{length_of_none as few_where_none}
+use Rattle.compiler_correctness.proofs.Headers.{from_map}
 
 -- ---- a function has a result
 
@@ -249,11 +250,6 @@ fill_regular w d h =
     let b = fill_block_many w (parameter_scope d) true (map Some d.results) d.body in
     let v = h.variables in
     record { results = h.results; credits = h.credits; variables = (omega (arith, b, v)) }
-
-from_map : {A B : Type 0} (P : B → Type 0) (f : A → B) (xs : List A) → ((x : A) → Among x xs → P (f x)) → (y : B) → Among y (map f xs) → P y
-from_map P f [] h y a = absurd a
-from_map P f (x ∷ xs) h y (inl e) = subst P (sym e) (h x (inl refl))
-from_map P f (x ∷ xs) h y (inr a) = from_map P f xs (λ z b. h z (inr b)) y a
 
 filled_regular : (p : Program) → ((d : T.Instance) → Among d p.instances → IsRegular d) → (d : T.Instance) → Among d (filled p).instances → IsRegular d
 filled_regular p h = from_map IsRegular (fill_instance (world p)) p.instances (λ d a. fill_regular (world p) d (h d a))

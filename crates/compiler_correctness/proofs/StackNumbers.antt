@@ -30,6 +30,7 @@ use Rattle.derivation_correctness.proofs.source_report.FipCalls as F
 use Rattle.compiler_correctness.specs.Headed.{IsHeaded}
 use Rattle.compiler_correctness.proofs.SoundnessFunctions.{function_there}
 use Rattle.compiler_correctness.proofs.SoundnessWhole.{is_asked, laid_is_sound}
+use Rattle.compiler_correctness.proofs.Joined.{instance_at}
 
 -- the call of a site of a row
 site_of : (ss : List Site) (i : ℕ) (k : C.Call) → slice_get (map called ss) i ≡ Some k → (s : Site) × In s ss × (called s ≡ k)
@@ -43,16 +44,6 @@ missing [] ms i d l e n = none-some d e
 missing (x ∷ ds) [] i d l e n = omega (arith, l)
 missing (x ∷ ds) (m ∷ ms) zero d l e n = none-some m (sym n)
 missing (x ∷ ds) (m ∷ ms) (suc i) d l e n = missing ds ms i d (omega (arith, l)) e n
-
--- an instance that has a function is there
-instance_at : (ds : List Instance) (i n : ℕ) → function_of ds i ≡ Some n → (d : Instance) × (slice_get ds i ≡ Some d)
-instance_at [] i n e = absurd (none-some n e)
-instance_at (d ∷ ds) zero n e = (d, refl)
-instance_at (d ∷ ds) (suc i) n e = by (function_of ds i) e (λ m k. instance_at ds i m k)
-  where
-    by : (o : Option ℕ) → one_more (has_function d.kind) o ≡ Some n → ((m : ℕ) → o ≡ Some m → (x : Instance) × (slice_get ds i ≡ Some x)) → (x : Instance) × (slice_get ds i ≡ Some x)
-    by None k rest = absurd (none-some n k)
-    by (Some m) k rest = rest m refl
 
 module _ (source : List ℕ) (p : Program) (h : IsAccepted source p) (c : PlainCode) (st : Setting) (headed : IsHeaded p c) (all : AreLaid c st p) (sound : IsSound c) where
   numbered : (i n : ℕ) (f : PlainFunction) (is : function_at c n ≡ Some f) → function_of p.instances (all.each n f is).number ≡ Some n

@@ -15,6 +15,7 @@ use Rattle.source_safety.specs.fip_grammar.Token.{Word, Lower, Upper, Number, Op
 use Rattle.source_safety.specs.fip_grammar.Cut.{is_lower, is_upper, is_digit, is_name, keyword_or_name, single_sign, double_sign, sign_of, lower_word, word_of, IsFirst, Piece, Blank, Comment, Cut, behind, Pieces, tokens_of, first_place, IsCut}
 use Rattle.derivation_correctness.specs.code_file.Spelling.{is_keyword, is_function_name}
 use Rattle.derivation_correctness.proofs.source_report.cell_lower.fip_language.Facts.{not_of, or_exchange as name_byte, take_few}
+use Rattle.derivation_correctness.proofs.source_report.fip_grammar.UpperWords.{holds_if}
 
 -- a name of a function, which isn't empty
 abbrev pub IsProperName : List ℕ → Type 0
@@ -41,10 +42,6 @@ first_of (c ∷ cs) d = cond c.0 c.1 (first_of cs d)
 abbrev AllFail : {A : Type 0} → List (Bool × A) → Type 0
 AllFail [] = Unit {0}
 AllFail (c ∷ cs) = (c.0 ≡ false) × AllFail cs
-
-holds_if : {A : Type 0} (P : A → Type 0) (c : Bool) (x y : A) → P x → P y → P (cond c x y)
-holds_if P true x y h k = h
-holds_if P false x y h k = k
 
 by_test : {A : Type 0} (P : A → Type 0) (b : Bool) (x y : A) → P x → (b ≡ false → P y) → P (cond b x y)
 by_test P true x y h k = h

@@ -122,7 +122,7 @@ given_at k l u false q = none_at k
 left_at : (k : ℕ) (b : Bool) (q : Pattern) (xs : List ℕ) (n : ℕ) → 0 < k → k < 17 → Long xs → number xs k ≡ n → number (minus xs (given_sizes b q)) k ≡ n - given k b q
 left_at k b q xs n l u h e = both_at (λ m n. m - n) k xs (given_sizes b q) u h (given_long b q) ∙ ap (λ m. m - number (given_sizes b q) k) e ∙ ap (λ g. n - g) (given_at k l u b q)
 
-greater_none : (m : ℕ) → m ≡ greater m 0
+pub greater_none : (m : ℕ) → m ≡ greater m 0
 greater_none m = grind (arith, nat_tests)
 
 greater_more : (x y z : ℕ) → greater (greater x y) z ≡ greater x (greater y z)

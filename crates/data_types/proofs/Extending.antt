@@ -33,7 +33,7 @@ sound_before ds a b e sound i t bs g = sound i t bs (e.kept i (known t bs) g)
 
 -- ---- a claim is asked
 
-place_left : (cs : List Claim) (c d : Claim) (i : ℕ) → slice_get cs i ≡ Some c → slice_get (cs ++ d ∷ []) i ≡ Some c
+pub place_left : (cs : List Claim) (c d : Claim) (i : ℕ) → slice_get cs i ≡ Some c → slice_get (cs ++ d ∷ []) i ≡ Some c
 place_left [] c d i e = cc
 place_left (x ∷ cs) c d zero e = e
 place_left (x ∷ cs) c d (suc i) e = place_left cs c d i e

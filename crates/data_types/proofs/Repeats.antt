@@ -110,7 +110,7 @@ repeats_row d ks rest es fs l m added noted =
 
 -- ---- no name twice
 
-none_here : (c : Bool) (v : Violation) (xs ys : List Violation) → (if c then v ∷ xs else ys) ≡ [] → (c ≡ false) × (ys ≡ [])
+pub none_here : (c : Bool) (v : Violation) (xs ys : List Violation) → (if c then v ∷ xs else ys) ≡ [] → (c ≡ false) × (ys ≡ [])
 none_here true v xs ys h = absurd (cc)
 none_here false v xs ys h = (refl, h)
 

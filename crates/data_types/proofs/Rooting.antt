@@ -8,6 +8,7 @@ use Rattle.data_types.specs.View as v
 use Rattle.fip_trees.specs.declared.decls.DeclaredType.{DeclaredType}
 use Rattle.data_types.proofs.Values.{past, root_has, root_lacks}
 use Rattle.fip_language.proofs.Facts.{less_or_last}
+use Rattle.data_types.proofs.Extending.{place_left as stays_left}
 
 pub arity_at : (ds : List DeclaredType) (n : ℕ) (d : DeclaredType) → slice_get ds n ≡ Some d → t.arity (v.declarations ds) n ≡ d.arity
 arity_at [] n d e = cc
@@ -31,11 +32,6 @@ left_or_last [] c d zero e = inr cc
 left_or_last [] c d (suc i) e = cc
 left_or_last (x ∷ cs) c d zero e = inl e
 left_or_last (x ∷ cs) c d (suc i) e = left_or_last cs c d i e
-
-stays_left : (cs : List Claim) (c d : Claim) (i : ℕ) → slice_get cs i ≡ Some c → slice_get (cs ++ d ∷ []) i ≡ Some c
-stays_left [] c d i e = cc
-stays_left (x ∷ cs) c d zero e = e
-stays_left (x ∷ cs) c d (suc i) e = stays_left cs c d i e
 
 last_at : (cs : List Claim) (c : Claim) (n : ℕ) → length cs ≡ n → slice_get (cs ++ c ∷ []) n ≡ Some c
 last_at [] c n e = ap (slice_get (c ∷ [])) (sym e)

@@ -36,6 +36,7 @@ use Rattle.derivation_agreement.proofs.Sited.{Piece, piece_first, piece_second, 
 use Rattle.derivation_agreement.proofs.Nodes.{Counts, numbers_append, filter_is, those_sited, unscalar_sited, node_is, under_is}
 use Rattle.derivation_agreement.proofs.WalkValues.{guide, rule_there, values_is}
 use Rattle.derivation_agreement.proofs.Parts.{passed_is, bound_is, clause_has, clause_counts, needs_many, parts_many, asked_is}
+use Rattle.derivation_making.proofs.Arguments.{not_weaken as rule_weaken}
 
 -- the same occurrences, from later on
 tighter : (whole os : List Occurrence) (f g e : ℕ) → f ≤ g → Between g e os → Part whole os f e → Part whole os g e
@@ -46,20 +47,6 @@ two_same a b c d e = ((let k : a ≡ c = cc in k), (let k : b ≡ d = cc in k))
 
 first_same : (a b : Tree) (ts us : Trees) → MoreTrees a ts ≡ MoreTrees b us → (a ≡ b) × (ts ≡ us)
 first_same a b ts us e = ((let k : a ≡ b = cc in k), (let k : ts ≡ us = cc in k))
-
-rule_weaken : (w : World) (vs : List Known) (a : Argument) → is_weaken (rule_of w vs a) ≡ false
-rule_weaken w vs (Variable x n p) = by (meant vs x)
-  where
-    scalar : (b : Bool) → is_weaken (if b then R.Scalar else R.Variable) ≡ false
-    scalar true = refl
-    scalar false = refl
-
-    by : (o : Option Known) → is_weaken (M.rule_of_variable w o) ≡ false
-    by None = refl
-    by (Some v) = scalar (w.scalar v.ty)
-rule_weaken w vs (Literal i p) = refl
-rule_weaken w vs (Constructor t d c n p NoArguments) = refl
-rule_weaken w vs (Constructor t d c n p (MoreArguments a as')) = refl
 
 match_weaken : (b : Bool) → is_weaken (M.match_rule b) ≡ false
 match_weaken true = refl

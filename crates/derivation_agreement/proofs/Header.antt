@@ -19,6 +19,7 @@ use Rattle.derivation_making.specs.derivation_check.Accepted as A
 use Rattle.derivation_agreement.proofs.Sharing.{count_of, env, fits_same}
 use Rattle.derivation_agreement.proofs.Scoping.{Sees, seen_as, same_number, number_test, other_test, one_same, one_other, either, end_same, end_other, has_none, chosen, passed_over}
 use Rattle.tail_groups.proofs.fip_language.Facts.{or_false_first as or_rest, or_first, same_some_implicit as some_same, unequal_apart as is_not}
+use Rattle.derivation_agreement.proofs.Scoping.{entered_here, entered_skip}
 
 -- whether a parameter is owned and not scalar, and whether it is borrowed
 abbrev is_own : Bool → Bool → Bool
@@ -82,12 +83,6 @@ known_skip p n y vs e = passed_over (n == y) (Some record { binder = n; number =
 
 known_here : (p : Param) (n y : ℕ) (vs : List Known) → n ≡ y → known (record { binder = n; number = n; ty = p.ty; owned = not p.lent } ∷ vs) y ≡ Some record { binder = n; number = n; ty = p.ty; owned = not p.lent }
 known_here p n y vs e = chosen (n == y) (Some record { binder = n; number = n; ty = p.ty; owned = not p.lent }) (known vs y) (number_test n y e)
-
-entered_here : (sc : Scalars) (n y : ℕ) (s : Bool) → n ≡ y → (if n == y then s else sc y) ≡ s
-entered_here sc n y s e = chosen (n == y) s (sc y) (number_test n y e)
-
-entered_skip : (sc : Scalars) (n y : ℕ) (s : Bool) → (n ≡ y → ⊥) → (if n == y then s else sc y) ≡ sc y
-entered_skip sc n y s e = passed_over (n == y) s (sc y) (other_test n y e)
 
 twice : (b : Bool) → not (not b) ≡ b
 twice true = refl

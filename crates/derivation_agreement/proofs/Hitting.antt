@@ -11,6 +11,7 @@ use Rattle.derivation_walk.specs.Tables.{empty_rows, add_at, is_taken_up, add_if
 use Rattle.derivation_making.specs.Uses.{names, occurs_value, occurs_values, occurs, occurs_block, occurs_clauses, uses_lent, uses_passed, uses, uses_block, uses_clauses}
 use Rattle.derivation_walk.specs.Walked.{size, size_parts, size_clauses}
 use Rattle.derivation_agreement.proofs.Seeing.{marks_of, owned_value, owned_values, lent_value, passed_value, passed_values, marks, marks_parts, marks_clauses}
+use Rattle.derivation_walk.proofs.Rising.{empty_row}
 
 -- ---- hits
 
@@ -327,11 +328,6 @@ rows_within all f e x rs (o ∷ os) l =
     rows_within all f e x (add_if (is_taken_up all o) o rs) os (omega (arith, k, l))
     ∙ ap (λ c. c || window all x f e os) (one_row (is_taken_up all o) o f e x rs l)
     ∙ sym (or_assoc (has_within f e (row_at rs x)) b (window all x f e os))
-
-empty_row : (n x : ℕ) → row_at (empty_rows n) x ≡ []
-empty_row zero x = refl
-empty_row (suc n) zero = refl
-empty_row (suc n) (suc x) = empty_row n x
 
 empty_length : (n : ℕ) → length (empty_rows n) ≡ n
 empty_length zero = refl

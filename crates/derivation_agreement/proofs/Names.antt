@@ -12,14 +12,11 @@ use Rattle.derivation_walk.specs.fip_rules.World.{World, lends, weaker}
 use Rattle.derivation_walk.specs.fip_rules.Shapes.{Names, Bind, token, owning, owning_all, passing, passing_all, called, mark, binds, within, behind, taking, binders, takes, clause_shape, shape, shape_block, shape_clauses}
 use Rattle.derivation_walk.proofs.fip_rules.Orders.{next_passing}
 use Rattle.derivation_making.specs.derivation_check.Scopes as P
+use Rattle.derivation_making.proofs.Reading.{next_passing_all as passing_all_next}
 
 owning_all_next : (n : ℕ) (w : World) (ms : List Mark) (as' : Arguments) → next n (owning_all ms as') ≡ n
 owning_all_next n w ms NoArguments = refl
 owning_all_next n w ms (MoreArguments a as') = ap (λ k. next k (owning_all ms as')) (next_passing n w ms false a) ∙ owning_all_next n w ms as'
-
-passing_all_next : (n : ℕ) (w : World) (ms : List Mark) (g j : ℕ) (as' : Arguments) → next n (passing_all w ms g j as') ≡ n
-passing_all_next n w ms g j NoArguments = refl
-passing_all_next n w ms g j (MoreArguments a as') = ap (λ k. next k (passing_all w ms g (suc j) as')) (next_passing n w ms (lends w g j) a) ∙ passing_all_next n w ms g (suc j) as'
 
 called_next : (n : ℕ) (w : World) (g : ℕ) (p : Place) (l : Name) → next n (called w g p l) ≡ n
 called_next n w g p l = by (weaker w g)

@@ -21,6 +21,7 @@ use Rattle.derivation_walk.specs.Walked.{Owned, credits_from}
 use Rattle.derivation_walk.proofs.credit_check.Amounts.{Long}
 use Rattle.derivation_agreement.proofs.Sited.{Sited, AllSited}
 use Rattle.tail_groups.proofs.fip_language.Facts.{suc_same as suc_test}
+pub use Rattle.derivation_making.proofs.Lists.{numbers_append}
 
 -- ---- credits
 
@@ -45,10 +46,6 @@ same_by k (suc n) xs ys f g p l h j =
     ∙ ap (λ b. (f k == b) && M.same_from f g (suc k) n) (j.at k p (omega (arith, l)))
 
 -- ---- variables
-
-pub numbers_append : (us vs : List Known) → numbers (us ++ vs) ≡ numbers us ++ numbers vs
-numbers_append [] vs = refl
-numbers_append (u ∷ us) vs = ap (λ (xs : List ℕ). u.number ∷ xs) (numbers_append us vs)
 
 pub filter_is : (w : World) (order : List Bound) (t : Uses) (f h : ℕ → Bool) (us : List Known) → AllSited w order t us → ((v : Known) → Sited w order t v → f v.number ≡ h v.binder) → filter f (numbers us) ≡ numbers (those h us)
 filter_is w order t f h [] a g = refl

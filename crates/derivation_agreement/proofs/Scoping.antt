@@ -166,10 +166,10 @@ known_skip b d own vs y n = passed_over (b.number == y) (Some record { binder = 
 known_here : (b : Binder) (d : ℕ) (own : Bool) (vs : List Known) (y : ℕ) → b.number ≡ y → known (record { binder = b.number; number = d; ty = b.ty; owned = own } ∷ vs) y ≡ Some record { binder = b.number; number = d; ty = b.ty; owned = own }
 known_here b d own vs y n = chosen (b.number == y) (Some record { binder = b.number; number = d; ty = b.ty; owned = own }) (known vs y) (number_test b.number y n)
 
-entered_here : (sc : Scalars) (c y : ℕ) (s : Bool) → c ≡ y → (if c == y then s else sc y) ≡ s
+pub entered_here : (sc : Scalars) (c y : ℕ) (s : Bool) → c ≡ y → (if c == y then s else sc y) ≡ s
 entered_here sc c y s e = chosen (c == y) s (sc y) (number_test c y e)
 
-entered_skip : (sc : Scalars) (c y : ℕ) (s : Bool) → (c ≡ y → ⊥) → (if c == y then s else sc y) ≡ sc y
+pub entered_skip : (sc : Scalars) (c y : ℕ) (s : Bool) → (c ≡ y → ⊥) → (if c == y then s else sc y) ≡ sc y
 entered_skip sc c y s e = passed_over (c == y) s (sc y) (other_test c y e)
 
 pub where_is : (w : World) (own : Bool) (c : Names) (d : ℕ) (bs : List Binder) (vs : List Known) (sc : Scalars) (y : ℕ) → AreNumbered c.next d bs → IsNew w own c d bs vs sc y ⊎ IsOld w own c d bs vs sc y

@@ -50,7 +50,7 @@ paid_of n None = refl
 paid_of zero (Some v) = refl
 paid_of (suc n) (Some v) = refl
 
-paid_own : (n x : ℕ) → paid n (Own x) ≡ 0
+pub paid_own : (n x : ℕ) → paid n (Own x) ≡ 0
 paid_own zero x = refl
 paid_own (suc n) x = refl
 

@@ -32,6 +32,8 @@ use Rattle.derivation_walk.proofs.credit_check.Amounts.{Long, none_long, none_at
 use Rattle.derivation_agreement.proofs.Sited.{Sited, AllSited, sited_known}
 use Rattle.derivation_agreement.proofs.Ranks.{sorted_as}
 use Rattle.derivation_agreement.proofs.Nodes.{Counts, credits_is, numbers_append}
+use Rattle.derivation_agreement.proofs.Sharing.{paid_own}
+use Rattle.derivation_making.proofs.Arguments.{not_weaken_constructor as not_constructor, not_weaken_variable as not_weaken}
 
 -- ---- lists
 
@@ -89,14 +91,6 @@ one_alone : (fip : Bool) (d x : ℕ) (q : RuleName) (xs : List ℕ) (cs : List D
 one_alone fip d x q xs cs n (inl h) = let e = h.1 in (let k : xs ≡ x ∷ [] = cc in k)
 one_alone fip d x q xs cs n (inr h) = absurd (let a = h.0 in cc)
 
-not_weaken : (w : World) (o : Option Known) → is_weaken (rule_of_variable w o) ≡ false
-not_weaken w None = refl
-not_weaken w (Some v) = by (w.scalar v.ty)
-  where
-    by : (b : Bool) → is_weaken (if b then R.Scalar else R.Variable) ≡ false
-    by true = refl
-    by false = refl
-
 -- of a variable that is used, just what the node has
 variable_has : (w : World) (order : List Bound) (u : Uses) (ns : List Need) (vs have : List Known) (d : ℕ) (x : Option ℕ) → AllSited w order u vs → UsesVariable w d (meant vs x) (Branch (rule_of_variable w (meant vs x)) (numbers (those (λ y. names y x) have)) [] NoTrees) → numbers (those (λ y. names y x) have) ≡ owning_variable (record { world = w; uses = u; needs = ns }) [] x
 variable_has w order u ns vs have d None h us = absurd us
@@ -125,10 +119,6 @@ given_none y (u ∷ us) = given_none y us
 abbrev pub guide : World → Uses → List Need → Guided
 guide w u ns = record { world = w; uses = u; needs = ns }
 
-not_constructor : (as' : Arguments) → is_weaken (constructor_rule as') ≡ false
-not_constructor NoArguments = refl
-not_constructor (MoreArguments a as') = refl
-
 same_parts : (r q : RuleName) (xs ys : List ℕ) (cs ds : List D.Credit) (ts us : Trees) → Branch r xs cs ts ≡ Branch q ys ds us → (ys ≡ xs) × (ds ≡ cs) × (us ≡ ts)
 same_parts r q xs ys cs ds ts us e = ((let k : ys ≡ xs = cc in k), (let k : ds ≡ cs = cc in k), (let k : us ≡ ts = cc in k))
 
@@ -140,10 +130,6 @@ root_given : (w : World) (vs have : List Known) (a : Argument) (y : ℕ) → roo
 root_given w vs have (Variable x n p) y = refl
 root_given w vs have (Literal i p) y = sym (given_none y have)
 root_given w vs have (Constructor t d c n p as') y = refl
-
-paid_own : (k y : ℕ) → paid k (Own y) ≡ 0
-paid_own zero y = refl
-paid_own (suc k) y = refl
 
 zero_plus : (n : ℕ) → 0 + n ≡ n
 zero_plus n = omega arith

@@ -31,6 +31,7 @@ use Rattle.derivation_check.proofs.Weakened.{variables_same, credits_same, parts
 use Rattle.derivation_check.proofs.Numbers.{drop_item, drop_end, rising_more}
 use Rattle.derivation_check.proofs.Rows.{row_first, row_none}
 use Rattle.fip_base.proofs.fip_language.Facts.{map_append as map_more, take_past}
+use Rattle.derivation_check.proofs.Weakened.{more_first as trees_first}
 
 -- ---- one binding more
 
@@ -314,9 +315,6 @@ pub record LetParts (w : World) (s : Scope) (c d : ℕ) (ns : List Node) (n : No
   pub split : (i : Item) → owned n.variables.items n.credits.items i + bound w d bs i ≡ root (at ns j) i + root (at ns (behind ns j)) i
   pub body : Derives w (lending n.variables.items (own_variables (at ns j)) s) c (d + length bs) (at ns j) e
   pub more : DerivesBlock w (binding d true bs s) (c + within e + length bs) (d + within e + length bs) (at ns (behind ns j)) rest
-
-trees_first : {t u : Tree} {ts us : Trees} → MoreTrees t ts ≡ MoreTrees u us → t ≡ u
-trees_first e = cc
 
 trees_rest : {t u : Tree} {ts us : Trees} → MoreTrees t ts ≡ MoreTrees u us → ts ≡ us
 trees_rest e = cc

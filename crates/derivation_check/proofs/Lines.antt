@@ -51,7 +51,7 @@ left_parameter w n p ps ys e h = cc
 pub lent_parameter : (w : World) (n : ℕ) (p : Param) (ps : List Param) (ys : List ℕ) → p.lent ≡ true → ys ≡ owned_parameters w n (p ∷ ps) → ys ≡ owned_parameters w (n + 1) ps
 lent_parameter w n p ps ys e h = let f = or_lent (w.scalar p.ty) p.lent e in cc
 
-drop_rest : (i x : ℕ) (ys zs : List ℕ) → drop i ys ≡ x ∷ zs → drop (i + 1) ys ≡ zs
+pub drop_rest : (i x : ℕ) (ys zs : List ℕ) → drop i ys ≡ x ∷ zs → drop (i + 1) ys ≡ zs
 drop_rest i x ys zs e = sym (drop_one i ys) ∙ ap (λ (xs : List ℕ). drop 1 xs) e ∙ none zs
   where
     none : (xs : List ℕ) → drop 0 xs ≡ xs
@@ -87,19 +87,19 @@ pub starts_with : (w : World) (d : T.Instance) (t : Tree) (xs : List ℕ) (cs : 
 starts_with w d t xs cs a b e f (Own x) = a x ∙ ap (given x) e
 starts_with w d t xs cs a b e f (Credit k) = b k ∙ f k
 
-choice_false : (b : Bool) (A B : Type 0) → b ≡ false → B → Choice b A B
+pub choice_false : (b : Bool) (A B : Type 0) → b ≡ false → B → Choice b A B
 choice_false true A B e h = absurd (cc)
 choice_false false A B e h = h
 
-choice_true : (b : Bool) (A B : Type 0) → b ≡ true → A → Choice b A B
+pub choice_true : (b : Bool) (A B : Type 0) → b ≡ true → A → Choice b A B
 choice_true true A B e h = h
 choice_true false A B e h = absurd (cc)
 
-choice_not : (b : Bool) (A B : Type 0) → b ≡ false → Choice b A B → B
+pub choice_not : (b : Bool) (A B : Type 0) → b ≡ false → Choice b A B → B
 choice_not true A B e h = absurd (cc)
 choice_not false A B e h = h
 
-choice_so : (b : Bool) (A B : Type 0) → b ≡ true → Choice b A B → A
+pub choice_so : (b : Bool) (A B : Type 0) → b ≡ true → Choice b A B → A
 choice_so true A B e h = h
 choice_so false A B e h = absurd (cc)
 

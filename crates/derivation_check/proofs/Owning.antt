@@ -19,6 +19,8 @@ use Rattle.derivation_check.specs.Calculus.{numbers}
 use Rattle.derivation_check.specs.Owned.{Rising}
 use Rattle.derivation_check.proofs.Numbers.{drop_item, drop_end, drop_one, drop_nothing, drop_rising, given_before, given_past, rising_take, same_rising}
 use Rattle.fip_base.proofs.fip_language.Facts.{append_associates as append_assoc, append_nil, length_append as length_more}
+use Rattle.derivation_check.proofs.Lines.{drop_rest}
+pub use Rattle.derivation_check.proofs.Lines.{parameters_over as owns_over}
 
 pub constructor_binders : (a : P.Pattern) (t d c : ℕ) (n : Name) (q : Place) (v : Vec P.Pattern Global) → a ≡ PV.Constructor t d c n q v → binders (V.pattern a) ≡ binders_all (V.patterns v.items)
 constructor_binders a t d c n q v e = ap (λ b. binders (V.pattern b)) e ∙ ap binders (pattern_constructor t d c n q v)
@@ -101,13 +103,6 @@ scalar_owns w d b bs ys e h = cc
 
 numbers_next : (w : World) (d : ℕ) (b : Binder) (bs : List Binder) → w.scalar b.ty ≡ false → numbers w d (b ∷ bs) ≡ d ∷ numbers w (d + 1) bs
 numbers_next w d b bs e = cc
-
-drop_rest : (i x : ℕ) (ys zs : List ℕ) → drop i ys ≡ x ∷ zs → drop (i + 1) ys ≡ zs
-drop_rest i x ys zs e = sym (drop_one i ys) ∙ ap (λ (xs : List ℕ). drop 1 xs) e ∙ none zs
-  where
-    none : (xs : List ℕ) → drop 0 xs ≡ xs
-    none [] = refl
-    none (x ∷ xs) = refl
 
 pub next_owns : (w : World) (d i : ℕ) (b : Binder) (bs : List Binder) (ys : List ℕ) → w.scalar b.ty ≡ false → drop i ys ≡ numbers w d (b ∷ bs) → drop (i + 1) ys ≡ numbers w (d + 1) bs
 next_owns w d i b bs ys e h = drop_rest i d ys (numbers w (d + 1) bs) (h ∙ numbers_next w d b bs e)
@@ -257,9 +252,6 @@ lets_apart w next k whole used left bs a b c s f g = record { whole_below = a; u
 
 pub takes_apart : (w : World) (next k taken : ℕ) (whole left : List ℕ) (bs : List Binder) → Rising 0 next whole → taken < next → Rising 0 (next + length bs) left → ((x : ℕ) → given x left + given x (taken ∷ []) ≡ given x whole + given x (numbers w next bs)) → ((x : ℕ) → next ≤ x → given x (take k left) ≡ 0) → ((x : ℕ) → x < next → given x (drop k left) ≡ 0) → Apart next (next + length bs) k whole (taken ∷ []) left (numbers w next bs)
 takes_apart w next k taken whole left bs a b c s f g = record { whole_below = a; used_below = (omega arith, b, _); left_rises = c; new_above = numbers_rise w next next bs (omega arith); sum = λ x. (let e = s x in omega arith); low = f; high = g }
-
-pub owns_over : (ys : List ℕ) (p : ℕ) → drop p ys ≡ [] → p ≤ length ys → p ≡ length ys
-owns_over ys p e l = let g = drop_nothing ys p e in omega arith
 
 pub takes_start : (w : World) (high : List ℕ) (d : ℕ) (qs : List Binder) → high ≡ numbers w d qs → drop 0 high ≡ numbers w d (qs ++ [])
 takes_start w high d qs e = none high ∙ e ∙ ap (numbers w d) (sym (append_nil qs))

@@ -18,28 +18,13 @@ use Rattle.derivation_check.proofs.Numbers.{drop_item, drop_end, drop_nothing}
 use Rattle.derivation_check.proofs.Rows.{row_first, row_none}
 use Rattle.fip_base.proofs.fip_language.Facts.{drop_at_next as drop_get, drop_of_none as get_past}
 pub use Rattle.fip_base.proofs.fip_language.Facts.{left_at as drop_got}
+use Rattle.derivation_check.proofs.Lines.{choice_false as false_choice, choice_not as choice_false, choice_so as choice_true, choice_true as true_choice}
 
 pub passed_scalar : (w : World) (s : Scope) (d : ℕ) (p : Param) (a : T.Argument) (ps : List Param) (as' : T.Arguments) (ts : Trees) → w.scalar p.ty ≡ true → Plain w s.variables a → DerivesPassed w s d ps as' ts → DerivesPassed w s d (p ∷ ps) (T.MoreArguments a as') ts
 passed_scalar w s d p a ps as' ts e h g = subst (λ b. Choice b (Plain w s.variables a × DerivesPassed w s d ps as' ts) (Choice p.lent (Lends w s a × DerivesPassed w s d ps as' ts) (FirstOf ts (λ t us. DerivesValue w s.variables d t a × DerivesPassed w s d ps as' us)))) (sym e) (h, g)
 
 pub scalar_passed : (w : World) (s : Scope) (d : ℕ) (p : Param) (a : T.Argument) (ps : List Param) (as' : T.Arguments) (ts : Trees) → w.scalar p.ty ≡ true → DerivesPassed w s d (p ∷ ps) (T.MoreArguments a as') ts → Plain w s.variables a × DerivesPassed w s d ps as' ts
 scalar_passed w s d p a ps as' ts e h = subst (λ b. Choice b (Plain w s.variables a × DerivesPassed w s d ps as' ts) (Choice p.lent (Lends w s a × DerivesPassed w s d ps as' ts) (FirstOf ts (λ t us. DerivesValue w s.variables d t a × DerivesPassed w s d ps as' us)))) e h
-
-choice_false : (b : Bool) (A B : Type 0) → b ≡ false → Choice b A B → B
-choice_false true A B e h = absurd (cc)
-choice_false false A B e h = h
-
-choice_true : (b : Bool) (A B : Type 0) → b ≡ true → Choice b A B → A
-choice_true true A B e h = h
-choice_true false A B e h = absurd (cc)
-
-false_choice : (b : Bool) (A B : Type 0) → b ≡ false → B → Choice b A B
-false_choice true A B e h = absurd (cc)
-false_choice false A B e h = h
-
-true_choice : (b : Bool) (A B : Type 0) → b ≡ true → A → Choice b A B
-true_choice true A B e h = h
-true_choice false A B e h = absurd (cc)
 
 pub passed_lent : (w : World) (s : Scope) (d : ℕ) (p : Param) (a : T.Argument) (ps : List Param) (as' : T.Arguments) (ts : Trees) → w.scalar p.ty ≡ false → p.lent ≡ true → Lends w s a → DerivesPassed w s d ps as' ts → DerivesPassed w s d (p ∷ ps) (T.MoreArguments a as') ts
 passed_lent w s d p a ps as' ts e l h g = false_choice (w.scalar p.ty) (Plain w s.variables a × DerivesPassed w s d ps as' ts) (Choice p.lent (Lends w s a × DerivesPassed w s d ps as' ts) (FirstOf ts (λ t us. DerivesValue w s.variables d t a × DerivesPassed w s d ps as' us))) e (true_choice p.lent (Lends w s a × DerivesPassed w s d ps as' ts) (FirstOf ts (λ t us. DerivesValue w s.variables d t a × DerivesPassed w s d ps as' us)) l (h, g))
@@ -85,7 +70,7 @@ nothing_left w s d [] NoTrees h = (refl, refl)
 nothing_left w s d [] (MoreTrees t ts) h = absurd h
 nothing_left w s d (p ∷ ps) ts h = absurd h
 
-no_row : (ns : List Node) (k n : ℕ) → parts ns k n ≡ NoTrees → n ≡ 0
+pub no_row : (ns : List Node) (k n : ℕ) → parts ns k n ≡ NoTrees → n ≡ 0
 no_row ns k zero e = refl
 no_row ns k (suc n) e = absurd (cc)
 

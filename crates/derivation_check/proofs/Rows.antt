@@ -8,6 +8,7 @@ use Rattle.ownership_calculus.specs.Terms.{Item, Own, Credit, given}
 use Rattle.derivation_check.specs.Owned.{IsOwned, AreOwned, root, roots, amount}
 use Rattle.derivation_check.specs.Places.{at, parts, behind, branch}
 use Rattle.fip_base.proofs.fip_language.Facts.{get_none}
+use Rattle.derivation_trees.proofs.Places.{more_same}
 
 head_some : (ns : List Node) (i : ℕ) (n : Node) → slice_get ns i ≡ Some n → slice_get (heads ns) i ≡ Some (head n)
 head_some [] i n e = absurd (cc)
@@ -36,9 +37,6 @@ behind_none ns i e = let h : behind ns i ≡ i + 0 = ap (λ o. i + span_of o) (h
 -- behind the list there is nothing
 pub past_tree : (ns : List Node) (i j : ℕ) → length ns ≤ i → length ns ≤ j → at ns i ≡ at ns j
 past_tree ns i j l k = none_is ns i (get_none ns i l) ∙ sym (none_is ns j (get_none ns j k))
-
-more_same : {t u : Tree} {ts us : Trees} → t ≡ u → ts ≡ us → MoreTrees t ts ≡ MoreTrees u us
-more_same e f = cc
 
 past_next : (ns : List Node) (i : ℕ) → length ns ≤ i → behind ns i ≡ i
 past_next ns i l = behind_none ns i (get_none ns i l)

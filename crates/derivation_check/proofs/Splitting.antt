@@ -17,6 +17,7 @@ use Rattle.derivation_check.specs.Scopes.{Known}
 use Rattle.derivation_check.specs.Calculus.{Builds, DerivesValue, DerivesValues}
 use Rattle.derivation_check.proofs.Numbers.{drop_item, drop_end}
 use Rattle.derivation_check.proofs.Rows.{row_first, row_none}
+pub use Rattle.ownership_calculus.proofs.Forth.{paid_own}
 
 -- of a node's credits, n are left when these are taken
 pub split_items : (d : ℕ) (ns : List Node) (j : ℕ) (m : Node) (n : ℕ → ℕ) (these : Item → ℕ) → ((x : ℕ) → these (Own x) ≡ 0) → ((k : ℕ) → amount k m.credits.items ≡ these (Credit k) + n k) → Parted d m.variables.items n (parts ns j m.parts) → Split d (node_with ns j m) these
@@ -31,10 +32,6 @@ split_parted d ns j m n these z e s = (s.0, λ x. (let a = s.1 (Own x) in let b 
 
 pub split_least : (d : ℕ) (ns : List Node) (j : ℕ) (m : Node) (these : Item → ℕ) → Split d (node_with ns j m) these → (k : ℕ) → these (Credit k) ≤ amount k m.credits.items
 split_least d ns j m these s k = let a = s.1 (Credit k) in omega arith
-
-pub paid_own : (n x : ℕ) → paid n (Own x) ≡ 0
-paid_own zero x = refl
-paid_own (suc n) x = refl
 
 -- the rule of a node
 pub splits_sound : (fip : Bool) (d : ℕ) (r : RuleName) (these : Item → ℕ) (P : Trees → Type 0) (t : Tree) (ns : List Node) (j : ℕ) (n : Node) → n.rule ≡ r → Under fip d t (node_with ns j n) → Split d (node_with ns j n) these → P (parts ns j n.parts) → Splits fip d r these P t

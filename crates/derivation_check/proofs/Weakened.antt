@@ -7,6 +7,7 @@ use Rattle.derivation_trees.specs.declared.derivation.Node.{Node}
 use Rattle.derivation_trees.specs.Trees.{Tree, Missing, Branch, Trees, NoTrees, MoreTrees}
 use Rattle.derivation_check.specs.Owned.{amount, is_weaken, owned, root, IsOwned, Under, UnderPart, Leaf}
 use Rattle.derivation_check.specs.Places.{at, parts, branch, node_with, behind, weakens, Leaves}
+pub use Rattle.derivation_check.proofs.Passing.{no_row as none_parts}
 
 pub under_self : (fip : Bool) (d : ℕ) (t : Tree) (r : RuleName) (xs : List ℕ) (cs : List D.Credit) (ts : Trees) → t ≡ Branch r xs cs ts → is_weaken r ≡ false → Under fip d t t
 under_self fip d t r xs cs ts e w = subst (λ u. Under fip d u u) (sym e) (inl (w, refl))
@@ -38,7 +39,7 @@ under_owned fip d (Branch r xs cs (MoreTrees t (MoreTrees s ts))) u o (inr h) = 
 pub leaves_at : (fip : Bool) (d : ℕ) (ns : List Node) (i : ℕ) (n : Node) → is_weaken n.rule ≡ true → fip ≡ false → n.parts ≡ 1 → IsOwned d (at ns (i + 1)) → ((x : Item) → root (at ns (i + 1)) x ≤ owned n.variables.items n.credits.items x) → Leaves fip d (branch ns i n) (at ns (i + 1))
 leaves_at fip d ns i n w f e o h = (w, f, ap (parts ns (i + 1)) e, o, h)
 
-more_first : {t u : Tree} {ts us : Trees} → MoreTrees t ts ≡ MoreTrees u us → t ≡ u
+pub more_first : {t u : Tree} {ts us : Trees} → MoreTrees t ts ≡ MoreTrees u us → t ≡ u
 more_first e = cc
 
 one_part : (ns : List Node) (j m : ℕ) (t : Tree) → parts ns j m ≡ MoreTrees t NoTrees → (m ≡ 1) × (t ≡ at ns j)
@@ -108,10 +109,6 @@ branch_same e f g h = cc
 
 pub no_parts : (ns : List Node) (j m : ℕ) → m ≡ 0 → parts ns j m ≡ NoTrees
 no_parts ns j m e = ap (parts ns j) e
-
-pub none_parts : (ns : List Node) (j m : ℕ) → parts ns j m ≡ NoTrees → m ≡ 0
-none_parts ns j zero e = refl
-none_parts ns j (suc m) e = absurd (cc)
 
 pub within_both : (fs ms : List ℕ) (as' bs : List D.Credit) (t : Tree) → ((x : ℕ) → root t (Own x) ≤ given x ms) → ((k : ℕ) → root t (Credit k) ≤ amount k bs) → (i : Item) → root t i ≤ owned ms bs i
 within_both fs ms as' bs t f g (Own x) = f x

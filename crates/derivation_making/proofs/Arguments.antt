@@ -30,6 +30,7 @@ use Rattle.derivation_making.proofs.Lists.{flag, tally, AreKnown, EachOf, each_o
 use Rattle.derivation_making.proofs.Credits.{by_size, amount_in, amount_out, rising_credits, no_credits}
 use Rattle.derivation_making.proofs.Linking.{Linked, there_before}
 use Rattle.derivation_making.proofs.Reading.{there_is, value_pos, values_pos}
+pub use Rattle.ownership_agreement.proofs.Amounts.{zero_none}
 
 -- the variables that arguments may take, each once
 pub record Holding (w : World) (vs : List Known) (c : Names) (sc : Scalars) (d : ℕ) (have : List Known) : Type 0 where
@@ -45,12 +46,6 @@ flag_sum a b m n e f l = ap (λ t. flag t + flag b) e ∙ ap (λ t. flag (pos m)
     sums zero n l = omega arith
     sums (suc m) zero l = omega arith
     sums (suc m) (suc n) l = absurd (omega arith)
-
-pub zero_none : (k : ℕ) → 0 < k → one_if (0 == k) + 0 ≡ 0
-zero_none k h = let e = no_zero k h in rw (e) refl
-  where
-    no_zero : (k : ℕ) → 0 < k → (0 == k) ≡ false
-    no_zero k h = grind (arith, nat_tests)
 
 pub each_item : (P : Item → Type 0) → ((y : ℕ) → P (Own y)) → ((k : ℕ) → P (Credit k)) → (i : Item) → P i
 each_item P f g (Own y) = f y
@@ -109,7 +104,7 @@ values_own w vs c sc d have (MoreArguments a as') h f u y =
 
 -- ---- they are derived
 
-not_weaken_variable : (w : World) (o : Option Known) → is_weaken (rule_of_variable w o) ≡ false
+pub not_weaken_variable : (w : World) (o : Option Known) → is_weaken (rule_of_variable w o) ≡ false
 not_weaken_variable w None = refl
 not_weaken_variable w (Some v) = by_test (w.scalar v.ty)
   where
@@ -117,7 +112,7 @@ not_weaken_variable w (Some v) = by_test (w.scalar v.ty)
     by_test true = refl
     by_test false = refl
 
-not_weaken_constructor : (as' : Arguments) → is_weaken (constructor_rule as') ≡ false
+pub not_weaken_constructor : (as' : Arguments) → is_weaken (constructor_rule as') ≡ false
 not_weaken_constructor NoArguments = refl
 not_weaken_constructor (MoreArguments a as') = refl
 

@@ -178,7 +178,7 @@ rising_clause w own d e a bs have h l =
     subst (Rising 0 e) (sym (numbers_append (remaining own a have) (added w own d bs)))
     (rising_append 0 d e (numbers (remaining own a have)) (numbers (added w own d bs)) h (added_rising w own d e bs l) (omega arith) (omega arith))
 
-match_not_weaken : (b : Bool) → is_weaken (match_rule b) ≡ false
+pub match_not_weaken : (b : Bool) → is_weaken (match_rule b) ≡ false
 match_not_weaken true = refl
 match_not_weaken false = refl
 

@@ -8,19 +8,7 @@ use Rattle.derivation_check.specs.Owned.{amount, RisingSizes}
 use Rattle.derivation_making.specs.Made.{counted, credits, same_from}
 use Rattle.derivation_making.proofs.Lists.{either, both_are, and_true, same_number}
 use Rattle.type_check.proofs.fip_language.Facts.{equal_true as same_test}
-
-below_or_not : (k : ℕ) → ((0 < k) × (k < 17)) ⊎ IsOut k
-below_or_not zero = inr (inl refl)
-below_or_not (suc k) = elim (either (nat_lt (suc k) 17)) [
-  | inl e ↦ inl (omega arith, lower (suc k) e)
-  | inr e ↦ inr (inr (upper (suc k) e))
-]
-  where
-    lower : (n : ℕ) → nat_lt n 17 ≡ true → n < 17
-    lower n h = grind (arith, nat_tests)
-
-    upper : (n : ℕ) → nat_lt n 17 ≡ false → 17 ≤ n
-    upper n h = grind (arith, nat_tests)
+use Rattle.ownership_agreement.proofs.Evens.{in_or_out as below_or_not}
 
 pub by_size : (P : ℕ → Type 0) → ((k : ℕ) → 0 < k → k < 17 → P k) → ((k : ℕ) → IsOut k → P k) → (k : ℕ) → P k
 by_size P f g k = elim (below_or_not k) [ inl h ↦ f k h.0 h.1 | inr h ↦ g k h ]

@@ -25,6 +25,7 @@ use Rattle.derivation_making.proofs.Credits.{amount_in}
 use Rattle.derivation_making.proofs.Arguments.{not_weaken}
 use Rattle.derivation_making.proofs.Matches.{greater_left, greater_right}
 use Rattle.type_check.proofs.fip_language.Facts.{and_either as and_false, unequal_apart as differ}
+use Rattle.derivation_making.proofs.Bodies.{match_not_weaken}
 
 -- ---- something is left out
 
@@ -109,10 +110,6 @@ lean_passed w vs have (p ∷ ps) NoArguments = tt
 lean_passed w vs have (p ∷ ps) (MoreArguments a as') = one_passed (w.scalar p.ty || p.lent) (made_value w vs have a) (made_passed w vs have ps as') (lean_value w vs have a) (lean_passed w vs have ps as')
 
 -- ---- bodies
-
-match_not_weaken : (b : Bool) → is_weaken (match_rule b) ≡ false
-match_not_weaken true = refl
-match_not_weaken false = refl
 
 mutual
   lean_expression : (p : Program) (f : FunKind) (vs : List Known) (d : ℕ) (there : List Known) (have : ℕ → ℕ) (e : Expression) → ((k : ℕ) → 0 < k → k < 17 → need p k e ≤ have k) → IsLean (made_expression p (world p f) vs d there have e)

@@ -24,25 +24,10 @@ use Rattle.derivation_making.proofs.Nodes.{Has, has_root, has_variables, has_own
 use Rattle.derivation_making.proofs.Linking.{Linked, there_before, added_rising, added_numbers}
 use Rattle.derivation_making.proofs.Standing.{Stands, Asks, fewest_le, outside_mono, enter_asks}
 use Rattle.type_check.proofs.fip_language.Facts.{or_first as or_left, or_last as or_right}
+use Rattle.ownership_agreement.proofs.ownership_calculus.Forth.{after_few, lent_few, lent_unused}
+pub use Rattle.ownership_agreement.proofs.ownership_calculus.Forth.{after_used, seen_back}
 
 -- ---- pointwise
-
-lent_unused : (s : Status) → held (lent s zero) ≡ 0
-lent_unused Free = refl
-lent_unused (Owned true l) = refl
-lent_unused (Owned false l) = refl
-
-pub after_used : (s : Status) (m : ℕ) → held (after s (suc m)) ≡ 0
-after_used Free m = refl
-after_used (Owned u l) m = refl
-
-lent_few : (s : Status) (m fa fb nb : ℕ) → fa ≤ m → fb ≤ nb → m + nb ≤ held s → held s ≤ fa + fb → held (lent s m) ≤ fa
-lent_few s zero fa fb nb h g i j = let z = lent_unused s in omega arith
-lent_few s (suc m) fa fb nb h g i j = let p = held_after s (suc m) nb i in let q = after_used s m in omega arith
-
-after_few : (s : Status) (m fa fb : ℕ) → fa ≤ m → held s ≤ fa + fb → held (after s m) ≤ fb
-after_few s zero fa fb h j = omega arith
-after_few s (suc m) fa fb h j = let q = after_used s m in omega arith
 
 lent_back : (s : Status) (m : ℕ) → visible (lent s m) ≡ true → (visible s ≡ true) ⊎ ((m ≡ 0) × (1 ≤ held s))
 lent_back s (suc m) h = inl h
@@ -50,11 +35,6 @@ lent_back Free zero h = inl refl
 lent_back (Owned true l) zero h = absurd (cc)
 lent_back (Owned false true) zero h = inl refl
 lent_back (Owned false false) zero h = inr (refl, omega arith)
-
-pub seen_back : (s : Status) (m : ℕ) → visible (after s m) ≡ true → visible s ≡ true
-seen_back s zero h = h
-seen_back Free (suc m) h = refl
-seen_back (Owned u l) (suc m) h = absurd (cc)
 
 few_lent : (b : Bool) (m n k : ℕ) (s : Status) → k ≡ (if b then n else 0) → (1 ≤ n → b ≡ pos m) → n ≤ held s → k ≤ held (lent s m)
 few_lent b m zero k s e f l = let z = nothing b k e in omega arith

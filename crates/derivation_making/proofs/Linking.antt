@@ -87,7 +87,7 @@ here_one w c sc b x d own n e =
       s,
     )
 
-one_more : (n d : ℕ) (bs : List Binder) → AreNumbered (n + 1) (d + 1) bs → AreNumbered (suc n) (d + 1) bs
+pub one_more : (n d : ℕ) (bs : List Binder) → AreNumbered (n + 1) (d + 1) bs → AreNumbered (suc n) (d + 1) bs
 one_more n d bs h = let e : n + 1 ≡ suc n = omega arith in subst (λ m. AreNumbered m (d + 1) bs) e h
 
 -- ---- some binders
@@ -179,11 +179,11 @@ named_known w own vs n d x (b ∷ bs) v h k s =
 
 -- ---- they are known
 
-lift_known : (w : World) (k : Known) (us xs : List Known) → EachOf (λ y. (k.binder == y) ≡ false) xs → AreKnown w us xs → AreKnown w (k ∷ us) xs
+pub lift_known : (w : World) (k : Known) (us xs : List Known) → EachOf (λ y. (k.binder == y) ≡ false) xs → AreKnown w us xs → AreKnown w (k ∷ us) xs
 lift_known w k us [] e h = tt
 lift_known w k us (x ∷ xs) e h = (known_behind k us x.binder e.0 ∙ h.0, h.1, lift_known w k us xs e.1 h.2)
 
-one_above : (s : Bool) (k : ℕ) (u : Known) (us : List Known) → (k == u.binder) ≡ false → EachOf (λ y. (k == y) ≡ false) us → EachOf (λ y. (k == y) ≡ false) (if s then us else u ∷ us)
+pub one_above : (s : Bool) (k : ℕ) (u : Known) (us : List Known) → (k == u.binder) ≡ false → EachOf (λ y. (k == y) ≡ false) us → EachOf (λ y. (k == y) ≡ false) (if s then us else u ∷ us)
 one_above true k u us e h = h
 one_above false k u us e h = (e, h)
 
@@ -226,7 +226,7 @@ there_before w vs c sc (u ∷ us) x l h t = elim (either (u.binder == x)) [
 
 -- ---- their numbers
 
-one_rising : (s : Bool) (d e : ℕ) (u : Known) (us : List Known) → u.number ≡ d → d < e → Rising (d + 1) e (numbers us) → Rising d e (numbers (if s then us else u ∷ us))
+pub one_rising : (s : Bool) (d e : ℕ) (u : Known) (us : List Known) → u.number ≡ d → d < e → Rising (d + 1) e (numbers us) → Rising d e (numbers (if s then us else u ∷ us))
 one_rising true d e u us n l h = rising_later d (d + 1) e (numbers us) h (omega arith)
 one_rising false d e u us n l h = (omega arith, omega arith, subst (λ m. Rising (m + 1) e (numbers us)) (sym n) h)
 

@@ -9,6 +9,7 @@ use Rattle.derivation_check.specs.Scopes.{Known, known}
 use Rattle.derivation_making.specs.Made.{those, all_those, numbers}
 use Rattle.type_check.proofs.fip_language.Facts.{and_both as both_true, true_or_false}
 pub use Rattle.type_check.proofs.fip_language.Facts.{and_both as both_are, both_true as and_true, equal_itself as number_self, same_number, true_and_false as not_both, true_or_false as either, unequal_apart as other_number}
+pub use Rattle.ownership_agreement.proofs.Amounts.{given_append}
 
 abbrev pub flag : Bool → ℕ
 flag true = 1
@@ -130,10 +131,6 @@ each_all f (u ∷ us) h = and_true (f u.binder) (all_those f us) h.0 (each_all f
 pub numbers_append : (us ts : List Known) → numbers (us ++ ts) ≡ numbers us ++ numbers ts
 numbers_append [] ts = refl
 numbers_append (u ∷ us) ts = ap (λ (ns : List ℕ). u.number ∷ ns) (numbers_append us ts)
-
-pub given_append : (y : ℕ) (xs ys : List ℕ) → given y (xs ++ ys) ≡ given y xs + given y ys
-given_append y [] ys = omega arith
-given_append y (x ∷ xs) ys = let h = given_append y xs ys in omega arith
 
 split_one : (a b c : Bool) (u : Known) (fs gs hs : List Known) (y : ℕ) → flag a + flag b ≡ flag c → given y (numbers fs) + given y (numbers gs) ≡ given y (numbers hs) → given y (numbers (if a then u ∷ fs else fs)) + given y (numbers (if b then u ∷ gs else gs)) ≡ given y (numbers (if c then u ∷ hs else hs))
 split_one true true true u fs gs hs y e h = absurd (omega arith)

@@ -39,6 +39,9 @@ use Rattle.derivation_making.proofs.Passing.{lends_derives}
 use Rattle.derivation_making.proofs.Standing.{Stands, Asks, stands_single}
 use Rattle.derivation_making.proofs.Lets.{after_used, seen_back}
 use Rattle.type_check.proofs.fip_language.Facts.{append_nil}
+use Rattle.derivation_making.proofs.Reading.{scrutinised_there as scrutinee_there}
+use Rattle.ownership_agreement.proofs.Amounts.{paid_at as paid_same}
+use Rattle.ownership_agreement.proofs.ownership_calculus.Forth.{use_split}
 
 -- ---- what clauses ask
 
@@ -111,17 +114,6 @@ greater_left m n = grind (arith, nat_tests)
 
 pub greater_right : (m n : ℕ) → n ≤ greater m n
 greater_right m n = grind (arith, nat_tests)
-
-paid_same : (n k : ℕ) → 0 < k → paid n (Credit k) ≡ one_if (n == k)
-paid_same zero k h = let e : (0 == k) ≡ false = no_zero k h in rw (e) refl
-  where
-    no_zero : (k : ℕ) → 0 < k → (0 == k) ≡ false
-    no_zero k h = grind (arith, nat_tests)
-paid_same (suc n) k h = if_one (suc n == k)
-  where
-    if_one : (b : Bool) → (if b then 1 else zero) ≡ one_if b
-    if_one true = refl
-    if_one false = refl
 
 mutual
   nodes_in : (k : ℕ) → 0 < k → (q : Pattern) → P.nodes k q ≡ N.nodes k q
@@ -228,13 +220,6 @@ taken_stands w sp d have s y f h = record {
   lent = λ x v k z o i. h.lent x v k z o (seen_back (s x) (one y x) i);
 }
 
-use_split : (s : Status) (m : ℕ) → m ≤ held s → m + held (after s m) ≡ held s
-use_split s zero h = omega arith
-use_split Free (suc m) h = absurd (omega arith)
-use_split (Owned true l) (suc m) h = absurd (omega arith)
-use_split (Owned false true) (suc m) h = absurd (omega arith)
-use_split (Owned false false) (suc m) h = omega arith
-
 taken_faces : (fip : Bool) (s : ℕ → Status) (y : ℕ) (tc : Clauses) → Asks fip s (C.Take (C.Named y) tc) → Faces fip true (λ x. after (s x) (one y x)) (λ k. asks_taken (Credit k) tc) tc
 taken_faces fip s y tc h =
     let most : (x : ℕ) → one y x + asks_taken (Own x) tc ≤ held (s x) = h.most in
@@ -276,10 +261,6 @@ scrutinised_is w u (Some z) v h e = ap (λ (o : Option Known). type_scalar o) (s
     type_scalar : Option Known → Bool
     type_scalar None = true
     type_scalar (Some t) = w.scalar t.ty
-
-scrutinee_there : (w : World) (u : ℕ) (o : Option Known) → IsScrutinised w u o → IsThere o
-scrutinee_there w u None h = absurd h
-scrutinee_there w u (Some v) h = tt
 
 taken_is : (w : World) (sp : Scope) (c : Names) (sc : Scalars) (d u y : ℕ) (a : Argument) (v : Known) (have : List Known) (needed : ℕ → ℕ) (s : ℕ → Status) (f g : ℕ → Bool) (tc : Clauses) (P : Option ℕ → (Item → ℕ) → Trees → Type 0) (t : Tree) (ts : Trees) → Linked w sp.variables c sc → ((x : ℕ) → occurs_value x a ≡ (y == x)) → known sp.variables y ≡ Some v → w.scalar v.ty ≡ false → ((x : ℕ) → (y == x) ≡ true → g x ≡ true) → ((x : ℕ) → f x ≡ true → g x ≡ true) → Stands w sp d have s g → Asks (is_fip w.kind) s (C.Take (C.Named y) tc) → Under (is_fip w.kind) d t (Branch R.TakingMatch (numbers have) (credits needed) ts) → ((xo : Option ℕ) (r : ℕ → Status) → Goes true xo a have → Stands w sp d (those (λ x. not (y == x)) have) r f → Faces (is_fip w.kind) true r (λ k. asks_taken (Credit k) tc) tc → P xo (owned (numbers have) (credits needed)) ts) → those (λ x. occurs_value x a) have ≡ those (λ x. y == x) have → Scrutinised w d (Some v) P t
 taken_is w sp c sc d u y a v have needed s f g tc P t ts l o k z q r h m under goal same =

@@ -14,6 +14,7 @@ use Rattle.derivation_check.specs.Calculus.{own_variables}
 use Rattle.derivation_making.specs.Made.{those, all_those, numbers, credits, same_from, weakened, node}
 use Rattle.derivation_making.proofs.Lists.{both_are, and_true, given_less, rising_those, all_are}
 use Rattle.derivation_making.proofs.Credits.{by_size, amount_in, amount_out, rising_credits, same_credits, same_sizes}
+use Rattle.ownership_agreement.proofs.ownership_calculus.Forth.{fits_eq as fits_equal}
 
 -- a node that has these variables and credits
 abbrev pub Has : List Known → (ℕ → ℕ) → Tree → Type 0
@@ -49,10 +50,6 @@ credits_less f g h =
 pub owned_less : (f : ℕ → Bool) (there : List Known) (have needed : ℕ → ℕ) → ((k : ℕ) → 0 < k → k < 17 → needed k ≤ have k) → (i : Item) → owned (numbers (those f there)) (credits needed) i ≤ owned (numbers there) (credits have) i
 owned_less f there have needed h (Own y) = given_less f there y
 owned_less f there have needed h (Credit k) = credits_less needed have h k
-
-fits_equal : (fip : Bool) (a b : ℕ) → Fits fip a b → fip ≡ true → a ≡ b
-fits_equal true a b h e = h
-fits_equal false a b h e = absurd (cc)
 
 under_weakened : (b fip : Bool) (d : ℕ) (r : RuleName) (f : ℕ → Bool) (there : List Known) (have needed : ℕ → ℕ) (ts : Trees) → (fip ≡ true → b ≡ true) → is_weaken r ≡ false → Rising 0 d (numbers there) → ((k : ℕ) → 0 < k → k < 17 → needed k ≤ have k) → Under fip d (weakened b there have (Branch r (numbers (those f there)) (credits needed) ts)) (Branch r (numbers (those f there)) (credits needed) ts)
 under_weakened true fip d r f there have needed ts h g l n = inl (g, refl)

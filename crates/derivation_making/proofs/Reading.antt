@@ -30,6 +30,8 @@ use Rattle.derivation_making.specs.Fitting.{IsThere, FitsValue, FitValues, FitPa
 use Rattle.derivation_making.proofs.Linking.{Linked, inside_linked, later_linked, next_inside}
 use Rattle.derivation_making.proofs.Lists.{either}
 use Rattle.type_check.proofs.fip_language.Facts.{or_false as or_none}
+use Rattle.ownership_agreement.proofs.fip_rules.Orders.{next_lending, next_passing}
+pub use Rattle.ownership_agreement.proofs.Owning.{both as or_pos}
 
 -- ---- how many binders
 
@@ -56,17 +58,7 @@ next_fault : (n : ℕ) (b : Bool) (p : Place) (l : Name) (ms : List Mark) (as' :
 next_fault n true p l ms as' = refl
 next_fault n false p l ms as' = next_owning_all n ms as'
 
-next_lending : (n : ℕ) (w : World) (ms : List Mark) (a : Argument) → next n (lending w ms a) ≡ n
-next_lending n w ms (Variable None l p) = refl
-next_lending n w ms (Variable (Some x) l p) = lent_next n (H.known ms x) x p l
-next_lending n w ms (Literal i p) = refl
-next_lending n w ms (Constructor t d c l p as') = next_fault n (w.scalar t) p l ms as'
-
-next_passing : (n : ℕ) (w : World) (ms : List Mark) (b : Bool) (a : Argument) → next n (passing w ms b a) ≡ n
-next_passing n w ms true a = next_lending n w ms a
-next_passing n w ms false a = next_owning n ms a
-
-next_passing_all : (n : ℕ) (w : World) (ms : List Mark) (g j : ℕ) (as' : Arguments) → next n (passing_all w ms g j as') ≡ n
+pub next_passing_all : (n : ℕ) (w : World) (ms : List Mark) (g j : ℕ) (as' : Arguments) → next n (passing_all w ms g j as') ≡ n
 next_passing_all n w ms g j NoArguments = refl
 next_passing_all n w ms g j (MoreArguments a as') = ap (λ k. next k (passing_all w ms g (suc j) as')) (next_passing n w ms (lends w g j) a) ∙ next_passing_all n w ms g (suc j) as'
 
@@ -138,9 +130,6 @@ variable_pos w vs c sc x y l h s =
     let v = there_is (known vs y) h in
     var_pos sc x y (sc y) (y == x) refl refl s ∙ ap (λ (o : Option ℕ). pos (used_up (variable sc o) (Own x))) (sym (l y v.0 v.1).0)
 
-pub or_pos : (a b : Bool) (m n : ℕ) → a ≡ pos m → b ≡ pos n → (a || b) ≡ pos (m + n)
-or_pos a b m n e f = ap (λ t. t || b) e ∙ ap (λ t. pos m || t) f ∙ sym (pos_sum m n)
-
 mutual
   pub value_pos : (w : World) (vs : List Known) (c : Names) (sc : Scalars) (x : ℕ) (a : Argument) → Linked w vs c sc → FitsValue vs a → sc x ≡ false → occurs_value x a ≡ pos (used_up (value sc c.marks a) (Own x))
   value_pos w vs c sc x (Variable None n p) l f s = absurd f
@@ -175,7 +164,7 @@ pub call_fits : (w : World) (vs : List Known) (o : Option Instance) (as' : Argum
 call_fits w vs None as' h = absurd h
 call_fits w vs (Some e) as' h = fit_all w vs e.params as' h
 
-scrutinised_there : (w : World) (u : ℕ) (o : Option Known) → IsScrutinised w u o → IsThere o
+pub scrutinised_there : (w : World) (u : ℕ) (o : Option Known) → IsScrutinised w u o → IsThere o
 scrutinised_there w u None h = absurd h
 scrutinised_there w u (Some v) h = tt
 

@@ -19,6 +19,7 @@ use Rattle.derivation_making.proofs.Lists.{tally, AreKnown, each_of, each_all, k
 use Rattle.derivation_making.proofs.Linking.{Linked, there_before, tally_added, named_known, added_known, base_known, added_rising}
 use Rattle.derivation_making.proofs.Arguments.{Holding}
 pub use Rattle.type_check.proofs.fip_language.Facts.{if_zero_mono as outside_mono}
+use Rattle.ownership_agreement.proofs.ownership_calculus.Forth.{asks_at, few_at}
 
 -- Of the variables that are there, s tells what each went through; a part asks for those that pass the test.
 pub record Stands (w : World) (sp : Scope) (d : ℕ) (there : List Known) (s : ℕ → Status) (asked : ℕ → Bool) : Type 0 where
@@ -137,16 +138,6 @@ enter w own sp c sc d e bs base s f l n h m = record {
         | inr g ↦ h.lent x v g.1 z o (lent_old (has (variables w c.next bs) x) own (s x) g.0 i)
       ];
 }
-
-few_at : (b own : Bool) (s : Status) (f : ℕ) → (own ≡ true → b ≡ true → 1 ≤ f) → held s ≤ (if b then 0 else f) → held (if b then fresh own else s) ≤ f
-few_at true true s f g h = g refl refl
-few_at true false s f g h = omega arith
-few_at false own s f g h = h
-
-asks_at : (b own : Bool) (n : ℕ) (s : Status) → n ≤ room (if b then fresh own else s) → (if b then 0 else n) ≤ held s → n ≤ held (if b then fresh own else s)
-asks_at true true n s h g = h
-asks_at true false n s h g = h
-asks_at false own n s h g = g
 
 -- what is asked of a body within binders, from what is asked outside
 pub enter_asks : (fip own : Bool) (ys : List ℕ) (s : ℕ → Status) (t : Term) → (fip ≡ true → (x : ℕ) → held (s x) ≤ outside ys [] (Own x) (fewest x t)) → ((x : ℕ) → outside ys [] (Own x) (asks (Own x) t) ≤ held (s x)) → (own ≡ true → AllUsed fip ys t) → Clean fip (K.binding ys own s) t → (fip ≡ true → Even t) → Asks fip (K.binding ys own s) t

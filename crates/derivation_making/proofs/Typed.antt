@@ -25,6 +25,7 @@ use Rattle.derivation_making.specs.Numbered.{Numbered, NumberedBlock, NumberedCl
 use Rattle.derivation_making.proofs.Lists.{either, not_both, same_number}
 use Rattle.derivation_making.proofs.Linking.{known_here, known_behind}
 use Rattle.type_check.proofs.fip_language.Facts.{some_some_same as some_type}
+use Rattle.type_check.proofs.Basics.{chosen_is}
 
 -- what typing knows of a variable is what the derivation's scope knows; c binders stand before
 abbrev pub Alike : S.Scope → List Known → ℕ → Type 0
@@ -93,9 +94,6 @@ alike_binders own s vs c d e (b ∷ bs) n h l x t k =
 filled_append : (bs cs : List Binder) → filled_entries (bs ++ cs) ≡ filled_entries bs ++ filled_entries cs
 filled_append [] cs = refl
 filled_append (b ∷ bs) cs = ap (λ (es : S.Scope). entry (Some b.ty) b ∷ es) (filled_append bs cs)
-
-chosen_is : (w : World) (t d : ℕ) → is_of w t d ≡ true → chosen w (Some (Some t)) d ≡ Some t
-chosen_is w t d e = rw (e) refl
 
 same_scopes : (a b c d : S.Scope) → a ≡ c → b ≡ d → a ++ b ≡ c ++ d
 same_scopes a b c d e f = cc

@@ -36,6 +36,9 @@ use Rattle.derivation_making.proofs.Arguments.{each_item}
 use Rattle.derivation_making.proofs.Standing.{Stands, Asks}
 use Rattle.derivation_making.proofs.Bodies.{has_block, derive_block}
 use Rattle.type_check.proofs.fip_language.Facts.{greater_unequal as above}
+use Rattle.derivation_making.proofs.Linking.{lift_known, one_above, one_more, one_rising}
+use Rattle.ownership_agreement.proofs.Parameters.{not_owned as not_before}
+use Rattle.ownership_agreement.proofs.ownership_calculus.Whole.{few_start, held_start, room_start}
 
 -- ---- the scope of the parameters
 
@@ -64,9 +67,6 @@ here_one w c sc p b x n f =
       omega arith,
       t,
     )
-
-one_more : (n d : ℕ) (bs : List Binder) → AreNumbered (n + 1) (d + 1) bs → AreNumbered (suc n) (d + 1) bs
-one_more n d bs h = let e : n + 1 ≡ suc n = omega arith in subst (λ m. AreNumbered m (d + 1) bs) e h
 
 keep_all : (w : World) (c : Names) (sc : Scalars) (d : ℕ) (ps : List Param) (bs : List Binder) (x : ℕ) (v : Known) → AreNumbered c.next d bs → LinkAt w c sc x v → LinkAt w (H.within c (H.parameters w ps bs)) (entering_parameters w c.next sc ps bs) x v
 keep_all w c sc d ps [] x v n h = h
@@ -99,14 +99,6 @@ one_owned true l w u vs us e h = h
 one_owned false true w u vs us e h = h
 one_owned false false w u vs us e h = (known_here u vs u.binder (number_self u.binder), e, h)
 
-lift_known : (w : World) (k : Known) (us xs : List Known) → EachOf (λ y. (k.binder == y) ≡ false) xs → AreKnown w us xs → AreKnown w (k ∷ us) xs
-lift_known w k us [] e h = tt
-lift_known w k us (x ∷ xs) e h = (known_behind k us x.binder e.0 ∙ h.0, h.1, lift_known w k us xs e.1 h.2)
-
-one_above : (s : Bool) (k : ℕ) (u : Known) (us : List Known) → (k == u.binder) ≡ false → EachOf (λ y. (k == y) ≡ false) us → EachOf (λ y. (k == y) ≡ false) (if s then us else u ∷ us)
-one_above true k u us e h = h
-one_above false k u us e h = (e, h)
-
 owned_above : (w : World) (k n : ℕ) (ps : List Param) → k < n → EachOf (λ y. (k == y) ≡ false) (owned_ones w (parameters n ps))
 owned_above w k n [] l = tt
 owned_above w k n (p ∷ ps) l =
@@ -120,10 +112,6 @@ owned_known w n (p ∷ ps) =
     one_owned (w.scalar p.ty) (not (not p.lent)) w u (parameters (n + 1) ps) (owned_ones w (parameters (n + 1) ps)) refl
     (lift_known w u (parameters (n + 1) ps) (owned_ones w (parameters (n + 1) ps)) (owned_above w n (n + 1) ps (omega arith)) (owned_known w (n + 1) ps))
 
-one_rising : (s : Bool) (d e : ℕ) (u : Known) (us : List Known) → u.number ≡ d → d < e → Rising (d + 1) e (numbers us) → Rising d e (numbers (if s then us else u ∷ us))
-one_rising true d e u us n l h = rising_later d (d + 1) e (numbers us) h (omega arith)
-one_rising false d e u us n l h = (omega arith, omega arith, subst (λ m. Rising (m + 1) e (numbers us)) (sym n) h)
-
 owned_rising : (w : World) (n e : ℕ) (ps : List Param) → n + length ps ≤ e → Rising n e (numbers (owned_ones w (parameters n ps)))
 owned_rising w n e [] l = tt
 owned_rising w n e (p ∷ ps) l = one_rising (w.scalar p.ty || not (not p.lent)) n e (record { binder = n; number = n; ty = p.ty; owned = not p.lent }) (owned_ones w (parameters (n + 1) ps)) refl (omega arith) (owned_rising w (n + 1) e ps (omega arith))
@@ -136,16 +124,6 @@ one_number false false n u us ns e h = cc
 owned_numbers : (w : World) (n : ℕ) (ps : List Param) → numbers (owned_ones w (parameters n ps)) ≡ A.owned_parameters w n ps
 owned_numbers w n [] = refl
 owned_numbers w n (p ∷ ps) = one_number (w.scalar p.ty) p.lent n (record { binder = n; number = n; ty = p.ty; owned = not p.lent }) (owned_ones w (parameters (n + 1) ps)) (A.owned_parameters w (n + 1) ps) refl (owned_numbers w (n + 1) ps)
-
-not_before : (w : World) (n x : ℕ) (ps : List Param) (bs : List Binder) → x < n → has (owned_parameters w n ps bs) x ≡ false
-not_before w n x ps [] l = refl
-not_before w n x [] (b ∷ bs) l = refl
-not_before w n x (p ∷ ps) (b ∷ bs) l = first (w.scalar p.ty) p.lent (not_before w (suc n) x ps bs (omega arith))
-  where
-    first : (s l2 : Bool) → has (owned_parameters w (suc n) ps bs) x ≡ false → has (if s then owned_parameters w (suc n) ps bs else (if l2 then owned_parameters w (suc n) ps bs else n ∷ owned_parameters w (suc n) ps bs)) x ≡ false
-    first true l2 h = h
-    first false true h = h
-    first false false h = let e : (n == x) ≡ false = apart x n l in rw (e) h
 
 one_tally : (s l : Bool) (n x : ℕ) (u : Known) (us : List Known) (ys : List ℕ) → u.binder ≡ n → (x < suc n → has ys x ≡ false) → tally x us ≡ (if has ys x then 1 else 0) → tally x (if s || not (not l) then us else u ∷ us) ≡ (if has (if s then ys else (if l then ys else n ∷ ys)) x then 1 else 0)
 one_tally true l n x u us ys e f h = h
@@ -195,21 +173,6 @@ params_lent w n x (p ∷ ps) (b ∷ bs) v l k s h =
 
 abbrev start : Bool → Bool → Status
 start o l = if o then Owned false false else (if l then Free else Owned true false)
-
-held_start : (o l : Bool) → held (start o l) ≡ (if o then 1 else 0)
-held_start true l = refl
-held_start false true = refl
-held_start false false = refl
-
-room_start : (o l : Bool) → room (start o l) ≡ held (start o l)
-room_start true l = refl
-room_start false true = refl
-room_start false false = refl
-
-few_start : (o l : Bool) (f : ℕ) → (o ≡ true → 1 ≤ f) → held (start o l) ≤ f
-few_start true l f h = h refl
-few_start false true f h = omega arith
-few_start false false f h = omega arith
 
 seen_start : (o l : Bool) → visible (start o l) ≡ true → o ≡ false
 seen_start true l h = absurd (cc)

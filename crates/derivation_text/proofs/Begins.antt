@@ -4,12 +4,10 @@ use Rattle.std.specs.Prelude.{◌&&◌, ◌==◌, nat_lt, nat_le, if◌then◌el
 use Rattle.std.proofs.lemmas.Bool.{le-leb, lt-ltb, le-ltb, lt-leb}
 use Rattle.derivation_text.specs.Machine.{reaches, begins}
 use Rattle.derivation_text.proofs.Digits.{if_yes, if_not, begins_zero, begins_more}
+pub use Rattle.derivation_text.proofs.Digits.{begins_more as begins_some}
 
 pub begins_none : (n least most : ℕ) → n ≡ 0 → begins n least most ≡ (least == 0)
 begins_none n least most e = ap (λ n. begins n least most) e ∙ begins_zero least most
-
-pub begins_some : (n least most : ℕ) → 0 < n → begins n least most ≡ (nat_le least most && reaches 10 n n least most)
-begins_some = begins_more
 
 pub reaches_past : (k low high least most : ℕ) → most < low → reaches k low high least most ≡ false
 unfolding reaches

@@ -17,7 +17,7 @@ alter_set f [] i n m l e h = absurd (omega arith)
 alter_set f (o ∷ ns) zero n m l e h = ap (λ g. g ∷ heads ns) (h ∙ ap (λ n. f (head n)) e)
 alter_set f (o ∷ ns) (suc i) n m l e h = ap (λ hs. head o ∷ hs) (alter_set f ns i n m (omega arith) e h)
 
-alter_length : (f : Head → Head) (o : Option ℕ) (hs : List Head) → length (alter_at f o hs) ≡ length hs
+pub alter_length : (f : Head → Head) (o : Option ℕ) (hs : List Head) → length (alter_at f o hs) ≡ length hs
 alter_length f None hs = refl
 alter_length f (Some i) hs = at i hs
   where

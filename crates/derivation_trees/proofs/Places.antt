@@ -4,7 +4,7 @@ use Rattle.std.specs.Prelude.{slice_get}
 use Rattle.derivation_trees.specs.Trees.{Tree, Missing, Branch, Trees, MoreTrees, Head, span_of, row, rooted, cut_at, tree_at}
 use Rattle.fip_base.proofs.fip_language.Facts.{get_none}
 
-more_same : {t u : Tree} {ts us : Trees} → t ≡ u → ts ≡ us → MoreTrees t ts ≡ MoreTrees u us
+pub more_same : {t u : Tree} {ts us : Trees} → t ≡ u → ts ≡ us → MoreTrees t ts ≡ MoreTrees u us
 more_same e f = cc
 
 -- what stands before a place doesn't matter behind it

@@ -12,6 +12,7 @@ use Rattle.derivation_trees.specs.Building.{Built, alter, alter_at, innermost, w
 use Rattle.derivation_walk.specs.Growing.{grown, grown_all, closed_times, Awaits, AwaitsOne}
 use Rattle.derivation_walk.specs.Walked.{Owned, credits, same_from, weakened, node}
 use Rattle.fip_language.proofs.Facts.{append_associates as append_assoc, take_last as without_last}
+use Rattle.derivation_trees.proofs.Altering.{alter_length as alter_at_length}
 
 -- ---- lists
 
@@ -25,10 +26,6 @@ alter_length : (f : Head → Head) (i : ℕ) (hs : List Head) → length (alter 
 alter_length f i [] = refl
 alter_length f zero (h ∷ hs) = refl
 alter_length f (suc i) (h ∷ hs) = ap suc (alter_length f i hs)
-
-alter_at_length : (f : Head → Head) (o : Option ℕ) (hs : List Head) → length (alter_at f o hs) ≡ length hs
-alter_at_length f None hs = refl
-alter_at_length f (Some i) hs = alter_length f i hs
 
 last_of : (xs : List ℕ) (y : ℕ) → slice_get (xs ++ y ∷ []) (length (xs ++ y ∷ []) - 1) ≡ Some y
 last_of xs y = let e : length (xs ++ y ∷ []) - 1 ≡ length xs = (let h = length-append xs (y ∷ []) in omega arith) in ap (slice_get (xs ++ y ∷ [])) e ∙ at xs

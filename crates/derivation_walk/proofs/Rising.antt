@@ -172,7 +172,7 @@ rows_rise all n m rs (o ∷ os) h g x = rows_rise all o.expression m (add_if (is
     added true y = add_rises n o.expression o.binder rs h g.0 y
     added false y = rises_on 0 n o.expression (row_at rs y) (h y) g.0
 
-empty_row : (n x : ℕ) → row_at (empty_rows n) x ≡ []
+pub empty_row : (n x : ℕ) → row_at (empty_rows n) x ≡ []
 empty_row zero x = refl
 empty_row (suc n) zero = refl
 empty_row (suc n) (suc x) = empty_row n x

@@ -17,9 +17,7 @@ use Rattle.fip_trees.proofs.TreeViews.{expression_match, block_is, binding_is}
 use Rattle.fip_rules.specs.World.{World}
 use Rattle.fip_rules.specs.Shapes.{takes}
 use Rattle.derivation_walk.specs.Seen.{Seen, bind_all, pass, number, see, see_parts, see_block, see_clause, see_clauses}
-
-pub none_left : (xs : List Binding) (i : ℕ) → length xs ≤ i → map binding (drop i xs) ≡ []
-none_left xs i h = let e : drop i xs ≡ [] = grind (arith, common_steps) in ap (λ q. map binding q) e
+pub use Rattle.fip_rules.proofs.Views.{none_left}
 
 pub block_first : (d : Block) (xs : List Binding) → xs ≡ (out-Block d).bindings.items → block d ≡ block_of (map binding xs) (expression (out-Block d).last)
 block_first d xs e = block_is d ∙ sym (ap (λ q. block_of (map binding q) (expression (out-Block d).last)) e)

@@ -30,6 +30,8 @@ use Rattle.derivation_trees.specs.Trees.{Tree, Branch, Trees, NoTrees, MoreTrees
 use Rattle.derivation_walk.specs.Growing.{grown, grown_all, closed_times, Awaits, AwaitsOne}
 use Rattle.derivation_walk.specs.Walked.{Guided, Owned, Asked, asked, those, behind, rest_owned, node, credits_from, credits, same_from, match_rule, binder_of, walked, walked_block, walked_parts, walked_clause, walked_clauses, let_node, size, size_parts, used, rule_of, constructor_rule, owning, sorted, value, fields, passed, begun}
 use Rattle.derivation_walk.proofs.Growing.{node_done, awaited, waits_more}
+pub use Rattle.credit_check.proofs.Steps.{bound_is}
+pub use Rattle.fip_rules.proofs.Views.{none_left}
 
 -- ---- credits
 
@@ -87,12 +89,6 @@ pub filter_none : (f : ℕ → Bool) (found rest g : List ℕ) (x : ℕ) → f x
 filter_none f found rest g x t inv = ap (λ b. found ++ (if b then x ∷ filter f rest else filter f rest)) (sym t) ∙ inv
 
 -- ---- blocks
-
-pub bound_is : (d : Binding) → expression (out-Binding d).bound ≡ (binding d).bound
-bound_is d = ap (λ (z : BoundPart). z.bound) (sym (binding_is d))
-
-pub none_left : (xs : List Binding) (i : ℕ) → length xs ≤ i → map binding (drop i xs) ≡ []
-none_left xs i h = let e : drop i xs ≡ [] = grind (arith, common_steps) in ap (λ q. map binding q) e
 
 pub block_first : (d : Block) (xs : List Binding) → xs ≡ (out-Block d).bindings.items → block d ≡ block_of (map binding xs) (expression (out-Block d).last)
 block_first d xs e = block_is d ∙ sym (ap (λ q. block_of (map binding q) (expression (out-Block d).last)) e)

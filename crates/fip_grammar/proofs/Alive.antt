@@ -72,7 +72,7 @@ alive_level (ForYes q e) b go a =
     (mark S.CurlyClose ∷ keyword, k.1, (keyword, (here, refl), (reopen, (here, refl), (inner, zero_block, end, k.0, (here, refl), zero_spelled 0 end, (here, refl), k.2))))
 alive_level (ForNo q e one) b go a = let k = a (If q e one b) in (mark S.CurlyClose ∷ k.0, k.1, (k.0, (here, refl), k.2))
 
-compared_none : (o : Option Pending) (v : Expression) (ts : List Token) → Compared o v ts (applied o v) ts
+pub compared_none : (o : Option Pending) (v : Expression) (ts : List Token) → Compared o v ts (applied o v) ts
 compared_none None v ts = inl (refl, refl)
 compared_none (Some q) v ts = (refl, refl)
 

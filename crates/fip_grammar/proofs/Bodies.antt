@@ -16,6 +16,8 @@ use Rattle.fip_grammar.proofs.Functions.{head}
 use Rattle.fip_grammar.proofs.Types.{take_end_bind, give_end_bind, take_bind_start, give_bind_start}
 use Rattle.fip_grammar.proofs.Patterns.{take_pattern, give_pattern}
 use Rattle.fip_grammar.proofs.Operators.{chain_none, peel, unpeel, units, units_back, products, products_back, open_simple, close_simple}
+use Rattle.fip_grammar.proofs.Alive.{compared_none}
+use Rattle.fip_grammar.proofs.Types.{give_let_equals as give_equals, take_let_equals as take_equals}
 
 abbrev body_of : FunctionHead → Result → List Level → List Binding → Option (List Bind) → List Opener → Waiting → Body
 body_of h r ls lets bs os w = record { head = h; gives = r; levels = ls; partial = record { lets = lets; binds = bs; openers = os; waiting = w } }
@@ -264,10 +266,6 @@ take_after_operand : (b : Body) (v : Expression) (w : Word) (p : Place) (ts : Li
 take_after_operand b v w p ts ds c =
     let g = c.2 in
     take_product b v w p ts g.0 g.1 g.2 g.3 c.0 c.1 ds (peel 2 (product_so_far b v) (token w p ∷ ts) g.0 g.1 g.4) g.5 g.6 c.3
-
-compared_none : (c0 : Option Pending) (v : Expression) (ts : List Token) → Compared c0 v ts (applied c0 v) ts
-compared_none None v ts = inl (refl, refl)
-compared_none (Some q) v ts = (refl, refl)
 
 give_product : (b : Body) (v : Expression) (op : Operator) (p : Place) (ts : List Token) (ds : List Declaration) → tightness op ≡ 2 → Fits (after_operator Product b v op p) ts ds → AfterOperand b ds v (token (Operate op) p ∷ ts)
 give_product b v op p ts ds t c =
@@ -563,13 +561,6 @@ give_else b q e one _ p ts ds c = absurd c
 give_else_open : (b : Body) (q : Place) (e : Expression) (one : Block) (w : Word) (p : Place) (ts : List Token) (ds : List Declaration) → Fits (step_body (ElseOpen q e one) b w p) ts ds → InBodyFrom (ElseOpen q e one) b (token w p ∷ ts) ds
 give_else_open b q e one (Mark S.CurlyOpen) p ts ds c = let k = c.3 in (ts, c.0, c.1, k.0, (p, refl), c.2, k.1, k.2)
 give_else_open b q e one _ p ts ds c = absurd c
-
-take_equals : (b : Body) (bs : List Bind) (w : Word) (p : Place) (ts : List Token) (ds : List Declaration) → EqualsFrom b bs (token w p ∷ ts) ds → Fits (let_equals bs b w) ts ds
-take_equals b bs w p ts ds c = head (λ w p. let_equals bs b w) ds c.1.1 c.2
-
-give_equals : (b : Body) (bs : List Bind) (w : Word) (p : Place) (ts : List Token) (ds : List Declaration) → Fits (let_equals bs b w) ts ds → EqualsFrom b bs (token w p ∷ ts) ds
-give_equals b bs (Mark S.Equals) p ts ds c = (ts, (p, refl), c)
-give_equals b bs _ p ts ds c = absurd c
 
 pub take_body : (x : BodyPosition) (b : Body) (w : Word) (p : Place) (ts : List Token) (ds : List Declaration) → InBodyFrom x b (token w p ∷ ts) ds → Fits (step_body x b w p) ts ds
 take_body AtBlock b w p ts ds c = take_block b c.0 w p ts c.1 ds c.2 c.3

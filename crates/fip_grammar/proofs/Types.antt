@@ -17,7 +17,7 @@ two x (z ∷ zs) y more = tt
 
 -- The binds of lets.
 
-take_let_equals : (b : Body) (bs : List Bind) (w : Word) (p : Place) (ts : List Token) (ds : List Declaration) → EqualsFrom b bs (token w p ∷ ts) ds → Fits (let_equals bs b w) ts ds
+pub take_let_equals : (b : Body) (bs : List Bind) (w : Word) (p : Place) (ts : List Token) (ds : List Declaration) → EqualsFrom b bs (token w p ∷ ts) ds → Fits (let_equals bs b w) ts ds
 take_let_equals b bs w p ts ds c = head (λ w p. let_equals bs b w) ds c.1.1 c.2
 
 pub give_let_equals : (b : Body) (bs : List Bind) (w : Word) (p : Place) (ts : List Token) (ds : List Declaration) → Fits (let_equals bs b w) ts ds → EqualsFrom b bs (token w p ∷ ts) ds

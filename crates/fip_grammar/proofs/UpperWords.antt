@@ -26,7 +26,7 @@ abbrev first_of : {A : Type 0} → List (Bool × A) → A → A
 first_of [] d = d
 first_of (c ∷ cs) d = cond c.0 c.1 (first_of cs d)
 
-holds_if : {A : Type 0} (P : A → Type 0) (c : Bool) (x y : A) → P x → P y → P (cond c x y)
+pub holds_if : {A : Type 0} (P : A → Type 0) (c : Bool) (x y : A) → P x → P y → P (cond c x y)
 holds_if P true x y h k = h
 holds_if P false x y h k = k
 

@@ -33,6 +33,7 @@ use Rattle.derivation_agreement.proofs.Sited.{Piece, piece_second}
 use Rattle.derivation_agreement.proofs.WalkWhole.{walked_is}
 use Rattle.fip_proof.specs.Ready.{IsReady}
 use Rattle.fip_proof.specs.Lines.{IsLine}
+pub use Rattle.derivation_walk.proofs.WalkRows.{none_left}
 
 -- ---- texts
 
@@ -124,9 +125,6 @@ long_text p needs n d ds ns old new limit h r e l same more w =
     let a : length (lines_text (made_entries p 0 p.instances)) ≡ length (new.bytes ++ rest) = ap (λ (xs : List ℕ). length xs) z.is in
     let b = length-append new.bytes rest in
     omega (arith, same, more, a, b)
-
-pub none_left : (xs : List A.Instance) (i : ℕ) → length xs ≤ i → map instance_of (drop i xs) ≡ []
-none_left xs i h = let e : drop i xs ≡ [] = grind (arith, common_steps) in ap (λ q. map instance_of q) e
 
 -- ---- what is read again
 

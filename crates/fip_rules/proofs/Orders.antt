@@ -85,7 +85,7 @@ ordered_fault : (n : ℕ) (b : Bool) (p : Place) (l : Name) (ms : List Mark) (as
 ordered_fault n true p l ms as' h = tt
 ordered_fault n false p l ms as' h = (tt, ordered_owning_all n ms as' h)
 
-next_lending : (n : ℕ) (w : World) (ms : List Mark) (a : Argument) → next n (lending w ms a) ≡ n
+pub next_lending : (n : ℕ) (w : World) (ms : List Mark) (a : Argument) → next n (lending w ms a) ≡ n
 next_lending n w ms (Variable None l p) = refl
 next_lending n w ms (Variable (Some x) l p) = lent_next n (known ms x) x p l
 next_lending n w ms (Literal i p) = refl

@@ -61,7 +61,7 @@ none_left (suc i) (x ∷ xs) le = none_left i xs (omega (arith, le))
 
 -- ---- the arguments so far
 
-written_more : (k : ℕ) (g : Written) (gs : List Written) (v : Value) (vs : Values) → written k (g ∷ gs) (More v vs) ≡ written k (g ∷ []) (More v End) + written k gs vs
+pub written_more : (k : ℕ) (g : Written) (gs : List Written) (v : Value) (vs : Values) → written k (g ∷ gs) (More v vs) ≡ written k (g ∷ []) (More v End) + written k gs vs
 written_more k (Fresh w) gs v vs = omega arith
 written_more k (Held name) gs v vs = omega arith
 

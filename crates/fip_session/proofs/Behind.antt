@@ -142,7 +142,7 @@ fewer_lent tb (p ∷ ps) (g ∷ gs) (MoreParts x xs) q h = by p.lent (is_scalar 
     by true false e a r = omega (arith, a, r)
     by true true e a r = (let z = h.0 e q in omega (arith, a, r, z))
 
-every_but : (P : Lodged → Type 0) (n : Name) (ls : List Lodged) → Every P ls → Every P (but n ls)
+pub every_but : (P : Lodged → Type 0) (n : Name) (ls : List Lodged) → Every P ls → Every P (but n ls)
 every_but P n [] h = tt
 every_but P n (l ∷ ls) h = by (same_name n l.name) (every_but P n ls h.1)
   where

@@ -28,9 +28,8 @@ use Rattle.fip_session.specs.Readied.{fresh_one, fresh_list}
 use Rattle.fip_session.specs.declared.ready.Fresh.{Fresh}
 use Rattle.fip_session.proofs.Stores.{same_cell}
 use Rattle.fip_language.proofs.Facts.{length_join, positive_or_zero as some_or}
-
-there_same : (s u : Store) (q : ℕ) → u.cells ≡ s.cells → there u q ≡ there s q
-there_same s u q e = ap (λ os. one_if_some (cell_in os q)) e
+use Rattle.session_correctness.proofs.Calls.{there_at as there_same}
+use Rattle.value_text.proofs.Credits.{count_append as count_join}
 
 -- ---- one behind another
 
@@ -104,10 +103,6 @@ few_in s ps h = few_places (length s.cells) ps (λ q. (let a = h q in let b = th
 
 pub few_of : (s : Store) (x : Placed) → ((q : ℕ) → uses q x ≤ there s q) → length (places x) ≤ length s.cells
 few_of s x h = few_in s (places x) (λ q. (let a = h q in let b = places_use x q in omega (arith, a, b)))
-
-count_join : (q : ℕ) (ps qs : List ℕ) → count q (ps ++ qs) ≡ count q ps + count q qs
-count_join q [] qs = omega arith
-count_join q (p ∷ ps) qs = (let h = count_join q ps qs in omega (arith, h))
 
 length_places : (ts : List Tree) → length (places_of ts) ≡ length ts
 length_places [] = refl
@@ -258,7 +253,7 @@ releasing_ends tb fs xs first now r = up_same r.done (lent_of fs xs) first now (
 
 -- ---- names that are used up
 
-named_join : (ls : List Lodged) (ms ns : List Name) (q : ℕ) → named_uses ls (ms ++ ns) q ≡ named_uses ls ms q + named_uses ls ns q
+pub named_join : (ls : List Lodged) (ms ns : List Name) (q : ℕ) → named_uses ls (ms ++ ns) q ≡ named_uses ls ms q + named_uses ls ns q
 named_join ls [] ns q = omega arith
 named_join ls (m ∷ ms) ns q = (let r = named_join ls ms ns q in omega (arith, r))
 

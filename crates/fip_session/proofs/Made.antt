@@ -22,6 +22,7 @@ use Rattle.session_correctness.proofs.Counting.{store_sized, held_cells, made_th
 use Rattle.session_lines.specs.session_semantics.Lines.{Given as Written, Held as Named, Fresh as New}
 use Rattle.session_lines.specs.session_semantics.Talk.{named_by, written}
 use Rattle.fip_session.proofs.Weighing.{credits_are}
+use Rattle.session_correctness.proofs.Naming.{lodged_more as uses_more}
 
 abbrev parts_of : List Lodged → Parts
 parts_of [] = NoParts
@@ -65,10 +66,6 @@ fresh_facts tb ls before s k q (p ∷ ps) (Named n ∷ gs) (MoreParts x xs) t h 
     let a = r.0 in
     let b = r.1 in
     (omega (arith, a), omega (arith, b), r.2)
-
-uses_more : (ls ms : List Lodged) (q : ℕ) → lodged_uses (ls ++ ms) q ≡ lodged_uses ls q + lodged_uses ms q
-uses_more [] ms q = omega arith
-uses_more (l ∷ ls) ms q = (let r = uses_more ls ms q in omega (arith, r))
 
 cells_more : (k : ℕ) (ls ms : List Lodged) → lodged_cells k (ls ++ ms) ≡ lodged_cells k ls + lodged_cells k ms
 cells_more k [] ms = omega arith

@@ -26,6 +26,7 @@ use Rattle.fip_session.proofs.Forgetting.{none_left}
 use Rattle.fip_session.proofs.GivingUp.{added_more, few_more}
 use Rattle.fip_session.proofs.Readying.{every_at, lodged_of}
 use Rattle.fip_language.proofs.Facts.{drop_next as item_at}
+use Rattle.fip_session.proofs.GivingUp.{named_join}
 
 pub record NotesValues (tb : Table) (cs : L.Cells) (xs : List Placed) (first now : List Tree) (fs' : List Fresh) : Type 0 where
   pub left : List Placed
@@ -94,10 +95,6 @@ held_tree tb cs b ls name h finds stand is =
     }
 
 -- ---- names that are used up
-
-named_join : (ls : List Lodged) (ms ns : List Name) (q : ℕ) → named_uses ls (ms ++ ns) q ≡ named_uses ls ms q + named_uses ls ns q
-named_join ls [] ns q = omega arith
-named_join ls (m ∷ ms) ns q = (let r = named_join ls ms ns q in omega (arith, r))
 
 pub used_first : (ls : List Lodged) (g : Given) (gs : List Given) (q : ℕ) → g.is_used_up ≡ true → named_uses ls (names_used (g ∷ gs)) q ≡ uses_in (lodged_as g.name.now ls) q + named_uses ls (names_used gs) q
 used_first ls g gs q is_so =

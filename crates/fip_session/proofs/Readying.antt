@@ -43,6 +43,10 @@ use Rattle.fip_session.specs.declared.ready.Fresh.{Fresh}
 use Rattle.fip_session.specs.declared.ready.Ready.{Ready}
 use Rattle.fip_session.proofs.Planning.{placed, begins_there}
 use Rattle.fip_session.proofs.Weighing.{credits_are}
+use Rattle.fip_session.proofs.Accepting.{written_more}
+use Rattle.session_values.proofs.CellsKept.{live_few}
+use Rattle.value_text.proofs.Counted.{join-end as join_nothing}
+use Rattle.value_text.proofs.Residual.{join-assoc as join_assoc}
 
 -- ---- what is held under a name
 
@@ -70,15 +74,6 @@ lodged_of b ls finds name h e = by (lodged_as name ls) refl (sym (finds name) �
     by (Some l) e f = (l, e, sym (same_Some (held_by l) h f))
 
 -- ---- live cells
-
-live_few : (l : Loading) (p : ℕ) → live l p ≤ 1
-live_few l p = by (cell_at l.cells p) (slice_get l.released p)
-  where
-    by : (o : Option Cell) (r : Option Bool) → live_in o r ≤ 1
-    by None r = omega arith
-    by (Some c) None = omega arith
-    by (Some c) (Some true) = omega arith
-    by (Some c) (Some false) = omega arith
 
 -- what was live is so where cells are made
 pub live_on : (a b : Loading) (f : ℕ → ℕ) (p : ℕ) → AreMade a b f → live a p ≡ 1 → live b p ≡ 1
@@ -144,14 +139,6 @@ stand_join tb cs [] js (MoreParts x xs) ys h k = absurd h
 stand_join tb cs (i ∷ ks) js NoParts ys h k = absurd h
 stand_join tb cs (i ∷ ks) js (MoreParts x xs) ys h k = (h.0, stand_join tb cs ks js xs ys h.1 k)
 
-join_assoc : (a b c : Values) → join (join a b) c ≡ join a (join b c)
-join_assoc End b c = refl
-join_assoc (More x a) b c = ap (More x) (join_assoc a b c)
-
-join_nothing : (a : Values) → join a End ≡ a
-join_nothing End = refl
-join_nothing (More x a) = ap (More x) (join_nothing a)
-
 parts_nothing : (xs : Parts) → parts_join xs NoParts ≡ xs
 parts_nothing NoParts = refl
 parts_nothing (MoreParts x xs) = ap (MoreParts x) (parts_nothing xs)
@@ -159,10 +146,6 @@ parts_nothing (MoreParts x xs) = ap (MoreParts x) (parts_nothing xs)
 parts_snoc : (xs : Parts) (x : Placed) (ys : Parts) → parts_join (parts_join xs (MoreParts x NoParts)) ys ≡ parts_join xs (MoreParts x ys)
 parts_snoc NoParts x ys = refl
 parts_snoc (MoreParts z xs) x ys = ap (MoreParts z) (parts_snoc xs x ys)
-
-written_more : (k : ℕ) (g : Written) (gs : List Written) (v : Value) (vs : Values) → written k (g ∷ gs) (More v vs) ≡ written k (g ∷ []) (More v End) + written k gs vs
-written_more k (New w) gs v vs = omega arith
-written_more k (Named name) gs v vs = omega arith
 
 -- what is made of the arguments so far, and what is left of them
 pub record Putting (tb : Table) (bytes : List ℕ) (ls : List Lodged) (qs : List Param) (gs : List Written) (vs : Values) (first now : Loading) (r : Ready) (qs' : List Param) (as' : List Argument) : Type 0 where

@@ -38,6 +38,7 @@ use Rattle.fip_session.proofs.GivingUp.{added_more, few_more}
 use Rattle.fip_session.proofs.Readying.{every_at}
 use Rattle.fip_session.proofs.Stores.{same_cell}
 use Rattle.fip_language.proofs.Facts.{positive_or_zero as some_or, three_ways as place_or}
+pub use Rattle.fip_session.proofs.Behind.{every_but}
 
 abbrev pub Entries : Type 0
 Entries = List (Vec ℕ Global × Held)
@@ -49,14 +50,6 @@ at_name name es = lookup (is_at (λ k. slice_cmp nat_cmp name k.items)) es
 none_behind : (name : Name) (es : Entries) → AllByRecursion (λ y. slice_cmp nat_cmp name y.items ≡ Less) (keys_of es) → at_name name es ≡ None
 none_behind name [] h = refl
 none_behind name (e ∷ es) h = cond-false (is_eq (slice_cmp nat_cmp name (e.0).items)) (Some e.1) (at_name name es) (ap is_eq h.0) ∙ none_behind name es h.1
-
-pub every_but : (P : Lodged → Type 0) (n : Name) (ls : List Lodged) → Every P ls → Every P (but n ls)
-every_but P n [] h = tt
-every_but P n (l ∷ ls) h = by (bytes_eq n l.name) (every_but P n ls h.1)
-  where
-    by : (b : Bool) → Every P (but n ls) → Every P (if b then but n ls else l ∷ but n ls)
-    by true r = r
-    by false r = (h.0, r)
 
 -- the trees of the first entries are gathered
 pub record Gathering (tb : Table) (cs : L.Cells) (ls : List Lodged) (es : Entries) (list : List Tree) : Type 0 where

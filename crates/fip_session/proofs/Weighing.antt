@@ -12,6 +12,7 @@ use Rattle.value_text.specs.declared.counts.Counts.{Counts}
 use Rattle.value_text.proofs.Taken.{words_zero, words_suc}
 use Rattle.fip_session.specs.Planned.{IsWeighed}
 use Rattle.fip_language.proofs.Facts.{times_le as mul_le}
+use Rattle.value_text.proofs.Credits.{count_most as count_few}
 
 pub credits_are : (k : ℕ) (cs : List ℕ) → credits_of k cs ≡ count k cs
 credits_are k [] = refl
@@ -23,10 +24,6 @@ one_few k c = by (nat_eq k c)
     by : (b : Bool) → (if b then 1 else 0) ≤ 1
     by true = omega arith
     by false = omega arith
-
-count_few : (k : ℕ) (cs : List ℕ) → count k cs ≤ length cs
-count_few k [] = omega arith
-count_few k (c ∷ cs) = (let a = one_few k c in let r = count_few k cs in omega (arith, a, r))
 
 mul_turned : (a b : ℕ) → a * b ≡ b * a
 mul_turned zero zero = refl

@@ -13,6 +13,9 @@ use Rattle.fip_machine.specs.machine_cells.Counting.{freed_of, one_of}
 use Rattle.fip_tasks.specs.Gauged.{sized}
 use Rattle.fip_language.proofs.Facts.{head_same, nat_eq_same as same_at, tail_same}
 pub use Rattle.fip_language.proofs.Facts.{true_of_not_false as is_whole}
+use Rattle.value_text.proofs.Built.{length-words as count_words}
+use Rattle.value_text.proofs.Credits.{count_append}
+pub use Rattle.value_text.proofs.Credits.{count_most as few_credits}
 
 pub sized_append : (k : ℕ) (cs : Cells) (ps qs : List ℕ) → sized k cs (ps ++ qs) ≡ sized k cs ps + sized k cs qs
 sized_append k cs [] qs = omega arith
@@ -66,10 +69,6 @@ sized_by_counts k cs (p ∷ ps) qs h =
     let s = w.sum in
     omega (arith, rest, s)
 
-count_words : (xs : Parts) → length (words_of xs) ≡ count_of (values_of xs)
-count_words NoParts = refl
-count_words (MoreParts x xs) = ap suc (count_words xs)
-
 some_size : (k n : ℕ) → 1 ≤ k → one_of k n ≡ one_of_size k n
 some_size zero zero low = absurd (omega (arith, low))
 some_size (suc k) zero low = grind (arith, nat_tests)
@@ -96,11 +95,6 @@ mutual
       let first = sized_tree tb cs t k x low h.0 in
       let rest = sized_trees tb cs ts k xs low h.1 in
       sized_append k cs (places x) (places_of_all xs) ∙ (λ i. first i + rest i)
-
--- how often a place is among those of a tree
-count_append : (q : ℕ) (xs ys : List ℕ) → count q (xs ++ ys) ≡ count q xs + count q ys
-count_append q [] ys = omega arith
-count_append q (x ∷ xs) ys = let a = count_append q xs ys in omega (arith, a)
 
 mutual
   count_places : (q : ℕ) (x : Placed) → count q (places x) ≡ uses q x
@@ -171,6 +165,3 @@ few_cells tb cs ts k xs low h =
     let b = sized_few k cs (places_of_all xs) in
     omega (arith, a, b)
 
-pub few_credits : (k : ℕ) (cs : List ℕ) → count k cs ≤ length cs
-few_credits k [] = omega arith
-few_credits k (c ∷ cs) = let a = few_credits k cs in let b = at_most_one (nat_eq k c) in omega (arith, a, b)

@@ -10,6 +10,7 @@ use Rattle.ownership_agreement.specs.ownership_calculus.Functions.{starting, Der
 use Rattle.ownership_agreement.proofs.ownership_calculus.Faithful.{by_cases}
 use Rattle.in_place_safety.specs.Counts.{Held, cells_of_value, cells_of_values, cells_passed, total, Once, Binds, Counts, CountsLent, CountsTaken}
 use Rattle.tail_groups.proofs.fip_language.Facts.{and_false, and_false_first as and_left_false, and_not_true as not_both, or_assoc, or_false_false as or_false, or_last as has_more, same_number}
+use Rattle.ownership_agreement.proofs.ownership_calculus.Forth.{paid_own}
 
 abbrev times : ℕ → ℕ → ℕ
 times zero c = 0
@@ -87,10 +88,6 @@ covers_right dom O P Q h c x e = let z = c x e in let s = h (Own x) in omega ari
 
 self_one : (x : ℕ) → one x x ≡ 1
 self_one x = grind (arith, nat_tests)
-
-paid_own : (n x : ℕ) → paid n (Own x) ≡ 0
-paid_own zero x = refl
-paid_own (suc n) x = refl
 
 split_worth : (held : Held) (dom : List ℕ) (O P Q : Item → ℕ) (k : ℕ) → ((i : Item) → O i ≡ P i + Q i) → worth_of held dom O k ≡ worth_of held dom P k + worth_of held dom Q k
 split_worth held dom O P Q k h = let e = weight_split held dom O P Q k h in let f = h (Credit k) in omega arith

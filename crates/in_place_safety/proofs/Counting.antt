@@ -43,7 +43,7 @@ use Rattle.in_place_safety.proofs.Arguments.{value_cells, values_cells, passed_c
 abbrev Gave : Run → Values → ℕ → Type 0
 Gave r rs left = r.answer ≡ Gives rs left
 
-same_values : (vs ws : Values) (k j : ℕ) → Gives vs k ≡ Gives ws j → vs ≡ ws
+pub same_values : (vs ws : Values) (k j : ℕ) → Gives vs k ≡ Gives ws j → vs ≡ ws
 same_values vs ws k j e = cc
 
 value_gives : (o : Option Value) (go : Value → Run) (rs : Values) (left : ℕ) → Gave (with_value o go) rs left → (v : Value) × (o ≡ Some v) × Gave (go v) rs left

@@ -20,6 +20,7 @@ use Rattle.type_safety.proofs.Scopes.{children_have, halves, when_same, is_same,
 use Rattle.ownership_agreement.specs.ownership_calculus.Terms.{one, given, paid, Credit}
 use Rattle.ownership_agreement.specs.Bodies.{node, nodes, nodes_all}
 use Rattle.in_place_safety.proofs.Binding.{slots, slot_entries}
+use Rattle.ownership_agreement.proofs.Amounts.{given_append}
 
 -- ---- lists of values
 
@@ -44,10 +45,6 @@ joined_bound tb (a ∷ as') bs End ws env h = absurd h
 joined_bound tb (a ∷ as') bs (More v vs) ws env h = joined_bound tb as' bs vs ws (bind env a.number v) h.1
 
 -- ---- numbers of nodes
-
-given_append : (k : ℕ) (xs ys : List ℕ) → given k (xs ++ ys) ≡ given k xs + given k ys
-given_append k [] ys = omega arith
-given_append k (x ∷ xs) ys = let h = given_append k xs ys in omega arith
 
 turned : (m n : ℕ) → (if nat_eq m n then 1 else 0) ≡ one n m
 turned m n = grind (arith, nat_tests)

@@ -13,7 +13,7 @@ use Rattle.library_programs.specs.ListProgram.{list_program}
 use Rattle.evaluation_steps.proofs.Numbers.{all_can_increment}
 use Rattle.library_correctness.proofs.Lists.{reverse_runs, append_runs, increment_runs, increment_traps, right_runs, plug_runs}
 
-list_nodes : (xs : List ℤ) → nodes (list_value xs) ≡ 1 + length xs
+pub list_nodes : (xs : List ℤ) → nodes (list_value xs) ≡ 1 + length xs
 list_nodes [] = refl
 list_nodes (x ∷ xs) = omega (arith, list_nodes xs)
 

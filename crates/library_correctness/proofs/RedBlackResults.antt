@@ -13,6 +13,7 @@ use Rattle.library_correctness.proofs.RedBlack.{Top, depth, found, search, build
 use Rattle.library_correctness.proofs.Orders.{ascending_between, among_first, among_append, not_below, not_above}
 use Rattle.library_correctness.proofs.Keys.{IsGap, Gains, New, Outcome, Found, Added, search_outcome, Decides, Yes, No, found_decides}
 use Rattle.library_correctness.proofs.Balance.{search_balanced}
+use Rattle.library_correctness.proofs.ListResults.{list_nodes}
 
 not_in_gap : (i : ℤ) (xs : List ℤ) → IsGap i xs → Among i xs → ⊥
 not_in_gap i xs g a = not_above i g.high g.above (not_below i g.low g.high g.below (subst (Among i) g.all a))
@@ -91,10 +92,6 @@ depth_keys (Branch c l x r) = omega (arith, depth_keys l, depth_keys r, length-a
 keys_nodes : (t : Tree) → length (keys t) ≤ nodes (tree_value t)
 keys_nodes Leaf = omega arith
 keys_nodes (Branch c l x r) = omega (arith, keys_nodes l, keys_nodes r, length-append (keys l) (x ∷ keys r))
-
-list_nodes : (xs : List ℤ) → nodes (list_value xs) ≡ 1 + length xs
-list_nodes [] = refl
-list_nodes (x ∷ xs) = omega (arith, list_nodes xs)
 
 new_length : (t : Tree) (i : ℤ) (p : Pad) (s : Inserted) → New t i p s → length (keys s.tree) ≤ suc (length (keys t))
 new_length t i Pad0 s n = omega (arith, ap (λ x. length (keys x.tree)) n.1)

@@ -16,6 +16,7 @@ use Rattle.library_correctness.specs.Trees.{Tree, Leaf, Bin, tree_value, items, 
 use Rattle.library_programs.specs.TreeProgram.{tree_program}
 use Rattle.evaluation_steps.proofs.Numbers.{can_increment, all_can_increment}
 use Rattle.library_correctness.proofs.Orders.{every_first, every_last}
+use Rattle.library_correctness.proofs.RedBlackResults.{among_parts as split}
 
 data Way : Type 0 where
   Top : Way
@@ -91,11 +92,6 @@ all_or_not (x ∷ xs) h = by (can_or_not x h.0) (all_or_not xs h.1)
 up_stops : (l : Tree) (x : ℤ) (r : Tree) (w : Way) (d m k : ℕ) → fits (incremented x) ≡ false → k < m → up m d k l (Left w x r) ≡ Trap Overflow 29 32
 up_stops l x r w d zero k e lt = absurd (omega arith)
 up_stops l x r w d (suc m) k e lt = rw (e, up) refl
-
-split : (j : ℤ) (xs ys : List ℤ) → Among j (xs ++ ys) → Among j xs ⊎ Among j ys
-split j [] ys a = inr a
-split j (x ∷ xs) ys (inl e) = inl (inl e)
-split j (x ∷ xs) ys (inr a) = elim (split j xs ys a) [ inl b ↦ inl (inr b) | inr b ↦ inr b ]
 
 not_rising : (x : ℤ) (xs : List ℤ) → Every CanIncrement xs → Among greatest xs → ⊥
 not_rising x [] h a = a

@@ -30,7 +30,7 @@ sized_both : (n : ℕ) (a b : List Credit) → sized n (a ++ b) ≡ sized n a + 
 sized_both n [] b = omega arith
 sized_both n (c ∷ a) b = omega (arith, sized_both n a b)
 
-counted_both : (n r : ℕ) (a b : List Credit) → counted n r (a ++ b) ≡ counted n r a + counted n r b
+pub counted_both : (n r : ℕ) (a b : List Credit) → counted n r (a ++ b) ≡ counted n r a + counted n r b
 counted_both n r [] b = omega arith
 counted_both n r (c ∷ a) b = omega (arith, counted_both n r a b)
 
@@ -476,7 +476,7 @@ put_accounted k r n h le lt old new a = record {
   ];
 }
 
-nothing_or : (m : ℕ) (o : Option Held) → ((h : Held) → o ≡ Some h → h ≡ H.Nothing) → is_credit_of m o ≡ false
+pub nothing_or : (m : ℕ) (o : Option Held) → ((h : Held) → o ≡ Some h → h ≡ H.Nothing) → is_credit_of m o ≡ false
 nothing_or m None f = refl
 nothing_or m (Some h) f = ap (λ x. is_credit_of m (Some x)) (f h refl)
 

@@ -50,7 +50,7 @@ among_old y x bs v m = subst (Among y) (sym (binders_append bs (record { binder 
 
 -- names
 
-joined_is : (o : Option (Option ℕ)) (r : ℕ) → joined o ≡ Some r → o ≡ Some (Some r)
+pub joined_is : (o : Option (Option ℕ)) (r : ℕ) → joined o ≡ Some r → o ≡ Some (Some r)
 joined_is None r e = absurd (cc)
 joined_is (Some o) r e = ap Some e
 
@@ -77,7 +77,7 @@ name_lost ns r y p h = unless_get r (slice_get ns y) p (sym (slice_get-map (unle
 
 -- what isn't a constructor that was matched
 
-given_not : (b : Bool) (t : ℕ) → NotBare (given_if b t)
+pub given_not : (b : Bool) (t : ℕ) → NotBare (given_if b t)
 given_not true t u d e = absurd (cc)
 given_not false t u d e = absurd (cc)
 

@@ -319,7 +319,7 @@ cons_entry = record { place = refl; more = omega arith; enters = inl (omega arit
 
 -- ---- the bodies
 
-variable_at : (at : ℕ) (k : Known) (x : Option ℕ) (r : ℕ) → register_of k.names x ≡ Some r → IsVariable at k x r at k
+pub variable_at : (at : ℕ) (k : Known) (x : Option ℕ) (r : ℕ) → register_of k.names x ≡ Some r → IsVariable at k x r at k
 variable_at at k x r h = record { named = h; nothing = refl; known = refl }
 
 nil_done : AllGivenUp true (held_at (holding (record at_nil { held = Rattle.lowering_relation.specs.Known.used_all at_nil.held (1 ∷ []) }) 0 H.Nothing).held)

@@ -22,6 +22,7 @@ use Rattle.lowering_relation.specs.Values.{IsVariable, with_put}
 use Rattle.lowering_relation.specs.LoweredFunctions.{IsFunction}
 use Rattle.lowering_relation.specs.LoweredExample.{lists_setting, instrs, at_start, at_nil, at_cons}
 use Rattle.match_knowledge.proofs.fip_base.fip_language.Facts.{same_some}
+use Rattle.lowering_relation.proofs.LaidReversing.{variable_at}
 
 no_children : (vs : Values) → HaveTypes lists.types [] vs → vs ≡ End
 no_children End h = refl
@@ -159,9 +160,6 @@ chosen body cs h = by_value (list_is (cs 0) h)
     by_value : (cs 0 ≡ Node 0 End) ⊎ IsCons (cs 0) → ArrivesIf instrs (place 0 cs) at_start (matching nil_pattern (cs 0)) at_nil (Chooses instrs (place 0 cs) at_start (cs 0) (MoreClauses (cons_pattern 2 3) body NoClauses) (at_cons ∷ []))
     by_value (inl e) = subst (λ v. ArrivesIf instrs (place 0 cs) at_start (matching nil_pattern v) at_nil (Chooses instrs (place 0 cs) at_start v (MoreClauses (cons_pattern 2 3) body NoClauses) (at_cons ∷ []))) (sym e) (arrives_nil cs e)
     by_value (inr c) = subst (λ v. ArrivesIf instrs (place 0 cs) at_start (matching nil_pattern v) at_nil (Chooses instrs (place 0 cs) at_start v (MoreClauses (cons_pattern 2 3) body NoClauses) (at_cons ∷ []))) (sym c.2) (arrives_cons cs c.0 c.1 c.2)
-
-variable_at : (at : ℕ) (k : Known) (x : Option ℕ) (r : ℕ) → register_of k.names x ≡ Some r → IsVariable at k x r at k
-variable_at at k x r h = record { named = h; nothing = refl; known = refl }
 
 abbrev with_cons : Known
 with_cons = with_put at_cons.known [] 2 1 0 (2 ∷ 1 ∷ [])

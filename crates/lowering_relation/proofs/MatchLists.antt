@@ -5,15 +5,7 @@ use Rattle.std.proofs.lemmas.Bool.{eqb-true}
 use Rattle.tree_semantics.specs.fip_language.Every.{Among}
 use Rattle.lowering_relation.specs.Spots.{Spot, Spots, MoreSpots, register, below, all_in}
 use Rattle.lowering_relation.specs.Reading.{contains}
-
-pub among_left : (x : ℕ) (xs ys : List ℕ) → Among x xs → Among x (xs ++ ys)
-among_left x [] ys h = absurd h
-among_left x (z ∷ xs) ys (inl e) = inl e
-among_left x (z ∷ xs) ys (inr h) = inr (among_left x xs ys h)
-
-pub among_right : (x : ℕ) (xs ys : List ℕ) → Among x ys → Among x (xs ++ ys)
-among_right x [] ys h = h
-among_right x (z ∷ xs) ys h = inr (among_right x xs ys h)
+pub use Rattle.lowering_relation.proofs.LoweredLists.{among_left, among_right}
 
 pub among_either : (x : ℕ) (xs ys : List ℕ) → Among x (xs ++ ys) → Among x xs ⊎ Among x ys
 among_either x [] ys h = inr h

@@ -22,6 +22,7 @@ use Rattle.lowering_relation.proofs.Placing.{same_extends, extends_on, added_ext
 use Rattle.lowering_relation.proofs.MatchLists.{in_head, in_tail, in_part}
 use Rattle.lowering_relation.proofs.Running.{reaches_same, reaches_on, take_goes, ReadsOne, read_one_goes}
 use Rattle.lowering_relation.proofs.Readings.{Reads, From, from_start, from_next, from_here, holds_on, all_hold_on, below_holds, read_one_extends}
+use Rattle.lowering_relation.proofs.Readings.{reading_if as naming_if}
 
 -- what registers hold stays
 
@@ -43,7 +44,7 @@ mutual
 
 -- cells that are taken apart
 
-take_if_extends : (r : ℕ) (ps : Patterns) (ss : Spots) (w : Written) → Extends w (take_if r ps ss w)
+pub take_if_extends : (r : ℕ) (ps : Patterns) (ss : Spots) (w : Written) → Extends w (take_if r ps ss w)
 take_if_extends r NoPatterns ss w = same_extends w
 take_if_extends r (MorePatterns p ps) ss w = added_extends w (I.Take r (as_many (MorePatterns p ps) ss))
 
@@ -196,10 +197,6 @@ record NamesPart (q : Pattern) (s : Spot) (v : Value) (x y : Reading) (code : Li
   pub there : Among (register s) y.read → reads.contents (register s) ≡ v
   pub holds : Holds s v reads.contents y.read
   pub opened : Opened false q s v reads.contents
-
-naming_if : (b : Bool) (x y z : Reading) → Extends x.written y.written → Extends x.written z.written → Extends x.written (if b then y else z).written
-naming_if true x y z a c = a
-naming_if false x y z a c = c
 
 mutual
   pub naming_extends : (q : Pattern) (s : Spot) (x : Reading) → Extends x.written (naming q s x).written

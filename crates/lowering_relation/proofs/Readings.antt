@@ -42,7 +42,7 @@ extends_if : (b : Bool) (v w z : Written) → Extends v w → Extends v z → Ex
 extends_if true v w z a c = a
 extends_if false v w z a c = c
 
-reading_if : (b : Bool) (x y z : Reading) → Extends x.written y.written → Extends x.written z.written → Extends x.written (if b then y else z).written
+pub reading_if : (b : Bool) (x y z : Reading) → Extends x.written y.written → Extends x.written z.written → Extends x.written (if b then y else z).written
 reading_if true x y z a c = a
 reading_if false x y z a c = c
 

@@ -16,6 +16,8 @@ use Rattle.lowering_relation.specs.LoweredBodies.{Into, as_value, IsMove, IsTher
 use Rattle.lowering_relation.proofs.LoweredLists.{below_not, below_more, fewer_same, taken_fewer, Barer, barer_on, barer_set, barer_used, NotBare}
 use Rattle.lowering_simulation.proofs.Statics.{AllFixed, Step, step_same, step_on, next_to, argument_step, arguments_step, argument_fixed, arguments_fixed, argument_elsewhere, arguments_elsewhere, unknown_on, tidy_on}
 use Rattle.lowering_simulation.proofs.Naming.{all_named_from}
+use Rattle.lowering_relation.proofs.Entries.{given_not}
+use Rattle.lowering_simulation.proofs.Naming.{among_fixed as among_is_fixed}
 
 -- registers only hold something else
 pub held_step : (k : Known) (hs : List Held) → Barer k.held hs → Step k (record k { held = hs })
@@ -63,10 +65,6 @@ taken_step k (n ∷ ns) (r ∷ rs) l h =
     step_on k m l
     (record { names = refl; grows = omega arith; fewer = taken_fewer k.credits n r h.0 h.1; barer = barer_set k.held r H.Nothing (λ u c x. absurd (cc)) })
     (taken_step m ns rs l h.2)
-
-given_not : (b : Bool) (t : ℕ) → NotBare (given_if b t)
-given_not true t u c e = absurd (cc)
-given_not false t u c e = absurd (cc)
 
 barer_received : (setting : Setting) (hs : List Held) (ts ds : List ℕ) → Barer hs (received setting hs ts ds)
 barer_received setting hs [] ds q t c e = e
@@ -164,11 +162,6 @@ keeps_step k l s = record { tidy = tidy_on k l s; unknown = λ d. unknown_on k l
 
 keeps_on : (k l m : Known) → Keeps k l → Keeps l m → Keeps k m
 keeps_on k l m p q = record { tidy = λ t. q.tidy (p.tidy t); unknown = λ d u. q.unknown d (p.unknown d u) }
-
-among_is_fixed : (k : Known) (rs : List ℕ) (q : ℕ) → AllFixed k rs → Among q rs → Fixed k q
-among_is_fixed k [] q h m = absurd m
-among_is_fixed k (r ∷ rs) q h (inl e) = subst (Fixed k) (sym e) h.0
-among_is_fixed k (r ∷ rs) q h (inr m) = among_is_fixed k rs q h.1 m
 
 tidy_named : (k : Known) (bs : List Binder) (rs : List ℕ) → AllFixed k rs → Tidy k → Tidy (with_names k bs rs)
 tidy_named k bs rs fixed t = record {

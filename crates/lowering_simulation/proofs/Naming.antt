@@ -15,6 +15,7 @@ use Rattle.lowering_simulation.specs.Distinct.{numbers, Differ}
 use Rattle.lowering_relation.proofs.LoweredLists.{set_get, same_some}
 use Rattle.lowering_simulation.proofs.Statics.{AllFixed}
 use Rattle.lowering_simulation.proofs.Arguments.{World}
+use Rattle.lowering_relation.proofs.Entries.{joined_is as joined_some}
 
 -- no binder of these numbers is bound
 abbrev pub Clear : Environment → List ℕ → Type 0
@@ -22,11 +23,6 @@ Clear env xs = (x : ℕ) → Among x xs → env x ≡ None
 
 pub bind_elim : (P : Option Value → Type 0) (env : Environment) (x : ℕ) (v : Value) (y : ℕ) → (x ≡ y → P (Some v)) → ((x ≡ y → ⊥) → P (env y)) → P (bind env x v y)
 bind_elim P env x v y p q = cond_both (x == y) (Some v) (env y) P (λ e. p (eqb-true x y e)) (λ e. q (eqb-false x y e))
-
-joined_some : (o : Option (Option ℕ)) (r : ℕ) → joined o ≡ Some r → o ≡ Some (Some r)
-joined_some None r e = absurd (cc)
-joined_some (Some None) r e = absurd (cc)
-joined_some (Some (Some q)) r e = cc
 
 some_joined : (o : Option (Option ℕ)) (r : ℕ) → o ≡ Some (Some r) → joined o ≡ Some r
 some_joined o r e = ap joined e
@@ -109,7 +105,7 @@ fit_read cs [] rs = tt
 fit_read cs (b ∷ bs) [] = tt
 fit_read cs (b ∷ bs) (r ∷ rs) = fit_read cs bs rs
 
-among_fixed : (k : Known) (rs : List ℕ) (q : ℕ) → AllFixed k rs → Among q rs → Fixed k q
+pub among_fixed : (k : Known) (rs : List ℕ) (q : ℕ) → AllFixed k rs → Among q rs → Fixed k q
 among_fixed k [] q h m = absurd m
 among_fixed k (r ∷ rs) q h (inl e) = subst (Fixed k) (sym e) h.0
 among_fixed k (r ∷ rs) q h (inr m) = among_fixed k rs q h.1 m

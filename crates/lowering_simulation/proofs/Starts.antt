@@ -24,6 +24,7 @@ use Rattle.lowering_simulation.proofs.Naming.{Clear, Holds, world_named}
 use Rattle.lowering_simulation.proofs.Later.{reserved_fixed}
 use Rattle.lowering_simulation.proofs.Bodies.{Begins, fit_reserved}
 use Rattle.type_safety.proofs.type_check.fip_language.Facts.{get_replicate as replicated}
+use Rattle.lowering_relation.proofs.Entries.{given_not}
 
 unnamed_joined : (o : Option (Option ℕ)) (r : ℕ) → ((x : Option ℕ) → o ≡ Some x → x ≡ None) → joined o ≡ Some r → ⊥
 unnamed_joined None r h e = absurd (cc)
@@ -49,10 +50,6 @@ nothing_world n v cs = record {
 }
 
 -- parameters
-
-given_not : (b : Bool) (t : ℕ) → NotBare (given_if b t)
-given_not true t u c e = absurd (cc)
-given_not false t u c e = absurd (cc)
 
 param_not : (setting : Setting) (b : Bool) (t : ℕ) → NotBare (if b then H.Lent t None else given setting t)
 param_not setting true t u c e = absurd (cc)

@@ -23,6 +23,7 @@ use Rattle.lowering_soundness.proofs.Lefts.{left_open}
 use Rattle.lowering_soundness.proofs.Choosing.{Right}
 use Rattle.lowering_soundness.proofs.Settling.{Based}
 use Rattle.lowering_soundness.proofs.Chunks.{Stretch, sight_looks, chunk_grows, chunk_stretch, sides_on}
+use Rattle.lowering_soundness.proofs.Cleared.{wide_tree}
 
 -- ---- nothing was tested yet
 
@@ -48,14 +49,6 @@ wide_seen : (w : Table) (t : ℕ) (h : Held) → Seeing w t h → Seeing w t (wi
 wide_seen w t h (SeesScalar e s) = SeesScalar (ap widened e) s
 wide_seen w t h (SeesLent root e s) = SeesLent root (ap widened e) s
 wide_seen w t h (SeesOwned e s) = SeesOwned (ap widened e) s
-
-wide_tree : (h : Held) → is_tree (widened h) ≡ is_tree h
-wide_tree H.Nothing = refl
-wide_tree (H.Scalar t) = refl
-wide_tree (H.Owned t b) = refl
-wide_tree (H.Lent t root) = refl
-wide_tree (H.Credit n) = refl
-wide_tree (H.Bare t c) = refl
 
 wide_lent : (h : Held) (t q : ℕ) → widened h ≡ H.Lent t (Some q) → h ≡ H.Lent t (Some q)
 wide_lent H.Nothing t q e = e

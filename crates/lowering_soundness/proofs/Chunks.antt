@@ -37,6 +37,7 @@ use Rattle.lowering_soundness.proofs.Peeking.{Seen}
 use Rattle.lowering_soundness.proofs.Heirs.{has_among, not_among, from_at}
 use Rattle.lowering_soundness.proofs.Choosing.{Right, Looks, BodiesTake, Ran, run_at_once, run}
 use Rattle.lowering_soundness.proofs.Settling.{Based, settle}
+use Rattle.lowering_soundness.proofs.Settling.{no_from as kind_from}
 
 -- ---- froms name positions that were read
 
@@ -79,14 +80,6 @@ mutual
         | inl y ↦ deep_from w root t k s r i read m r0 q g b.0 e y (λ d x. below_from w root t k s read m r0 q g d x e y)
         | inr y ↦ all_from w root ts ks ss r (suc i) read m r0 q g b.1 seen e y
       ]
-
-kind_from : (w : Table) (h : Held) → from_of (kind_of w h) ≡ None
-kind_from w H.Nothing = refl
-kind_from w (H.Scalar t) = refl
-kind_from w (H.Owned t b) = refl
-kind_from w (H.Lent t root) = refl
-kind_from w (H.Credit n) = refl
-kind_from w (H.Bare t c) = refl
 
 seen_from : (w : Table) (t : ℕ) (h : Held) (k : M.Known) → from_of (seen_kind w t h k) ≡ None
 seen_from w t H.Nothing k = refl

@@ -37,6 +37,7 @@ use Rattle.lowering_soundness.proofs.NamedReads.{NamedRead, AllNamedRead, if_fit
 use Rattle.lowering_soundness.proofs.Heirs.{owned_kind}
 use Rattle.lowering_soundness.proofs.Dismantling.{After, AllAfter}
 use Rattle.lowering_soundness.proofs.EntryHeld.{entry_held, entry_all, entry_other, entry_all_other}
+use Rattle.lowering_soundness.proofs.Parted.{is_has}
 
 -- ---- sets
 
@@ -45,11 +46,6 @@ kept_subset p [] ys h = refl
 kept_subset p (x ∷ xs) ys h = pick (λ zs. is_subset zs ys ≡ true) (p x) (x ∷ kept p xs) (kept p xs)
     (λ e. and_to (has ys x) (is_subset (kept p xs) ys) (h x (inl refl)) (kept_subset p xs ys (λ y a. h y (inr a))))
     (λ e. kept_subset p xs ys (λ y a. h y (inr a)))
-
-is_has : (xs : List ℕ) (x : ℕ) → Among x xs → has xs x ≡ true
-is_has [] x a = absurd a
-is_has (y ∷ ys) x (inl e) = ap (λ b. b || has ys x) (equal_is y x (sym e))
-is_has (y ∷ ys) x (inr a) = has_more y ys x (is_has ys x a)
 
 pub left_subset : (w : Table) (t : ℕ) (k : Known) → is_subset (left w t k) (all w t) ≡ true
 left_subset w t (Open out) = kept_subset (Rattle.lowering_relation.specs.Sights.not_in out) (all w t) (all w t) (λ x a. is_has (all w t) x a)

@@ -58,7 +58,7 @@ called_at [] i s h = absurd (none-some s h)
 called_at (q ∷ ss) zero s h = ap (λ s. Some (called s)) (same_Some q s h)
 called_at (q ∷ ss) (suc i) s h = called_at ss i s h
 
-same_fip : (k : FunKind) → is_fip k ≡ T.is_fip k
+pub same_fip : (k : FunKind) → is_fip k ≡ T.is_fip k
 same_fip Fip = refl
 same_fip Fbip = refl
 same_fip Fun = refl

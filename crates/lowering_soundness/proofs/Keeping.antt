@@ -29,6 +29,7 @@ use Rattle.lowering_soundness.proofs.EntryHeld.{held_wide}
 use Rattle.lowering_soundness.proofs.Cleared.{Kept, wide_owned, wide_read, wide_tree, wide_lies}
 use Rattle.lowering_soundness.proofs.Stacks.{take_lower, stack_less}
 use Rattle.tail_groups.proofs.fip_language.Facts.{if_zero_zero as zero_head}
+use Rattle.lowering_soundness.proofs.Tying.{lies_scalar}
 
 -- ---- registers by which something is owned
 
@@ -210,9 +211,6 @@ keeps_let s X k bs rs n order none before = record {
 }
 
 -- ---- what is known where this stays
-
-lies_scalar : (n : ℕ → ℕ) (r t : ℕ) (h : Held) → h ≡ H.Scalar t → LiesIn n r h
-lies_scalar n r t h e = subst (LiesIn n r) (sym e) tt
 
 -- no constructor that was built is known
 abbrev pub Plain : Known → Type 0

@@ -41,7 +41,7 @@ owed_among w (d ∷ ds) (t ∷ ts) r more = elim (or_not (d == r)) as (λ v. Amo
       | inr tree ↦ refused (is_scalar_type w t) 0 (one_if (d == r)) tree ∙ ap one_if other
     ]
 
-one_tree : (b : Bool) (n : ℕ) → n ≤ one_if b → 1 ≤ n → b ≡ true
+pub one_tree : (b : Bool) (n : ℕ) → n ≤ one_if b → 1 ≤ n → b ≡ true
 one_tree true n le more = refl
 one_tree false n le more = absurd (let z : ⊥ = omega (arith, le, more) in z)
 

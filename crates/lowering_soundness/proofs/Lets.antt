@@ -28,6 +28,7 @@ use Rattle.lowering_soundness.specs.Placed.{NoneFrom, InOrder, AreTypes}
 use Rattle.lowering_soundness.proofs.Owners.{owners_least}
 use Rattle.lowering_soundness.proofs.Scoping.{entries_of, SlotsHold, old_there}
 use Rattle.lowering_soundness.proofs.Naming.{sole, soles, sole_credit, Unborrowed}
+use Rattle.lowering_soundness.proofs.Tying.{lies_scalar as scalar_lies}
 
 -- ---- fewer variables in scope, or fewer that are borrowed
 
@@ -65,9 +66,6 @@ owned_lies n r t (H.Owned u b) e m = m
 owned_lies n r t (H.Lent u root) e m = absurd (true≢false (sym e))
 owned_lies n r t (H.Credit k) e m = tt
 owned_lies n r t (H.Bare u c) e m = tt
-
-scalar_lies : (n : ℕ → ℕ) (r t : ℕ) (h : Held) → h ≡ H.Scalar t → LiesIn n r h
-scalar_lies n r t h e = subst (LiesIn n r) (sym e) tt
 
 abbrev pub lent_in : (ℕ → Bool) → (ℕ → Item → ℕ) → (Item → ℕ) → ℕ → Item → ℕ
 lent_in B K R x = if B x then K x else R

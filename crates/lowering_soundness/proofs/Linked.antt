@@ -31,6 +31,7 @@ use Rattle.lowering_soundness.proofs.Lefts.{left_tag}
 use Rattle.lowering_soundness.proofs.Peeking.{OwnKind, own_part}
 use Rattle.lowering_soundness.proofs.Positions.{OnePart}
 use Rattle.tail_groups.proofs.fip_language.Facts.{get_none as get_past}
+use Rattle.lowering_soundness.proofs.Fitting.{root_self as same_self}
 
 abbrev pub RootIs : (ℕ → Kind) → Option ℕ → Type 0
 RootIs m None = Unit {0}
@@ -79,10 +80,6 @@ told_linked c k rooted = record { each = λ j. held_linked c.types (told c k) j 
 
 fields_past : (w : Table) (t n : ℕ) → count w t ≤ n → fields w t n ≡ []
 fields_past w t n low = ap fields_of (get_past (constructors w t) n low)
-
-same_self : (o : Option ℕ) → same_root o o ≡ true
-same_self None = refl
-same_self (Some a) = itself a
 
 seen_tree : (w : Table) (t : ℕ) (h : Held) (κ : M.Known) → is_tree h ≡ true → is_owned (seen_kind w t h κ) ≡ true
 seen_tree w t H.Nothing κ e = absurd (true≢false (sym e))

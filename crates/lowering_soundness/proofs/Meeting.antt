@@ -32,6 +32,8 @@ use Rattle.lowering_soundness.proofs.EntryFits.{wide_fits}
 use Rattle.lowering_soundness.proofs.Cleared.{Kept, wide_tree}
 use Rattle.lowering_soundness.proofs.Keeping.{Plain, stayed_same, owners_kept, stays_by, ties_kept}
 use Rattle.lowering_soundness.proofs.Stacks.{counted_same, stack_whole}
+use Rattle.lowering_soundness.proofs.Cells.{credit_is}
+pub use Rattle.lowering_soundness.proofs.Leftovers.{one_tree as one_positive}
 
 -- ---- what a register holds
 
@@ -71,22 +73,10 @@ owned_plain t (H.Lent u root) e p = absurd (true≢false (sym e))
 owned_plain t (H.Credit n) e p = absurd (true≢false (sym e))
 owned_plain t (H.Bare u c) e p = absurd (true≢false (sym e))
 
-credit_is : (n : ℕ) (h : Held) → is_credit_of n h ≡ true → h ≡ H.Credit n
-credit_is n H.Nothing e = absurd (true≢false (sym e))
-credit_is n (H.Scalar t) e = absurd (true≢false (sym e))
-credit_is n (H.Owned t b) e = absurd (true≢false (sym e))
-credit_is n (H.Lent t root) e = absurd (true≢false (sym e))
-credit_is n (H.Credit m) e = ap H.Credit (equal m n e)
-credit_is n (H.Bare t c) e = absurd (true≢false (sym e))
-
 one_true : (b d : Bool) → one_if b ≡ one_if d → b ≡ true → d ≡ true
 one_true true true e t = refl
 one_true true false e t = absurd (let z : ⊥ = omega (arith, e) in z)
 one_true false d e t = absurd (true≢false (sym t))
-
-pub one_positive : (b : Bool) (n : ℕ) → n ≤ one_if b → 1 ≤ n → b ≡ true
-one_positive true n le more = refl
-one_positive false n le more = absurd (let z : ⊥ = omega (arith, le, more) in z)
 
 -- where each credit's register holds one still, all credits are left
 all_still : (hs : List Held) (cs : List D.Credit) → ((n r : ℕ) → 1 ≤ counted n r cs → holds_credit (held_at hs r) ≡ true) → still_held hs cs ≡ cs

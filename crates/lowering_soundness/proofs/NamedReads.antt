@@ -28,23 +28,13 @@ use Rattle.lowering_soundness.proofs.Branches.{came_on, came_quiet}
 use Rattle.lowering_soundness.proofs.Lefts.{head_fields}
 use Rattle.lowering_soundness.proofs.Positions.{OnePart, part_on, all_below_on, Froms}
 use Rattle.lowering_soundness.proofs.Peeking.{OwnKind, own_part, Seen, MayRead, Reads, One, read_one, reads_none, FieldsFrom, fields_start, fields_next, fields_here, apart_head, own_tree}
+pub use Rattle.lowering_relation.proofs.match_knowledge.VerdictFacts.{both_fits, if_open_fits as open_fits}
 
 -- ---- what is known where a pattern matches all
 
 pub if_fits : (b : Bool) (v : Verdict) → (if b then v else Misses) ≡ Fits → (b ≡ true) × (v ≡ Fits)
 if_fits true v e = (refl, e)
 if_fits false v e = absurd (cc)
-
-pub open_fits : (b : Bool) → (if b then Misses else Asks) ≡ Fits → ⊥
-open_fits true e = absurd (cc)
-open_fits false e = absurd (cc)
-
-pub both_fits : (a b : Verdict) → both a b ≡ Fits → (a ≡ Fits) × (b ≡ Fits)
-both_fits Fits b e = (refl, e)
-both_fits Misses b e = absurd (cc)
-both_fits Asks Fits e = absurd (cc)
-both_fits Asks Misses e = absurd (cc)
-both_fits Asks Asks e = absurd (cc)
 
 -- ---- the variables that were read
 

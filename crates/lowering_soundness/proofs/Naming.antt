@@ -21,6 +21,7 @@ use Rattle.lowering_soundness.proofs.Writing.{is_given, value_given}
 use Rattle.lowering_soundness.proofs.Arguments.{ties_owe, ties_worth}
 use Rattle.lowering_soundness.proofs.Scoping.{entries_of, new_or_old}
 use Rattle.tail_groups.proofs.fip_language.Facts.{if_zero_zero as cond_none}
+use Rattle.lowering_soundness.proofs.Tying.{lies_scalar}
 
 -- ---- names
 
@@ -85,9 +86,6 @@ sole_credit w t x n = elim (or_not (is_scalar_type w t)) as (λ v. sole w t x (C
 
 given_not_nothing : (h : Held) → is_given h ≡ true → h ≡ H.Nothing → ⊥
 given_not_nothing h e z = true≢false (sym e ∙ ap is_given z)
-
-lies_scalar : (n : ℕ → ℕ) (r t : ℕ) (h : Held) → h ≡ H.Scalar t → LiesIn n r h
-lies_scalar n r t h e = subst (LiesIn n r) (sym e) tt
 
 module _ (fip : Bool) (w : Table) (B : ℕ → Bool) (K : ℕ → Item → ℕ) where
   -- the register of a new variable owns its tree

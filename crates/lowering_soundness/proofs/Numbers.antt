@@ -17,6 +17,7 @@ use Rattle.separation.specs.code_rules.StackNumbers.{IsFip, FipCalls, words_of, 
 use Rattle.lowering_relation.specs.LoweredBodies.{has_function, one_more, if_function, function_of}
 use Rattle.lowering_soundness.specs.Alike.{Alike}
 use Rattle.tail_groups.proofs.fip_language.Facts.{get_map as map_at, get_of_map as at_map, if_some_true as fip_frame}
+use Rattle.lowering_soundness.proofs.Grouped.{same_fip}
 
 -- ---- the instance of a function
 
@@ -122,11 +123,6 @@ no_frame (d ∷ ds) zero e = by d.kind (registers d + FRAME_WORDS) e
     by Fbip w e = refl
     by Fun w e = refl
 no_frame (d ∷ ds) (suc i) e = no_frame ds i (none_more (has_function d.kind) (function_of ds i) e)
-
-same_fip : (k : FunKind) → is_fip k ≡ T.is_fip k
-same_fip Fip = refl
-same_fip Fbip = refl
-same_fip Fun = refl
 
 -- ---- numbers of functions and of instances
 

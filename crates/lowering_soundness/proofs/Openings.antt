@@ -43,6 +43,7 @@ use Rattle.lowering_soundness.proofs.Owners.{owners_less}
 use Rattle.lowering_soundness.proofs.Naming.{sole, soles, sole_other, owners_renamed, name_one, Unborrowed, length_named, scope_one}
 use Rattle.lowering_soundness.proofs.EntryHeld.{entering_width, entering_at, entry_other, cell_width, cell_at, cell_other}
 use Rattle.lowering_soundness.proofs.Cleared.{Kept, unless_owners, unless_ties, idle_ties, credit_ties, name_lent, unnamed_owners, name_none, length_unnamed}
+use Rattle.derivation_making.proofs.type_check.Halves.{and_none as append_none}
 
 -- ---- binders
 
@@ -113,10 +114,6 @@ gained_none false w n i = refl
 gained_past : (takes : Bool) (w : Table) (n : ℕ) (bs : List Binder) (ks : List ℕ) (y : ℕ) → n + length bs ≤ y → gained takes w n bs ks (Own y) ≡ 0
 gained_past true w n bs ks y low = let z = soles_past w n bs y low in omega (arith, z)
 gained_past false w n bs ks y low = refl
-
-append_none : (s : Scope) → s ++ [] ≡ s
-append_none [] = refl
-append_none (e ∷ s) = ap (λ s. e ∷ s) (append_none s)
 
 abbrev pub Before : Scope → ℕ → Type 0
 Before s n = (x u : ℕ) → of_binder s (Some x) ≡ Some (Some u) → x < n

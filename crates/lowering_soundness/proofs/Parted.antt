@@ -18,6 +18,7 @@ use Rattle.lowering_relation.specs.Sights.{left, part_kind, Unread, Below, AllBe
 use Rattle.lowering_soundness.proofs.Positions.{OnePart, below_on, fresh_below}
 use Rattle.lowering_soundness.proofs.Heirs.{has_among, owned_kind, lost, from_at}
 use Rattle.lowering_soundness.proofs.Taking.{settled_at}
+use Rattle.lowering_soundness.proofs.Taking.{not_has as hasnt}
 
 -- ---- what was read below a field lies in it
 
@@ -77,7 +78,7 @@ children_on w (t ∷ ts) (MoreKnowns k ks) (MoreSpots s ss) read m l same h = (
   children_on w ts ks ss read m l (λ z a. same z (in_tail z s ss a)) h.2,
 )
 
-is_has : (xs : List ℕ) (x : ℕ) → Among x xs → has xs x ≡ true
+pub is_has : (xs : List ℕ) (x : ℕ) → Among x xs → has xs x ≡ true
 is_has [] x a = absurd a
 is_has (y ∷ ys) x (inl e) = ap (λ b. b || has ys x) (equal_is y x (sym e))
 is_has (y ∷ ys) x (inr a) = or_true (y == x) (has ys x) (is_has ys x a)
@@ -85,12 +86,6 @@ is_has (y ∷ ys) x (inr a) = or_true (y == x) (has ys x) (is_has ys x a)
     or_true : (a b : Bool) → b ≡ true → (a || b) ≡ true
     or_true true b e = refl
     or_true false b e = e
-
-hasnt : (xs : List ℕ) (q : ℕ) → (Among q xs → ⊥) → has xs q ≡ false
-hasnt xs q ne = elim (or_not (has xs q)) as (λ v. has xs q ≡ false) [
-  | inl e ↦ absurd (ne (has_among xs q e))
-  | inr e ↦ e
-]
 
 -- as much is known as there are fields
 abbrev pub Knows : List ℕ → Knowns → Type 0

@@ -42,6 +42,7 @@ use Rattle.lowering_soundness.proofs.Choosing.{seen_own, Right, right_off, Looks
 use Rattle.lowering_soundness.proofs.EntryHeld.{entry_held, entry_other, entry_all_other, held_wide, root_held, entering_root_at}
 use Rattle.lowering_soundness.proofs.EntryFits.{wide_fits, without_fits, without_gone, without_wide, lent_fits_all, owned_fits_all, taken_fits, all_read_fits}
 use Rattle.lowering_soundness.proofs.Standing.{Slotted, Seeing, SeesScalar, SeesLent, SeesOwned}
+use Rattle.lowering_soundness.proofs.Cleared.{wide_tree as tree_wide}
 
 -- ---- registers before the match
 
@@ -52,7 +53,7 @@ pub record Based (c : PlainCode) (st : Setting) (ch : Choice) (k : Known) (g : H
   pub slots : (i : ℕ) (q : Pattern) → slice_get ch.patterns i ≡ Some q → Slotted st c.types ch.type q
   pub within : (z : ℕ) → Among z (register ch.root ∷ below ch.root) → z < length k.held
 
-no_from : (w : Table) (h : Held) → from_of (kind_of w h) ≡ None
+pub no_from : (w : Table) (h : Held) → from_of (kind_of w h) ≡ None
 no_from w H.Nothing = refl
 no_from w (H.Scalar t) = refl
 no_from w (H.Owned t b) = refl
@@ -67,14 +68,6 @@ wide_nothing (H.Owned t b) e = absurd (cc)
 wide_nothing (H.Lent t root) e = absurd (cc)
 wide_nothing (H.Credit n) e = absurd (cc)
 wide_nothing (H.Bare t c) e = absurd (cc)
-
-tree_wide : (h : Held) → is_tree (widened h) ≡ is_tree h
-tree_wide H.Nothing = refl
-tree_wide (H.Scalar t) = refl
-tree_wide (H.Owned t b) = refl
-tree_wide (H.Lent t root) = refl
-tree_wide (H.Credit n) = refl
-tree_wide (H.Bare t c) = refl
 
 root_wide : (r : ℕ) (h : Held) → root_of r (widened h) ≡ root_of r h
 root_wide r H.Nothing = refl

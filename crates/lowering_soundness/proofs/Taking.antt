@@ -54,7 +54,7 @@ as_many_within (MorePatterns p ps) NoSpots q a = absurd a
 as_many_within (MorePatterns p ps) (MoreSpots s ss) q (inl e) = inl e
 as_many_within (MorePatterns p ps) (MoreSpots s ss) q (inr a) = in_tail q s ss (as_many_within ps ss q a)
 
-not_has : (xs : List ℕ) (q : ℕ) → (Among q xs → ⊥) → has xs q ≡ false
+pub not_has : (xs : List ℕ) (q : ℕ) → (Among q xs → ⊥) → has xs q ≡ false
 not_has xs q ne = elim (or_not (has xs q)) as (λ v. has xs q ≡ false) [
   | inl e ↦ absurd (ne (has_among xs q e))
   | inr e ↦ e

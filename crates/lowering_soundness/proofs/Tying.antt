@@ -54,7 +54,7 @@ read_same u n kept g h r stays le read lies = by_held (g r) refl read lies
     by_held (H.Credit m) e a b = absurd (true≢false (sym a))
     by_held (H.Bare t c) e a b = absurd (true≢false (sym a))
 
-lies_scalar : (n : ℕ → ℕ) (r t : ℕ) (h : Held) → h ≡ H.Scalar t → LiesIn n r h
+pub lies_scalar : (n : ℕ → ℕ) (r t : ℕ) (h : Held) → h ≡ H.Scalar t → LiesIn n r h
 lies_scalar n r t h e = subst (LiesIn n r) (sym e) tt
 
 -- Where l follows on k: the registers of variables that are still owned, or borrowed, hold what they held.

@@ -21,10 +21,10 @@ replay_later : (s : Store) (n : ℕ) (cs : List Change) (i : ℕ) → nat_le n i
 replay_later s n [] i off = refl
 replay_later s n (c ∷ cs) i off = ap (λ b. replay (applied_if b (record { step = n; change = c }) s) (events_of n cs) i) off ∙ replay_later s n cs i off
 
-some_same : (s t : Store) → Some s ≡ Some t → s ≡ t
+pub some_same : (s t : Store) → Some s ≡ Some t → s ≡ t
 some_same s t is = ap (λ o. unwrap_or o s) is
 
-none_some : (t : Store) → ◌≡◌ {A = Option Store} None (Some t) → ⊥
+pub none_some : (t : Store) → ◌≡◌ {A = Option Store} None (Some t) → ⊥
 none_some t is = true≢false (sym (ap (λ (o : Option Store). is_some o) is))
 
 -- the first change came to o

@@ -11,12 +11,7 @@ use Rattle.machine_semantics.specs.Steps.{Kinds, next, changes_of}
 use Rattle.machine_semantics.proofs.Followed.{Followed, followed}
 use Rattle.machine_semantics.specs.Kept.{Keeps}
 use Rattle.cell_code.proofs.fip_base.fip_language.Facts.{nat_eq_same as same_size}
-
-some_same : (s t : Store) → Some s ≡ Some t → s ≡ t
-some_same s t is = ap (λ o. unwrap_or o s) is
-
-none_some : (t : Store) → ◌≡◌ {A = Option Store} None (Some t) → ⊥
-none_some t is = true≢false (sym (ap (λ (o : Option Store). is_some o) is))
+use Rattle.machine_semantics.proofs.Replayed.{none_some, some_same}
 
 sizes_set : (os : List (Option Cell)) (p : ℕ) (old new : Cell) → cell_in os p ≡ Some old → size_of old ≡ size_of new → map size_in (slice_set os p (Some new)) ≡ map size_in os
 sizes_set [] p old new is same = refl

@@ -16,6 +16,7 @@ use Rattle.match_cover.specs.DecisionTree.{below, position, positions, asked, as
 use Rattle.match_knowledge.specs.Known.{is_fits}
 use Rattle.match_cover.specs.TreeView.{asking, IsFirst, SameFirst}
 use Rattle.fip_language.proofs.Facts.{append_none_back as append_none}
+use Rattle.match_knowledge.proofs.Split.{is_asking as asks_is}
 
 asking_end : (ps : Patterns) → asking ps NoKnowns ≡ 0
 asking_end NoPatterns = refl
@@ -64,11 +65,6 @@ fits_is : (v : Verdict) → is_fits v ≡ true → v ≡ Fits
 fits_is Fits e = refl
 fits_is Misses e = cc
 fits_is Asks e = cc
-
-asks_is : (v : Verdict) → is_asks v ≡ true → v ≡ Asks
-asks_is Fits e = cc
-asks_is Misses e = cc
-asks_is Asks e = refl
 
 misses_is : (v : Verdict) → is_fits v ≡ false → is_asks v ≡ false → v ≡ Misses
 misses_is Fits e f = cc

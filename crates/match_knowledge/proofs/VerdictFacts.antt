@@ -20,7 +20,7 @@ pub if_asks : (b : Bool) → (if b then Misses else Asks) ≡ Asks → b ≡ fal
 if_asks true e = cc
 if_asks false e = refl
 
-if_open_fits : (b : Bool) → (if b then Misses else Asks) ≡ Fits → ⊥
+pub if_open_fits : (b : Bool) → (if b then Misses else Asks) ≡ Fits → ⊥
 if_open_fits true e = cc
 if_open_fits false e = cc
 
@@ -61,7 +61,7 @@ fit_is : (w : Verdict) → (b : Bool) → (if b then w else Misses) ≡ Fits →
 fit_is w true e = (refl, e)
 fit_is w false e = cc
 
-both_fits : (a b : Verdict) → both a b ≡ Fits → (a ≡ Fits) × (b ≡ Fits)
+pub both_fits : (a b : Verdict) → both a b ≡ Fits → (a ≡ Fits) × (b ≡ Fits)
 both_fits Fits b e = (refl, e)
 both_fits Misses b e = cc
 both_fits Asks Fits e = cc

@@ -48,7 +48,7 @@ mutual
   args_got x sc ms NoArguments h = refl
   args_got x sc ms (MoreArguments a as') h = both x (owning ms a) (owning_all ms as') (used_up (value sc ms a) (Own x)) (all_used_up (values sc ms as') (Own x)) (arg_got x sc ms a h) (args_got x sc ms as' h)
 
-one_lent : (b : Bool) (y x : ℕ) → false ≡ pos (lent_used_up (if b then C.Scalar else C.Named y) (Own x))
+pub one_lent : (b : Bool) (y x : ℕ) → false ≡ pos (lent_used_up (if b then C.Scalar else C.Named y) (Own x))
 one_lent true y x = refl
 one_lent false y x = refl
 

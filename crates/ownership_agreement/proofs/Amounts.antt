@@ -19,6 +19,7 @@ use Rattle.ownership_calculus.specs.Clean.{used_up, all_used_up, lent_used_up, p
 use Rattle.ownership_agreement.specs.Sized.{AreSizes, SizedHeader, IsVariable, SizedArgument, SizedArguments, SizedPattern, SizedPatterns, SizedExpression, SizedBlock, SizedClauses}
 use Rattle.ownership_agreement.specs.Bodies.{Scalars, seen, variable, value, values, lent_value, credits_of, passed, variables, entering, node, nodes, nodes_all, inside, past_clause, matched, term, term_block, clauses}
 use Rattle.fip_rules.proofs.fip_base.fip_language.Facts.{positive_unequal as no_zero}
+use Rattle.credit_check.proofs.Amounts.{greater_none as greater_zero}
 
 -- ---- sizes
 
@@ -26,11 +27,11 @@ if_one : (b : Bool) → (if b then 1 else 0) ≡ one_if b
 if_one true = refl
 if_one false = refl
 
-paid_at : (n k : ℕ) → 0 < k → paid n (Credit k) ≡ one_if (n == k)
+pub paid_at : (n k : ℕ) → 0 < k → paid n (Credit k) ≡ one_if (n == k)
 paid_at zero k h = let e = no_zero k h in rw (e) refl
 paid_at (suc n) k h = if_one (suc n == k)
 
-zero_none : (k : ℕ) → 0 < k → one_if (0 == k) + 0 ≡ 0
+pub zero_none : (k : ℕ) → 0 < k → one_if (0 == k) + 0 ≡ 0
 zero_none k h = let e = no_zero k h in rw (e) refl
 
 -- a number that is no size of a cell
@@ -64,9 +65,6 @@ no_more m n e = omega arith
 pub max_greater : (m n : ℕ) → max m n ≡ greater m n
 max_greater m n = grind (arith, nat_tests)
 
-greater_zero : (m : ℕ) → m ≡ greater m 0
-greater_zero m = grind (arith, nat_tests)
-
 -- ---- headers
 
 pub header_given : (k : ℕ) (ks : List ℕ) → given k ks ≡ marked k ks
@@ -87,7 +85,7 @@ asked_out k (Some d) h s = header_out k d.credits h s
 
 -- ---- patterns
 
-given_append : (k : ℕ) (xs ys : List ℕ) → given k (xs ++ ys) ≡ given k xs + given k ys
+pub given_append : (k : ℕ) (xs ys : List ℕ) → given k (xs ++ ys) ≡ given k xs + given k ys
 given_append k [] ys = omega arith
 given_append k (x ∷ xs) ys = let h = given_append k xs ys in omega arith
 

@@ -48,7 +48,7 @@ less_none r q i f g = (
   λ h k a b. elim (lt_or_le (f k) (g k)) as (λ z. g k ≤ f k) [ inl z ↦ absurd (h (violation r q i k []) (k, a, b, z, refl)) | inr z ↦ z ],
 )
 
-in_or_out : (k : ℕ) → ((0 < k) × (k < 17)) ⊎ IsOut k
+pub in_or_out : (k : ℕ) → ((0 < k) × (k < 17)) ⊎ IsOut k
 in_or_out zero = inr (inl refl)
 in_or_out (suc k) = elim (lt_or_le (suc k) 17) as (λ z. ((0 < suc k) × (suc k < 17)) ⊎ IsOut (suc k)) [ inl z ↦ inl (omega arith, z) | inr z ↦ inr (inr z) ]
 

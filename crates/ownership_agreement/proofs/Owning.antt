@@ -20,8 +20,9 @@ use Rattle.ownership_calculus.specs.Clean.{used_up, all_used_up, lent_used_up, p
 use Rattle.ownership_agreement.specs.Bodies.{Scalars, variable, value, values, lent_value, passed, variables, entering, nodes, inside, matched, term, term_block, clauses}
 use Rattle.ownership_agreement.proofs.Basics.{pos, pos_sum, pos_max, or_assoc, same_or, paid_none, var_pos, past_inside, past_le, ordered_inside, not_owned, not_entered, done_ordered, binds_owns, lent_taken}
 use Rattle.fip_rules.proofs.fip_base.fip_language.Facts.{if_zero_else as kept_out}
+use Rattle.ownership_agreement.proofs.Always.{one_lent}
 
-both : (a b : Bool) (m n : ℕ) → a ≡ pos m → b ≡ pos n → (a || b) ≡ pos (m + n)
+pub both : (a b : Bool) (m n : ℕ) → a ≡ pos m → b ≡ pos n → (a || b) ≡ pos (m + n)
 both a b m n e f = same_or a b (pos m) (pos n) e f ∙ sym (pos_sum m n)
 
 nothing_more : (n : ℕ) → n ≡ n + 0
@@ -41,10 +42,6 @@ mutual
   pub args_owns : (x : ℕ) (sc : Scalars) (ms : List Mark) (as' : Arguments) → sc x ≡ false → owns x (owning_all ms as') ≡ pos (all_used_up (values sc ms as') (Own x))
   args_owns x sc ms NoArguments h = refl
   args_owns x sc ms (MoreArguments a as') h = both (owns x (owning ms a)) (owns x (owning_all ms as')) (used_up (value sc ms a) (Own x)) (all_used_up (values sc ms as') (Own x)) (arg_owns x sc ms a h) (args_owns x sc ms as' h)
-
-one_lent : (b : Bool) (y x : ℕ) → false ≡ pos (lent_used_up (if b then C.Scalar else C.Named y) (Own x))
-one_lent true y x = refl
-one_lent false y x = refl
 
 seen_lent : (x : ℕ) (sc : Scalars) (o : Option ℕ) (y : ℕ) (p : Place) (n : Name) → owns x (lent_at o y p n) ≡ pos (lent_used_up (variable sc o) (Own x))
 seen_lent x sc None y p n = refl

@@ -68,7 +68,7 @@ not_borrowed w n x ps [] l = refl
 not_borrowed w n x [] (b ∷ bs) l = refl
 not_borrowed w n x (p ∷ ps) (b ∷ bs) l = first_apart (w.scalar p.ty) p.lent n (borrowed_parameters w (suc n) ps bs) x (apart x n l) (not_borrowed w (suc n) x ps bs (omega arith))
 
-not_owned : (w : World) (n x : ℕ) (ps : List Param) (bs : List Binder) → x < n → has (owned_parameters w n ps bs) x ≡ false
+pub not_owned : (w : World) (n x : ℕ) (ps : List Param) (bs : List Binder) → x < n → has (owned_parameters w n ps bs) x ≡ false
 not_owned w n x ps [] l = refl
 not_owned w n x [] (b ∷ bs) l = refl
 not_owned w n x (p ∷ ps) (b ∷ bs) l = second_apart (w.scalar p.ty) p.lent n (owned_parameters w (suc n) ps bs) x (apart x n l) (not_owned w (suc n) x ps bs (omega arith))
@@ -125,7 +125,7 @@ none_missed w n ps [] e u x h m = absurd (cc)
 none_missed w n [] (b ∷ bs) e u x h m = absurd (cc)
 none_missed w n (p ∷ ps) (b ∷ bs) e u x h m = first_used (w.scalar p.ty) p.lent (n == x) n x (owned_parameters w (suc n) ps bs) e refl u.0 h (none_missed w (suc n) ps bs e u.1 x) m
 
-self_has : (y : ℕ) (ys : List ℕ) → has (y ∷ ys) y ≡ true
+pub self_has : (y : ℕ) (ys : List ℕ) → has (y ∷ ys) y ≡ true
 self_has y ys = let z : (y == y) ≡ true = same_test y in rw z refl
 
 more_has : (s l : Bool) (y x : ℕ) (ys : List ℕ) → has ys x ≡ true → has (if s then ys else (if l then ys else y ∷ ys)) x ≡ true
@@ -152,11 +152,11 @@ free_all : (n : ℕ) (bs : List Bind) (e : S.Shape) → UsedBinds false n bs e
 free_all n [] e = tt
 free_all n (b ∷ bs) e = (free_one b.ownership n e, free_all (suc n) bs e)
 
-pos_one : (n : ℕ) → pos n ≡ true → 1 ≤ n
+pub pos_one : (n : ℕ) → pos n ≡ true → 1 ≤ n
 pos_one zero h = absurd (cc)
 pos_one (suc n) h = omega arith
 
-one_pos : (n : ℕ) → 1 ≤ n → pos n ≡ true
+pub one_pos : (n : ℕ) → 1 ≤ n → pos n ≡ true
 one_pos zero h = absurd (omega arith)
 one_pos (suc n) h = refl
 

@@ -28,14 +28,8 @@ use Rattle.ownership_agreement.proofs.Always.{got, block_got}
 use Rattle.ownership_agreement.proofs.Bridge.{same, spent_mix, lending_mix, spent_none, both_is, arg_is, args_is, passed_is, after_lent}
 use Rattle.ownership_agreement.proofs.Binders.{UsedAll, binds_is, used_lent, owned_seen}
 use Rattle.fip_rules.proofs.fip_base.fip_language.Facts.{equal_itself as same_test, less_of_not as room, or_last as or_right, true_of_not_false as not_false}
-
-pos_one : (n : ℕ) → pos n ≡ true → 1 ≤ n
-pos_one zero h = absurd (cc)
-pos_one (suc n) h = omega arith
-
-one_pos : (n : ℕ) → 1 ≤ n → pos n ≡ true
-one_pos zero h = absurd (omega arith)
-one_pos (suc n) h = refl
+use Rattle.fip_rules.proofs.Lists.{turned as back}
+use Rattle.ownership_agreement.proofs.Parameters.{one_pos, pos_one, self_has}
 
 under : (sc : Scalars) (n x : ℕ) → Above sc n → sc x ≡ false → x < n
 under sc n x f h = room x n (λ l. let z = f x l in absurd (cc))
@@ -50,9 +44,6 @@ first_used false false y x ys e f u h r m = r (sym (ap (λ q. q || has ys x) f) 
 none_missed : (w : World) (n : ℕ) (bs : List Binder) (e : S.Shape) → UsedAll true w true n bs e → (x : ℕ) → has (variables w n bs) x ≡ true → Misses x e → ⊥
 none_missed w n [] e u x h m = absurd (cc)
 none_missed w n (b ∷ bs) e u x h m = first_used (w.scalar b.ty) (n == x) n x (variables w (suc n) bs) e refl u.0 h (none_missed w (suc n) bs e u.1 x) m
-
-self_has : (y : ℕ) (ys : List ℕ) → has (y ∷ ys) y ≡ true
-self_has y ys = let z : (y == y) ≡ true = same_test y in rw z refl
 
 more_has : (s : Bool) (y x : ℕ) (ys : List ℕ) → has ys x ≡ true → has (if s then ys else y ∷ ys) x ≡ true
 more_has true y x ys h = h
@@ -85,9 +76,6 @@ used_is false w n bs e t f = (λ u. tt, λ u. free_all w n bs e)
 
 along : (A B X : Type 0) → (A ↔ B) → (B ↔ X) → A ↔ X
 along A B X f g = (λ h. g.0 (f.0 h), λ h. f.1 (g.1 h))
-
-back : (A B : Type 0) → (A ↔ B) → B ↔ A
-back A B f = (f.1, f.0)
 
 call_is : (fip b : Bool) (s : ℕ → G.State) (p : Place) (n : Name) (X : Type 0) (e : S.Shape) → (X ↔ G.Good fip s e) → ((not b ≡ true) × X) ↔ (G.Good fip s (if b then S.Fault E55 (token p n) else S.Skip) × G.Good fip (λ x. G.spent (owns x (if b then S.Fault E55 (token p n) else S.Skip)) (s x)) e)
 call_is fip true s p n X e f = (λ h. absurd (let z = h.0 in cc), λ h. absurd h.0)

@@ -76,11 +76,11 @@ mutual
       let l = few_outside true ys ks R d.0 d.1 x (fewest x e) (few (setting ys false B) d.0 e d.2 x) in
       let r = few_taken B R cs d.3 x in omega arith
 
-even_lent_same : (m n : ℕ → ℕ) (cs : Clauses) → ((k : ℕ) → m k ≡ n k) → EvenLent m cs → EvenLent n cs
+pub even_lent_same : (m n : ℕ → ℕ) (cs : Clauses) → ((k : ℕ) → m k ≡ n k) → EvenLent m cs → EvenLent n cs
 even_lent_same m n (LastClause ys ks e) h d = (λ k. ((d.0 k).0, (d.0 k).1 ∙ h k), d.1)
 even_lent_same m n (MoreClauses ys ks e cs) h d = (λ k. ((d.0 k).0, (d.0 k).1 ∙ h k), d.1, even_lent_same m n cs h d.2)
 
-even_taken_same : (m n : ℕ → ℕ) (cs : Clauses) → ((k : ℕ) → m k ≡ n k) → EvenTaken m cs → EvenTaken n cs
+pub even_taken_same : (m n : ℕ → ℕ) (cs : Clauses) → ((k : ℕ) → m k ≡ n k) → EvenTaken m cs → EvenTaken n cs
 even_taken_same m n (LastClause ys ks e) h d = (λ k. ((d.0 k).0, (d.0 k).1 ∙ h k), d.1)
 even_taken_same m n (MoreClauses ys ks e cs) h d = (λ k. ((d.0 k).0, (d.0 k).1 ∙ h k), d.1, even_taken_same m n cs h d.2)
 

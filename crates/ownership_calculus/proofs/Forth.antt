@@ -7,6 +7,7 @@ use Rattle.ownership_calculus.specs.Rules.{Fits, worth, lending, setting, Lends}
 use Rattle.ownership_calculus.specs.ByCases.{Opens, DerivesValue, DerivesValues, DerivesPassed, Derives, DerivesLent, DerivesTaken}
 use Rattle.ownership_calculus.specs.Clean.{used_up, all_used_up, lent_used_up, passed_used_up, outside, asks, asks_lent, asks_taken, fewest, fewest_of, Status, Free, Owned, fresh, after, lent, binding, MayUse, MayLend, LendsWell, CleanValue, CleanValues, CleanPassed, AllUsed, Clean, CleanLent, CleanTaken, Even, EvenLent, EvenTaken}
 use Rattle.ownership_calculus.proofs.Fit.{held, room, visible, fits_le, fits_same, held_after, held_lent}
+use Rattle.ownership_calculus.proofs.Counts.{even_lent_same as lent_alike, even_taken_same as taken_alike}
 
 -- the environment that statuses and needs make
 abbrev hold : (ℕ → Status) → (ℕ → ℕ) → Item → ℕ
@@ -54,23 +55,23 @@ held_split (Owned true l) (suc m) = refl
 held_split (Owned false true) (suc m) = refl
 held_split (Owned false false) (suc m) = refl
 
-use_split : (s : Status) (m : ℕ) → m ≤ held s → m + held (after s m) ≡ held s
+pub use_split : (s : Status) (m : ℕ) → m ≤ held s → m + held (after s m) ≡ held s
 use_split s zero h = omega arith
 use_split Free (suc m) h = absurd (omega arith)
 use_split (Owned true l) (suc m) h = absurd (omega arith)
 use_split (Owned false true) (suc m) h = absurd (omega arith)
 use_split (Owned false false) (suc m) h = omega arith
 
-after_used : (s : Status) (m : ℕ) → held (after s (suc m)) ≡ 0
+pub after_used : (s : Status) (m : ℕ) → held (after s (suc m)) ≡ 0
 after_used Free m = refl
 after_used (Owned u l) m = refl
 
-lent_unused : (s : Status) → held (lent s zero) ≡ 0
+pub lent_unused : (s : Status) → held (lent s zero) ≡ 0
 lent_unused Free = refl
 lent_unused (Owned true l) = refl
 lent_unused (Owned false l) = refl
 
-seen_back : (s : Status) (m : ℕ) → visible (after s m) ≡ true → visible s ≡ true
+pub seen_back : (s : Status) (m : ℕ) → visible (after s m) ≡ true → visible s ≡ true
 seen_back s zero h = h
 seen_back Free (suc m) h = refl
 seen_back (Owned u l) (suc m) h = absurd (cc)
@@ -118,7 +119,7 @@ seen (Owned false true) h = refl
 seen (Owned false false) h = absurd h
 seen (Owned true l) h = absurd h
 
-paid_own : (n x : ℕ) → paid n (Own x) ≡ 0
+pub paid_own : (n x : ℕ) → paid n (Own x) ≡ 0
 paid_own zero x = refl
 paid_own (suc n) x = refl
 
@@ -213,12 +214,12 @@ hidden_at true true r h f e g i = let k : h ≤ 0 = g refl in omega arith
 hidden_at true false r h f e g i = absurd (cc)
 hidden_at false b r h f e g i = omega arith
 
-few_at : (b own : Bool) (s : Status) (f : ℕ) → (own ≡ true → b ≡ true → 1 ≤ f) → held s ≤ (if b then 0 else f) → held (if b then fresh own else s) ≤ f
+pub few_at : (b own : Bool) (s : Status) (f : ℕ) → (own ≡ true → b ≡ true → 1 ≤ f) → held s ≤ (if b then 0 else f) → held (if b then fresh own else s) ≤ f
 few_at true true s f g h = g refl refl
 few_at true false s f g h = omega arith
 few_at false own s f g h = h
 
-asks_at : (b own : Bool) (n : ℕ) (s : Status) → n ≤ room (if b then fresh own else s) → (if b then 0 else n) ≤ held s → n ≤ held (if b then fresh own else s)
+pub asks_at : (b own : Bool) (n : ℕ) (s : Status) → n ≤ room (if b then fresh own else s) → (if b then 0 else n) ≤ held s → n ≤ held (if b then fresh own else s)
 asks_at true true n s h g = h
 asks_at true false n s h g = h
 asks_at false own n s h g = g
@@ -244,23 +245,15 @@ credits_at : (fip : Bool) (o g n : ℕ) → (fip ≡ true → (g ≤ n) × (n - 
 credits_at true o g n f h = let e = f refl in let a : g ≤ n = e.0 in let b : n - g ≡ o = e.1 in omega arith
 credits_at false o g n f h = let e : n - g ≤ o = h refl in omega arith
 
-fits_eq : (fip : Bool) (o n : ℕ) → Fits fip o n → fip ≡ true → o ≡ n
+pub fits_eq : (fip : Bool) (o n : ℕ) → Fits fip o n → fip ≡ true → o ≡ n
 fits_eq true o n h e = h
 fits_eq false o n h e = absurd (cc)
 
-lent_alike : (m n : ℕ → ℕ) (cs : Clauses) → ((k : ℕ) → m k ≡ n k) → EvenLent m cs → EvenLent n cs
-lent_alike m n (LastClause ys ks e) h d = (λ k. ((d.0 k).0, (d.0 k).1 ∙ h k), d.1)
-lent_alike m n (MoreClauses ys ks e cs) h d = (λ k. ((d.0 k).0, (d.0 k).1 ∙ h k), d.1, lent_alike m n cs h d.2)
-
-taken_alike : (m n : ℕ → ℕ) (cs : Clauses) → ((k : ℕ) → m k ≡ n k) → EvenTaken m cs → EvenTaken n cs
-taken_alike m n (LastClause ys ks e) h d = (λ k. ((d.0 k).0, (d.0 k).1 ∙ h k), d.1)
-taken_alike m n (MoreClauses ys ks e cs) h d = (λ k. ((d.0 k).0, (d.0 k).1 ∙ h k), d.1, taken_alike m n cs h d.2)
-
-lent_few : (s : Status) (m fa fb nb : ℕ) → fa ≤ m → fb ≤ nb → m + nb ≤ held s → held s ≤ fa + fb → held (lent s m) ≤ fa
+pub lent_few : (s : Status) (m fa fb nb : ℕ) → fa ≤ m → fb ≤ nb → m + nb ≤ held s → held s ≤ fa + fb → held (lent s m) ≤ fa
 lent_few s zero fa fb nb h g i j = let z = lent_unused s in omega arith
 lent_few s (suc m) fa fb nb h g i j = let p = held_after s (suc m) nb i in let q = after_used s m in omega arith
 
-after_few : (s : Status) (m fa fb : ℕ) → fa ≤ m → held s ≤ fa + fb → held (after s m) ≤ fb
+pub after_few : (s : Status) (m fa fb : ℕ) → fa ≤ m → held s ≤ fa + fb → held (after s m) ≤ fb
 after_few s zero fa fb h j = omega arith
 after_few s (suc m) fa fb h j = let q = after_used s m in omega arith
 

@@ -26,17 +26,17 @@ see_back true l h = h
 see_back false true h = refl
 see_back false false h = h
 
-held_start : (o l : Bool) → held (start o l) ≡ (if o then 1 else 0)
+pub held_start : (o l : Bool) → held (start o l) ≡ (if o then 1 else 0)
 held_start true l = refl
 held_start false true = refl
 held_start false false = refl
 
-room_start : (o l : Bool) → room (start o l) ≡ held (start o l)
+pub room_start : (o l : Bool) → room (start o l) ≡ held (start o l)
 room_start true l = refl
 room_start false true = refl
 room_start false false = refl
 
-few_start : (o l : Bool) (f : ℕ) → (o ≡ true → 1 ≤ f) → held (start o l) ≤ f
+pub few_start : (o l : Bool) (f : ℕ) → (o ≡ true → 1 ≤ f) → held (start o l) ≤ f
 few_start true l f h = h refl
 few_start false true f h = omega arith
 few_start false false f h = omega arith

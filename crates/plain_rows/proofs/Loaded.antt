@@ -23,6 +23,7 @@ use Rattle.plain_rows.specs.Rows.{count_rows, Holds, HoldAll, Stands, StandAll, 
 use Rattle.plain_rows.specs.Loading.{all_of, each_of, last_first, Makes, Loads}
 use Rattle.plain_rows.proofs.Standing.{more_stand_all}
 use Rattle.fip_base.proofs.fip_language.Facts.{drop_cons}
+use Rattle.value_text.proofs.Printing.{last_fewer}
 
 pub last_push : (ts : List Task) (t : Task) → last_first (ts ++ t ∷ []) ≡ t ∷ last_first ts
 unfolding last_first
@@ -129,17 +130,6 @@ cell_begins tb cs ty w tag shape types ts rows whole z e t f g h =
     )
 
 -- ---- the fields of a cell
-
-last_fewer : (tb : Table) (cs : Cells) (k : ℕ) (ks : List ℕ) (p : ℕ) (c : Cell) (x : Placed) (xs : Parts) → AreLast tb cs (k ∷ ks) p c (MoreParts x xs) → (slice_get c.fields (length c.fields - suc (length ks)) ≡ Some (word_of x)) × AreLast tb cs ks p c xs × (suc (length ks) ≤ length c.fields)
-last_fewer tb cs k ks p c x xs h =
-    let d = drop_cons (length c.fields - suc (length ks)) c.fields (word_of x) (words_of xs) h.words in
-    let lt = d.2 in
-    let n : length (drop (length c.fields - suc (length ks)) c.fields) ≡ suc (length (words_of xs)) = ap length h.words in
-    let l = length-drop (length c.fields - suc (length ks)) c.fields in
-    let m : length ks ≡ length (words_of xs) = stand_length tb cs ks xs (h.stand).1 in
-    let le : suc (length ks) ≤ length c.fields = omega (arith, n, l, m, lt) in
-    let e : length c.fields - length ks ≡ suc (length c.fields - suc (length ks)) = omega (arith, le) in
-    (d.0, record { there = h.there; stand = (h.stand).1; words = ap (λ n. drop n c.fields) e ∙ d.1 }, le)
 
 -- the word that was found is the first field's
 abbrev IsFirst : Cells → ℕ → List ℕ → Option ℕ → Type 0

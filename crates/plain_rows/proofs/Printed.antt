@@ -18,6 +18,7 @@ use Rattle.plain_rows.specs.Rows.{count_rows, IsRow, HoldAll, Stands, StandAll}
 use Rattle.plain_rows.specs.Printing.{last_first, Prints, Printing}
 use Rattle.plain_rows.proofs.Standing.{wide_all}
 use Rattle.fip_base.proofs.fip_language.Facts.{nonempty_length as some_of}
+use Rattle.value_text.proofs.Printing.{text_of}
 
 pub last_push : (ts : List Task) (t : Task) → last_first (ts ++ t ∷ []) ≡ t ∷ last_first ts
 unfolding last_first
@@ -77,9 +78,6 @@ close_prints types values b ts out out' e f o tb s behind vs rest h a p =
     (rest, p, ap (λ o. o ++ rest) o ∙ append_assoc out (41 ∷ []) rest ∙ ap (λ types. out ++ printed_more tb types vs rest) (sym z))
 
 -- ---- a value
-
-text_of : (tb : Table) (t c : ℕ) (s : Shape) (vs : Values) (rest : List ℕ) → slice_get (shapes tb t) c ≡ Some s → printed tb (suc t) (Node c vs) rest ≡ s.name ++ printed_fields tb s.fields vs rest
-text_of tb t c s vs rest e = ap (λ (s : Shape). s.name ++ printed_fields tb s.fields vs rest) (shape_is (shapes tb t) c s e)
 
 -- a node, its constructor and its text
 record IsNode (tb : Table) (ty c : ℕ) (vs : Values) : Type 0 where

@@ -91,7 +91,7 @@ self_same c = by (same_closed c c) refl
     by true e = e
     by false e = absurd (closed_exact.no c c e refl)
 
-same_place_by : (b : Bool) (ts : List Closed) (i j : ℕ) → Differ ts → i < length ts → j < length ts → nat_eq i j ≡ b → same_closed (get_or ts i Int) (get_or ts j Int) ≡ b
+pub same_place_by : (b : Bool) (ts : List Closed) (i j : ℕ) → Differ ts → i < length ts → j < length ts → nat_eq i j ≡ b → same_closed (get_or ts i Int) (get_or ts j Int) ≡ b
 same_place_by true ts i j d h g e = subst (λ k. same_closed (get_or ts i Int) (get_or ts k Int) ≡ true) (eqb-true i j e) (self_same (get_or ts i Int))
 same_place_by false ts i j d h g e = by (same_closed (get_or ts i Int) (get_or ts j Int)) refl
   where

@@ -6,16 +6,13 @@ use Rattle.reached_instances.specs.Closed.{Closed, Int, same_closed}
 use Rattle.reached_instances.specs.SharedTrees.{Branch, trees, trees_at, Grows, AreWithin}
 use Rattle.reached_instances.specs.Numbering.{with_new}
 use Rattle.reached_instances.proofs.SharedTrees.{so_many, keep_trees}
+use Rattle.reached_instances.proofs.SharedTrees.{new_behind as behind_by}
 
 pub grows_same : (bs : List Branch) → Grows bs bs
 grows_same bs = ([], sym (append-nil (trees bs)))
 
 pub grows_more : (bs cs ds : List Branch) → Grows bs cs → Grows cs ds → Grows bs ds
 grows_more bs cs ds g h = (g.0 ++ h.0, h.1 ∙ ap (λ l. l ++ h.0) g.1 ∙ append_assoc (trees bs) g.0 h.0)
-
-behind_by : (x : Bool) (ts : List Closed) (t : Closed) → (more : List Closed) × ((if x then ts else ts ++ t ∷ []) ≡ ts ++ more)
-behind_by true ts t = ([], sym (append-nil ts))
-behind_by false ts t = (t ∷ [], refl)
 
 pub shared_grows : (bs cs : List Branch) (t : Closed) → trees cs ≡ with_new same_closed (trees bs) t → Grows bs cs
 shared_grows bs cs t e = let r = behind_by (list_any (λ y. same_closed t y) (trees bs)) (trees bs) t in (r.0, e ∙ r.1)
@@ -36,7 +33,7 @@ pub as_trees : (bs : List Branch) (xs : List ℕ) → AreWithin bs xs → Every 
 as_trees bs [] w = tt
 as_trees bs (x ∷ xs) w = let n = so_many (Int ∷ []) bs in let h = w.0 in (omega (arith, n, h), as_trees bs xs w.1)
 
-length_append : (ts us : List Closed) → length (ts ++ us) ≡ length ts + length us
+pub length_append : (ts us : List Closed) → length (ts ++ us) ≡ length ts + length us
 length_append [] us = omega arith
 length_append (t ∷ ts) us = let r = length_append ts us in omega (arith, r)
 

@@ -141,7 +141,7 @@ mutual
 abbrev pub numbers : Source → List Mention → List ℕ
 numbers s ms = all_of (λ (m : Mention). plain_number s (meaning m.name s.names.constructors)) ms
 
-all_of_append : {A B : Type 0} (f : A → List B) (xs ys : List A) → all_of f (xs ++ ys) ≡ all_of f xs ++ all_of f ys
+pub all_of_append : {A B : Type 0} (f : A → List B) (xs ys : List A) → all_of f (xs ++ ys) ≡ all_of f xs ++ all_of f ys
 all_of_append f [] ys = refl
 all_of_append f (x ∷ xs) ys = ap (λ l. f x ++ l) (all_of_append f xs ys) ∙ sym (append_assoc (f x) (all_of f xs) (all_of f ys))
 

@@ -7,19 +7,20 @@ use Rattle.reached_instances.specs.Numbering.{with_new, Differ}
 use Rattle.reached_instances.specs.Numbering.{with_all, firsts, Way, Reached, AreNumbered, AreMore}
 use Rattle.reached_instances.proofs.Sameness.{IsSame, found, missing}
 use Rattle.fip_base.proofs.fip_language.Facts.{length_append}
+use Rattle.reached_instances.proofs.Heard.{all_of_append as of_append}
 
 -- ---- lists
 
-among_left : {A : Type 0} (x : A) (xs ys : List A) → Among x xs → Among x (xs ++ ys)
+pub among_left : {A : Type 0} (x : A) (xs ys : List A) → Among x xs → Among x (xs ++ ys)
 among_left x [] ys h = absurd h
 among_left x (y ∷ xs) ys (inl e) = inl e
 among_left x (y ∷ xs) ys (inr h) = inr (among_left x xs ys h)
 
-among_right : {A : Type 0} (x : A) (xs ys : List A) → Among x ys → Among x (xs ++ ys)
+pub among_right : {A : Type 0} (x : A) (xs ys : List A) → Among x ys → Among x (xs ++ ys)
 among_right x [] ys h = h
 among_right x (y ∷ xs) ys h = inr (among_right x xs ys h)
 
-among_either : {A : Type 0} (x : A) (xs ys : List A) → Among x (xs ++ ys) → Among x xs ⊎ Among x ys
+pub among_either : {A : Type 0} (x : A) (xs ys : List A) → Among x (xs ++ ys) → Among x xs ⊎ Among x ys
 among_either x [] ys h = inr h
 among_either x (y ∷ xs) ys (inl e) = inl (inl e)
 among_either x (y ∷ xs) ys (inr h) = later (among_either x xs ys h)
@@ -28,14 +29,10 @@ among_either x (y ∷ xs) ys (inr h) = later (among_either x xs ys h)
     later (inl a) = inl (inr a)
     later (inr b) = inr b
 
-among_of : {A B : Type 0} (f : A → List B) (x : A) (y : B) (xs : List A) → Among x xs → Among y (f x) → Among y (all_of f xs)
+pub among_of : {A B : Type 0} (f : A → List B) (x : A) (y : B) (xs : List A) → Among x xs → Among y (f x) → Among y (all_of f xs)
 among_of f x y [] h g = absurd h
 among_of f x y (z ∷ xs) (inl e) g = among_left y (f z) (all_of f xs) (subst (λ w. Among y (f w)) e g)
 among_of f x y (z ∷ xs) (inr h) g = among_right y (f z) (all_of f xs) (among_of f x y xs h g)
-
-of_append : {A B : Type 0} (f : A → List B) (xs ys : List A) → all_of f (xs ++ ys) ≡ all_of f xs ++ all_of f ys
-of_append f [] ys = refl
-of_append f (x ∷ xs) ys = ap (λ l. f x ++ l) (of_append f xs ys) ∙ sym (append_assoc (f x) (all_of f xs) (all_of f ys))
 
 differ_last : {A : Type 0} (xs : List A) (x : A) → (Among x xs → ⊥) → Differ xs → Differ (xs ++ x ∷ [])
 differ_last [] x new d = ((λ h. h), tt)

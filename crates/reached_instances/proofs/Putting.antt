@@ -15,6 +15,8 @@ use Rattle.reached_instances.proofs.Lists.{drop_item}
 use Rattle.reached_instances.proofs.SharedAt.{int_first}
 use Rattle.reached_instances.proofs.SharedTrees.{so_many}
 pub use Rattle.fip_base.proofs.fip_language.Facts.{map_map, take_past}
+use Rattle.reached_instances.proofs.Growing.{length_append as length_behind}
+use Rattle.reached_instances.proofs.Heard.{all_of_append}
 
 -- ---- what is put
 
@@ -70,10 +72,6 @@ data_at [] j e h = absurd (omega (arith, h))
 data_at (c ∷ cs) zero e h = e.0
 data_at (c ∷ cs) (suc j) e h = data_at cs j e.1 (omega (arith, h))
 
-length_behind : (ts us : List Closed) → length (ts ++ us) ≡ length ts + length us
-length_behind [] us = omega arith
-length_behind (t ∷ ts) us = let r = length_behind ts us in omega (arith, r)
-
 pub not_int : (bs : List Branch) (j : ℕ) → suc j < length bs + 1 → unless_int (tree_at (trees bs) (suc j)) ≡ tree_at (trees bs) (suc j) ∷ []
 not_int bs j h =
     let r = behind_data (Int ∷ []) bs in
@@ -100,10 +98,6 @@ all_of_map f g (x ∷ xs) = ap (λ l. f (g x) ++ l) (all_of_map f g xs)
 pub all_of_single : {A B : Type 0} (g : A → B) (xs : List A) → all_of (λ x. g x ∷ []) xs ≡ map g xs
 all_of_single g [] = refl
 all_of_single g (x ∷ xs) = ap (λ l. g x ∷ l) (all_of_single g xs)
-
-all_of_append : {A B : Type 0} (f : A → List B) (xs ys : List A) → all_of f (xs ++ ys) ≡ all_of f xs ++ all_of f ys
-all_of_append f [] ys = refl
-all_of_append f (x ∷ xs) ys = ap (λ l. f x ++ l) (all_of_append f xs ys) ∙ sym (append_assoc (f x) (all_of f xs) (all_of f ys))
 
 -- what one item more gives
 pub all_of_next : {A B : Type 0} (f : A → List B) (xs : List A) (i : ℕ) (x : A) → i < length xs → x ≡ get_or xs i x → all_of f (take (i + 1) xs) ≡ all_of f (take i xs) ++ f x

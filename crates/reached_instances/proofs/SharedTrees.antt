@@ -172,7 +172,7 @@ before_last : (n : ℕ) (bs : List Branch) (b : Branch) → AreBefore n bs → E
 before_last n [] b h w = (every_below (n + 0) n b.arguments (omega arith) w, tt)
 before_last n (c ∷ bs) b h w = (h.0, before_last (suc n) bs b h.1 (every_below (n + suc (length bs)) (suc n + length bs) b.arguments (omega arith) w))
 
-differ_last : (ts : List Closed) (t : Closed) → (Among t ts → ⊥) → Differ ts → Differ (ts ++ t ∷ [])
+pub differ_last : (ts : List Closed) (t : Closed) → (Among t ts → ⊥) → Differ ts → Differ (ts ++ t ∷ [])
 differ_last [] t new d = ((λ h. h), tt)
 differ_last (u ∷ ts) t new d = ((λ h. elim (either u ts t h) as (λ _. ⊥) [ inl k ↦ d.0 k | inr e ↦ new (inl (sym e)) ]), differ_last ts t (λ h. new (inr h)) d.1)
 
@@ -200,7 +200,7 @@ adds_branch false bs b e s w few =
     }
 
 -- what is added stands at its place
-new_behind : (x : Bool) (ts : List Closed) (t : Closed) → (more : List Closed) × ((if x then ts else ts ++ t ∷ []) ≡ ts ++ more)
+pub new_behind : (x : Bool) (ts : List Closed) (t : Closed) → (more : List Closed) × ((if x then ts else ts ++ t ∷ []) ≡ ts ++ more)
 new_behind true ts t = ([], sym (append-nil ts))
 new_behind false ts t = (t ∷ [], refl)
 

@@ -16,35 +16,16 @@ use Rattle.reached_instances.proofs.Numbered.{adds, IsWalk, walk_starts, walk_go
 use Rattle.reached_instances.proofs.Gathered.{Gathers, gathers_goes, gathers_ends}
 use Rattle.reached_instances.proofs.SharedTrees.{same_place}
 use Rattle.reached_instances.proofs.Growing.{as_trees, within_more}
+use Rattle.reached_instances.proofs.Fitting.{same_place_by as same_by}
+pub use Rattle.reached_instances.proofs.Closing.{at_append}
 
 -- ---- places and trees
-
-same_by : (b : Bool) (ts : List Closed) (i j : ℕ) → Differ ts → i < length ts → j < length ts → nat_eq i j ≡ b → same_closed (get_or ts i Int) (get_or ts j Int) ≡ b
-same_by true ts i j d h g e =
-    let q = eqb-true i j e in
-    subst (λ k. same_closed (get_or ts i Int) (get_or ts k Int) ≡ true) q (self (get_or ts i Int))
-  where
-    self : (c : Closed) → same_closed c c ≡ true
-    self c = by (same_closed c c) refl
-      where
-        by : (b : Bool) → same_closed c c ≡ b → same_closed c c ≡ true
-        by true e = e
-        by false e = absurd (closed_exact.no c c e refl)
-same_by false ts i j d h g e = by (same_closed (get_or ts i Int) (get_or ts j Int)) refl
-  where
-    by : (b : Bool) → same_closed (get_or ts i Int) (get_or ts j Int) ≡ b → same_closed (get_or ts i Int) (get_or ts j Int) ≡ false
-    by true f = absurd (eqb-false i j e (same_place ts i j d h g (closed_exact.yes _ _ f)))
-    by false f = f
 
 any_at : (ts : List Closed) (i : ℕ) (xs : List ℕ) → Differ ts → i < length ts → Every (λ j. j < length ts) xs → list_any (λ c. same_closed (get_or ts i Int) c) (all_at ts xs) ≡ list_any (λ j. nat_eq i j) xs
 any_at ts i [] d h w = refl
 any_at ts i (x ∷ xs) d h w =
     ap (λ b. b || list_any (λ c. same_closed (get_or ts i Int) c) (all_at ts xs)) (same_by (nat_eq i x) ts i x d h w.0 refl)
     ∙ ap (λ b. nat_eq i x || b) (any_at ts i xs d h w.1)
-
-pub at_append : (ts : List Closed) (xs ys : List ℕ) → all_at ts (xs ++ ys) ≡ all_at ts xs ++ all_at ts ys
-at_append ts [] ys = refl
-at_append ts (x ∷ xs) ys = ap (λ l. get_or ts x Int ∷ l) (at_append ts xs ys)
 
 new_by : (b : Bool) (ts : List Closed) (xs : List ℕ) (y : ℕ) → all_at ts (if b then xs else xs ++ y ∷ []) ≡ (if b then all_at ts xs else all_at ts xs ++ get_or ts y Int ∷ [])
 new_by true ts xs y = refl

@@ -147,7 +147,7 @@ seen_fits t ms ks qs l h =
 
 -- what is seen through a label map's slice
 
-some_map : (a b : LabelMap) → Some a ≡ Some b → a ≡ b
+pub some_map : (a b : LabelMap) → Some a ≡ Some b → a ≡ b
 some_map a b e = cc
 
 pub map_is : (o : Option LabelMap) (a b : LabelMap) → o ≡ Some a → o ≡ Some b → a ≡ b

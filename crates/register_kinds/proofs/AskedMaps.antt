@@ -5,6 +5,7 @@ use Rattle.code_rules.specs.Codes.{LabelMap}
 use Rattle.register_kinds.specs.declared.asked.Asked.{Asked}
 use Rattle.register_kinds.specs.Busy.{IsAsked}
 use Rattle.register_kinds.specs.Kept.{AreAsked}
+use Rattle.register_kinds.proofs.Arriving.{some_map}
 
 some_asked : (a b : Asked) → Some a ≡ Some b → a ≡ b
 some_asked a b e = cc
@@ -23,9 +24,6 @@ got (y ∷ xs) x (suc l) a e =
       | inl h ↦ inl h
       | inr h ↦ inr (record { place = ap suc h.place; is = h.is })
     ]
-
-some_map : (a b : LabelMap) → Some a ≡ Some b → a ≡ b
-some_map a b e = cc
 
 pub asked_more : (maps : List LabelMap) (xs : List Asked) (x : Asked) (m : LabelMap) → AreAsked maps xs →
     slice_get maps (length xs) ≡ Some m → (length m.kinds < 65536 → IsAsked m.kinds x) → AreAsked maps (xs ++ x ∷ [])

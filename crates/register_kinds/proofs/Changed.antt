@@ -107,7 +107,7 @@ forget_none p (Lent t s root None) e = refl
 forget_none p (Lent t s root (Some f)) e = absurd (cc)
 forget_none p (Credit k) e = refl
 
-some_from : (a b : From) → Some a ≡ Some b → a ≡ b
+pub some_from : (a b : From) → Some a ≡ Some b → a ≡ b
 some_from a b e = cc
 
 pub forget_kept : (p : ℕ → Bool) (k : Kind) (f : From) → from_of k ≡ Some f → p f.register ≡ false → forget p k ≡ k

@@ -18,6 +18,9 @@ use Rattle.register_kinds.proofs.Places.{at_past}
 use Rattle.register_kinds.proofs.TakenKinds.{no_heir_by}
 use Rattle.fip_base.proofs.fip_language.Facts.{less_or_not as below_or, or_false_false as or_neither, or_false_left as or_left, or_false_right as or_right}
 pub use Rattle.fip_base.proofs.fip_language.Facts.{some_is as some_one, true_or_false}
+use Rattle.register_kinds.proofs.Changed.{some_from as one_source}
+pub use Rattle.code_rules.proofs.Once.{chain_once as chain_one}
+pub use Rattle.register_kinds.proofs.Reaching.{from_below as source_there}
 
 -- kinds
 
@@ -545,16 +548,6 @@ apart_unreached ks r heir o q d a e h n l x =
     let i = a q l in
     apart_chain ks r heir o d a e h n x.0 i.steps (from_of (at ks q)) i.owner i.climb x.1
 
--- One heir is met first.
-pub chain_one : (ks : List Kind) (heir : ℕ → Bool) (n m : ℕ) (from : Option From) (d e : ℕ) → Chain ks heir n from d →
-    Chain ks heir m from e → d ≡ e
-chain_one ks heir zero m None d e x y = absurd x
-chain_one ks heir (suc n) m None d e x y = absurd x
-chain_one ks heir zero zero (Some f) d e x y = sym x.1 ∙ y.1
-chain_one ks heir zero (suc m) (Some f) d e x y = absurd (let a = x.0 in let b = y.0 in cc)
-chain_one ks heir (suc n) zero (Some f) d e x y = absurd (let a = x.0 in let b = y.0 in cc)
-chain_one ks heir (suc n) (suc m) (Some f) d e x y = chain_one ks heir n m (from_of (at ks f.register)) d e x.1 y.1
-
 reached_by : (ks : List Kind) (heir : ℕ → Bool) (q d : ℕ) (o : Option ℕ) → IsReached ks heir q o → Reaches ks heir q d →
     o ≡ Some d
 reached_by ks heir q d None i x = absurd (i d x)
@@ -653,13 +646,6 @@ chain_heir ks heir (suc n) None d c = absurd c
 chain_heir ks heir zero (Some f) d c = ap heir (sym c.1) ∙ c.0
 chain_heir ks heir (suc n) (Some f) d c = chain_heir ks heir n (from_of (at ks f.register)) d c.1
 
-pub source_there : (ks : List Kind) (q : ℕ) (f : From) → from_of (at ks q) ≡ Some f → q < length ks
-source_there ks q f e =
-    elim (below_or q (length ks)) [
-      | inl h ↦ h
-      | inr h ↦ absurd (let g = ap from_of (at_past ks q h) in cc)
-    ]
-
 -- the kinds behind a Take
 pub record IsBehind (w : Table) (ks : List Kind) (r : ℕ) (parts : ℕ → Option Part) (size : ℕ) (reached : ℕ → Option ℕ)
     (new : List Kind) : Type 0 where
@@ -702,7 +688,7 @@ behind_other w ks r parts size reached new q b l e h =
     (if q == r then credit size else forget (ends w ks r parts size reached) (fate (reached q) r (at ks q))) e
     ∙ ap (λ x. if x then credit size else forget (ends w ks r parts size reached) (fate (reached q) r (at ks q))) h
 
-chain_none : (ks : List Kind) (heir : ℕ → Bool) (n : ℕ) (from : Option From) (d : ℕ) → from ≡ None →
+pub chain_none : (ks : List Kind) (heir : ℕ → Bool) (n : ℕ) (from : Option From) (d : ℕ) → from ≡ None →
     Chain ks heir n from d → ⊥
 chain_none ks heir n (Some f) d e c = cc
 chain_none ks heir zero None d e c = c
@@ -922,16 +908,13 @@ lost_tree : (x d : ℕ) (k : Kind) (b : Bool) → root_of x (if b then Gone else
 lost_tree x d k true e = absurd (cc)
 lost_tree x d k false e = (refl, e)
 
-fate_source : (o : Option ℕ) (r : ℕ) (k : Kind) (f : From) → from_of (fate o r k) ≡ Some f → from_of k ≡ Some f
+pub fate_source : (o : Option ℕ) (r : ℕ) (k : Kind) (f : From) → from_of (fate o r k) ≡ Some f → from_of k ≡ Some f
 fate_source None r k f e =
     elim (true_or_false (is_lent_of r k)) [
       | inl h ↦ absurd (let z = ap (λ b. from_of (if b then Gone else k)) h in cc)
       | inr h ↦ sym (ap (λ b. from_of (if b then Gone else k)) h) ∙ e
     ]
 fate_source (Some d) r k f e = sym (root_source d k) ∙ e
-
-one_source : (f g : From) → Some f ≡ Some g → f ≡ g
-one_source f g e = cc
 
 kept_from : (dead : ℕ → Bool) (from : Option From) (f : From) → forget_from dead from ≡ Some f →
     (from ≡ Some f) × (dead f.register ≡ false)

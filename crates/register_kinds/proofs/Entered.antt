@@ -29,6 +29,7 @@ use Rattle.register_kinds.proofs.Climbing.{lent_in}
 use Rattle.register_kinds.proofs.Keeps.{unled}
 use Rattle.register_kinds.proofs.Subsets.{numbers_rise}
 use Rattle.fip_base.proofs.fip_language.Facts.{both_left as and_left, both_right as and_right, less_or_not as below_or, same_number}
+use Rattle.register_kinds.proofs.Arriving.{some_map as some_is}
 
 -- lists that grow or are replaced
 
@@ -80,9 +81,6 @@ kinds_rise w ms j (k ∷ ks) e zero =
     good_rises w ms j k (and_left (is_good_kind w ms j k) (are_good_kinds w ms (suc j) ks) e)
 kinds_rise w ms j (k ∷ ks) e (suc q) =
     kinds_rise w ms (suc j) ks (and_right (is_good_kind w ms j k) (are_good_kinds w ms (suc j) ks) e) q
-
-some_is : (a b : LabelMap) → Some a ≡ Some b → a ≡ b
-some_is a b e = cc
 
 -- of a map that has its form among others
 record IsGoodMap (w : Table) (n : ℕ) (m : LabelMap) : Type 0 where

@@ -21,6 +21,8 @@ use Rattle.register_kinds.proofs.Places.{at_map, at_set_other, map_long}
 use Rattle.register_kinds.proofs.Sorted.{own_chain, own_no_heir}
 use Rattle.register_kinds.proofs.TakenKinds.{fated_twice, forgotten_twice, in_turn_long, rooted_part, stands_apart, stands_twice, turned, unused_case, used_case}
 use Rattle.fip_base.proofs.fip_language.Facts.{or_false_left as or_left, or_false_right as or_right}
+use Rattle.register_kinds.proofs.Climbing.{fate_source}
+use Rattle.register_kinds.proofs.Reaching.{unlent_from as unlent_source}
 
 -- the heir that a register reaches: what isn't listed and reads the tree reaches the one that keeps the name
 
@@ -50,13 +52,6 @@ star_heir : (w : Table) (ks : List Kind) (r : ℕ) (parts : ℕ → Option Part)
     (os : List (Option ℕ)) (q : ℕ) → has qs q ≡ false → is_lent_of r (at ks q) ≡ true → is_heir w ks r parts q ≡ true →
     star w ks r parts keeper qs os q ≡ None
 star_heir w ks r parts keeper qs os q e l h = rw (e, l, h) refl
-
-unlent_source : (k : Kind) → is_lent k ≡ false → from_of k ≡ None
-unlent_source Gone e = refl
-unlent_source (Scalar t) e = refl
-unlent_source (Owned t s) e = refl
-unlent_source (Lent t s root from) e = absurd (cc)
-unlent_source (Credit n) e = refl
 
 other_unreached : (w : Table) (ks : List Kind) (r : ℕ) (parts : ℕ → Option Part) (q d : ℕ) → IsTakable ks r parts →
     is_lent_of r (at ks q) ≡ false → Reaches ks (is_heir w ks r parts) q d → ⊥
@@ -128,10 +123,6 @@ root_source d (Scalar t) f e = e
 root_source d (Owned t s) f e = e
 root_source d (Lent t s root from) f e = e
 root_source d (Credit n) f e = e
-
-fate_source : (o : Option ℕ) (r : ℕ) (k : Kind) (f : From) → from_of (fate o r k) ≡ Some f → from_of k ≡ Some f
-fate_source None r k f e = lost_source (is_lent_of r k) k f e
-fate_source (Some d) r k f e = root_source d k f e
 
 ends_agree : (w : Table) (ks : List Kind) (r : ℕ) (parts : ℕ → Option Part) (size : ℕ) (one other : ℕ → Option ℕ)
     (p : ℕ) → (is_lent_of r (at ks p) ≡ true → (is_some (parts p) ≡ true) ⊎ (one p ≡ other p)) →

@@ -13,6 +13,7 @@ use Rattle.register_kinds.proofs.LentLists.{none_kept}
 use Rattle.register_kinds.specs.Takes.{seen_by, seen_at, next_by, next_at, AreReached, AreSettled, nones}
 use Rattle.register_kinds.specs.Kept.{kept_at}
 use Rattle.fip_base.proofs.fip_language.Facts.{drop_past as past_end, or_cases, some_is, true_or_false}
+use Rattle.register_kinds.proofs.LentLists.{none_later as not_left}
 
 -- what is kept, by place
 
@@ -138,7 +139,7 @@ reached_none ks heir os n q d e = absurd (none_seen os q d (is_lent (at ks q)) (
 
 -- a register with a from is there
 
-from_below : (ks : List Kind) (q : ℕ) (f : From) → from_of (at ks q) ≡ Some f → q < length ks
+pub from_below : (ks : List Kind) (q : ℕ) (f : From) → from_of (at ks q) ≡ Some f → q < length ks
 from_below [] q f e = absurd (cc)
 from_below (k ∷ ks) zero f e = omega arith
 from_below (k ∷ ks) (suc q) f e = let h = from_below ks q f e in omega arith
@@ -154,7 +155,7 @@ next_below ks heir os q h g = next_there ks heir os q h (from_of (at ks q)) refl
 
 -- at the end
 
-unlent_from : (k : Kind) → is_lent k ≡ false → from_of k ≡ None
+pub unlent_from : (k : Kind) → is_lent k ≡ false → from_of k ≡ None
 unlent_from Gone e = refl
 unlent_from (Scalar t) e = refl
 unlent_from (Owned t s) e = refl
@@ -251,9 +252,6 @@ settled_step ks heir os x q xs n h e =
       ]
       | inr g ↦ inr g
     ]
-
-not_left : (xs : List ℕ) (i q : ℕ) → length xs ≤ i → has (drop i xs) q ≡ true → ⊥
-not_left xs i q l h = let e = ap (λ ys. has ys q) (past_end xs i l) in cc
 
 pub settled_end : (ks : List Kind) (heir : ℕ → Bool) (os : List (Option ℕ)) (xs : List ℕ) (i q : ℕ) → length xs ≤ i →
     (has (drop i xs) q ≡ true) ⊎ (next_at ks heir os q ≡ None) → next_at ks heir os q ≡ None

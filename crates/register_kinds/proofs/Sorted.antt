@@ -18,6 +18,9 @@ use Rattle.register_kinds.proofs.LentLists.{drop_append, grows_has, has_either, 
 use Rattle.register_kinds.proofs.Reaching.{one_of}
 use Rattle.register_kinds.proofs.TakenKinds.{part_has}
 use Rattle.register_kinds.specs.Takes.{seen_at}
+pub use Rattle.register_kinds.proofs.Changed.{some_from}
+pub use Rattle.register_kinds.proofs.Climbing.{chain_none as none_chain}
+pub use Rattle.register_kinds.proofs.LentLists.{none_later as none_left}
 
 pub named_lent : (r : ℕ) (k : Kind) → names r (from_of k) ≡ true → is_lent k ≡ true
 named_lent r Gone e = absurd (cc)
@@ -47,9 +50,6 @@ own_no_heir w ks r parts t =
       | inr e ↦ e
     ]
 
-pub some_from : (f g : From) → Some f ≡ Some g → f ≡ g
-some_from f g e = cc
-
 -- A register that came from another one is no heir.
 other_named : (w : Table) (ks : List Kind) (r p q : ℕ) (parts : ℕ → Option Part) → names p (from_of (at ks q)) ≡ true →
     (p ≡ r → ⊥) → is_heir w ks r parts q ≡ false
@@ -60,12 +60,6 @@ other_named w ks r p q parts e n =
           n (sym f.2 ∙ ap (λ x. x.register) (some_from f.0 g.0 (sym f.1 ∙ g.1)) ∙ g.2))
       | inr h ↦ h
     ]
-
-pub none_chain : (ks : List Kind) (heir : ℕ → Bool) (n : ℕ) (from : Option From) (d : ℕ) → from ≡ None →
-    Chain ks heir n from d → ⊥
-none_chain ks heir n (Some f) d e c = cc
-none_chain ks heir zero None d e c = c
-none_chain ks heir (suc n) None d e c = c
 
 pub own_chain : (ks : List Kind) (heir : ℕ → Bool) (r n : ℕ) (from : Option From) (d : ℕ) (f : From) → from ≡ Some f →
     f.register ≡ r → heir r ≡ false → from_of (at ks r) ≡ None → Chain ks heir n from d → ⊥
@@ -357,9 +351,6 @@ named_step ks xs ys n x h e c f g p q a b =
       ]
       | inr i ↦ inl (ap (λ l. has l p) d ∙ has_right (drop (n + 1) xs) g.0 p i)
     ]
-
-pub none_left : (xs : List ℕ) (n p : ℕ) → length xs ≤ n → has (drop n xs) p ≡ true → ⊥
-none_left xs n p h e = let z = ap (λ l. has l p) (past_end xs n h) in cc
 
 listed_by : (ds ts : List ℕ) (p : ℕ) (o : Option Part) → part ds ts p ≡ o → is_some o ≡ true → has ds p ≡ true
 listed_by ds ts p None h e = absurd (cc)

@@ -17,6 +17,7 @@ use Rattle.register_kinds.specs.Busy.{AllSay, IsAsked, asks_from, busy_in, held,
 use Rattle.register_kinds.proofs.Arriving.{arrive_long}
 use Rattle.register_kinds.proofs.Less.{credit, scalar}
 use Rattle.fip_base.proofs.fip_language.Facts.{and_both as and_parts, both_true as and_all, same_both_ways as same_if, same_number}
+use Rattle.register_kinds.proofs.Less.{free as less_free}
 
 -- the registers of which a map says more than Gone
 
@@ -190,13 +191,6 @@ each_asked t all_ms all_ks (m ∷ ms) (k ∷ ks) i l h g =
     && each_fits t all_ms all_ks (asked_from (suc i) ms)) (here all_ks (k ∷ ks) i g)
     ∙ ap (λ z. one_by (asks m) (fits m (lessened (lacked_at t i) k)) && z)
     (each_asked t all_ms all_ks ms ks (suc i) (omega arith) (later all_ms ms m i h) (later all_ks ks k i g))
-
-less_free : (o : Option ℕ) (k : Kind) → is_free (lessened o k) ≡ is_free k
-less_free o Gone = refl
-less_free o (Scalar t) = refl
-less_free o (Owned t s) = refl
-less_free o (Lent t s root from) = refl
-less_free o (Credit n) = refl
 
 arrive_busy : (t : Option Tested) (i : ℕ) (ks : List Kind) → busy_in (arrive t i ks) ≡ busy_in ks
 arrive_busy t i [] = refl

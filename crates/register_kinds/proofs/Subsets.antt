@@ -10,6 +10,7 @@ use Rattle.code_rules.specs.Fitting.{is_subset}
 use Rattle.register_kinds.specs.Rising.{RiseFrom, Rise, less, beyond, is_one}
 use Rattle.fip_base.proofs.fip_language.Facts.{and_both as and_parts, both_true as and_all, get_any, less_or_last as same_or_less, less_or_not as below_or}
 pub use Rattle.fip_base.proofs.fip_language.Facts.{or_last as or_more}
+use Rattle.register_kinds.proofs.Sets.{numbers_within as in_numbers}
 
 pub numbers_rise : (i n : ℕ) → RiseFrom i (numbers i n)
 numbers_rise i zero = tt
@@ -310,15 +311,6 @@ own_first x xs = elim (eqb_tells x x) [ inl e ↦ rw e.0 refl | inr e ↦ absurd
 no_more : (xs : List ℕ) (x : ℕ) → length xs ≡ 0 → has xs x ≡ true → ⊥
 no_more [] x l e = cc
 no_more (y ∷ xs) x l e = omega arith
-
-in_numbers : (low n x : ℕ) → low ≤ x → x < low + n → has (numbers low n) x ≡ true
-in_numbers low zero x h g = absurd (omega arith)
-in_numbers low (suc n) x h g =
-    elim (eqb_tells low x) [
-      | inl i ↦ rw i.0 refl
-      | inr i ↦ or_more (low == x) (has (numbers (suc low) n) x)
-          (in_numbers (suc low) n x (let j = i.1 in less_apart low x h j) (omega arith))
-    ]
 
 pub subset_has : (cs xs : List ℕ) (x : ℕ) → is_subset cs xs ≡ true → has cs x ≡ true → has xs x ≡ true
 subset_has [] xs x e h = absurd (cc)

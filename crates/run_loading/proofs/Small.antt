@@ -12,6 +12,7 @@ use Rattle.run_loading.specs.Loading.{places_of, value_places, all_places, value
 use Rattle.run_loading.specs.TraceText.{IsWord}
 use Rattle.run_loading.specs.Writable.{HaveFewConstructors, IsWritable}
 use Rattle.run_loading.proofs.StepChanges.{int_word_small}
+use Rattle.run_loading.proofs.Begins.{none_released}
 
 abbrev IsSmall : Option Cell → Type 0
 IsSmall None = Unit {0}
@@ -106,11 +107,6 @@ at_small : (os : List (Option Cell)) (p : ℕ) (c : Cell) → Every IsSmall os �
 at_small [] p c h e = absurd (none-some c e)
 at_small (o ∷ os) zero c h e = subst IsSmall e h.0
 at_small (o ∷ os) (suc p) c h e = at_small os p c h.1 e
-
-none_released : (n p : ℕ) → one_if_true (slice_get (replicate n false) p) ≡ 0
-none_released zero p = refl
-none_released (suc n) zero = refl
-none_released (suc n) (suc p) = none_released n p
 
 pub first_writable : (tb : Table) (ts : List ℕ) (vs : Values) (credits : List ℕ) → HaveFewConstructors tb → HaveTypes tb ts vs → length (first_store vs credits).cells < 2 ^ 32 → IsWritable (first_store vs credits)
 first_writable tb ts vs credits few h k =

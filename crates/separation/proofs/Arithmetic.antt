@@ -18,16 +18,16 @@ use Rattle.separation_kinds.specs.code_rules.Leaves.{result_type}
 use Rattle.separation.specs.Rows.{IsTruth}
 use Rattle.separation_kinds.proofs.machine_semantics.cell_code.fip_base.fip_language.Facts.{abs_fits}
 
-fits_signed : (i : ℤ) → fits i ≡ true → FitsSigned w64 i
+pub fits_signed : (i : ℤ) → fits i ≡ true → FitsSigned w64 i
 fits_signed (pos n) e = record { sfits = ltb-true n (2 ^ 63) e }
 fits_signed (negsuc n) e = record { sfits = ltb-true n (2 ^ 63) e }
 
-some_abs : (j : ℤ) → same_int j (pos 0) ≡ false → 0 < unsigned_abs j
+pub some_abs : (j : ℤ) → same_int j (pos 0) ≡ false → 0 < unsigned_abs j
 some_abs (pos zero) e = absurd (cc)
 some_abs (pos (suc n)) e = omega arith
 some_abs (negsuc n) e = omega arith
 
-remainder_fits : (i j : ℤ) → FitsSigned w64 j → same_int j (pos 0) ≡ false → FitsSigned w64 (int_rem i j)
+pub remainder_fits : (i j : ℤ) → FitsSigned w64 j → same_int j (pos 0) ≡ false → FitsSigned w64 (int_rem i j)
 remainder_fits i j f e =
     let below = rem_below i j (some_abs j e) in
     let most = abs_fits j f in

@@ -15,6 +15,7 @@ use Rattle.code_rules.specs.Taking.{Chain, IsReached, fate}
 use Rattle.separation_kinds.specs.Meanings.{part_in, part_of, Under, Roots, Rooted, Framed, Means, AreMeant}
 use Rattle.separation_kinds.proofs.Basics.{pick, apart, or_not, equal, itself}
 use Rattle.separation_kinds.proofs.KindLemmas.{free_owned}
+use Rattle.code_rules.proofs.Once.{chain_once as chain_one}
 
 pub same_tree : (x y : Placed) → Tree x ≡ Tree y → x ≡ y
 same_tree x y e = cc
@@ -65,13 +66,6 @@ chain_heir tb s below ks ws hs heir (suc n) root (Some from) x d m f c =
       holds = h.holds;
       within = λ q. let a = part_within f.tree from.field x f.part q in let b = h.within q in omega arith;
     }
-
-chain_one : (ks : List Kind) (heir : ℕ → Bool) (m n : ℕ) (o : Option From) (a b : ℕ) → Chain ks heir m o a → Chain ks heir n o b → a ≡ b
-chain_one ks heir m n None a b x y = no_chain ks heir m a x
-chain_one ks heir zero zero (Some f) a b x y = sym x.1 ∙ y.1
-chain_one ks heir zero (suc n) (Some f) a b x y = apart (heir f.register) x.0 y.0
-chain_one ks heir (suc m) zero (Some f) a b x y = apart (heir f.register) y.0 x.0
-chain_one ks heir (suc m) (suc n) (Some f) a b x y = chain_one ks heir m n (from_of (at ks f.register)) a b x.1 y.1
 
 -- a register that reaches an heir is said to
 reached_one : (ks : List Kind) (heir : ℕ → Bool) (q n d : ℕ) (o : Option ℕ) → IsReached ks heir q o → Chain ks heir n (from_of (at ks q)) d → o ≡ Some d

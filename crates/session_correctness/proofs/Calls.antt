@@ -59,7 +59,7 @@ all_stand_on tb s u (l ∷ ls) same h = (
 same_at : (s u : Store) (q : ℕ) → u.cells ≡ s.cells → cell_at u q ≡ cell_at s q
 same_at s u q e = ap (λ os. cell_in os q) e
 
-there_at : (s u : Store) (q : ℕ) → u.cells ≡ s.cells → there u q ≡ there s q
+pub there_at : (s u : Store) (q : ℕ) → u.cells ≡ s.cells → there u q ≡ there s q
 there_at s u q e = ap one_if_some (same_at s u q e)
 
 good : (s u : Store) → IsStore s → u.cells ≡ s.cells → length u.released ≡ length s.released → ((q : ℕ) → released_at u q ≤ there s q) → IsStore u

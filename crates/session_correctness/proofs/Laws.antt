@@ -15,6 +15,7 @@ use Rattle.session_correctness.specs.Lodging.{Lodged, lodged_uses}
 use Rattle.session_correctness.proofs.Calls.{done, ended, swept}
 use Rattle.session_correctness.proofs.Counting.{held_cells}
 use Rattle.session_correctness.proofs.Leaving.{run_leaves}
+pub use Rattle.session_correctness.proofs.Counting.{held_cells as counted}
 
 pub leaves : (c : PlainCode) (before waits : Kinds) (n : ℕ) (kept : List ℕ) (s : State) (t : IsStart c before waits n kept s) (calls k : ℕ) → Leaves c.types t.function.params t.given.arguments kept s.store (state_of (run_after c before s calls k)).store
 leaves c before waits n kept s t calls k = run_leaves c before waits n kept s t calls k
@@ -28,5 +29,3 @@ holds_others c before waits h calls k u up = ended c before waits h.entry h.kept
 pub holds_swept : (c : PlainCode) (before waits : Kinds) (h : CallOf c before waits) (calls k : ℕ) (u : Store) → IsSwept (lodged_uses (held_after c h)) (state_of (run_after c before h.state calls k)).store u → IsHeld c.types (held_after c h) u
 holds_swept c before waits h calls k u up = swept c before waits h.entry h.kept h.state h.start h.held h.given h.distinct h.stand h.trees h.others calls k u up
 
-pub counted : (tb : Table) (k : ℕ) (ls : List Lodged) (s : Store) → IsHeld tb ls s → count_held k s ≡ lodged_cells k ls
-counted tb k ls s h = held_cells tb k ls s h

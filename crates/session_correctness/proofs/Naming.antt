@@ -14,10 +14,11 @@ use Rattle.session_correctness.specs.Called.{AllStand, IsHeld, IsHeldWith}
 use Rattle.session_correctness.specs.Lodging.{Lodged, holding_of, lodged_as, but, but_all, AreDistinct, lodged_uses, lodge_all}
 use Rattle.session_correctness.proofs.Sharing.{bool_or, name_same, name_itself, if_true, if_false, none_but, distinct_but_all}
 use Rattle.session_correctness.proofs.Speaking.{held_lodged, without_lodged}
+use Rattle.session_correctness.proofs.Sharing.{off_first as apart_names}
 
 -- ---- cells
 
-lodged_more : (ls ms : List Lodged) (q : ℕ) → lodged_uses (ls ++ ms) q ≡ lodged_uses ls q + lodged_uses ms q
+pub lodged_more : (ls ms : List Lodged) (q : ℕ) → lodged_uses (ls ++ ms) q ≡ lodged_uses ls q + lodged_uses ms q
 lodged_more [] ms q = omega arith
 lodged_more (l ∷ ls) ms q = let r = lodged_more ls ms q in omega (arith, r)
 
@@ -118,13 +119,6 @@ distinct_push (x ∷ ls) l d h = elim (bool_or (same_name l.name x.name)) as (λ
         by : (same_name m n ≡ true) ⊎ (same_name m n ≡ false) → same_name m n ≡ false
         by (inl e) = absurd (let z = sym off ∙ name_itself n m (sym (name_same m n e)) in cc)
         by (inr e) = e
-
-apart_names : (m n : Name) (before : List Name) → times m (n ∷ before) ≡ 0 → (same_name m n ≡ false) × (times m before ≡ 0)
-apart_names m n before h = by (bool_or (same_name m n))
-  where
-    by : (same_name m n ≡ true) ⊎ (same_name m n ≡ false) → (same_name m n ≡ false) × (times m before ≡ 0)
-    by (inl e) = absurd (let z : one_if_named m n ≡ 1 = if_true (same_name m n) 1 0 e in let y : ⊥ = omega (arith, h, z) in y)
-    by (inr e) = (e, (let z : one_if_named m n ≡ 0 = if_false (same_name m n) 1 0 e in omega (arith, h, z)))
 
 distinct_all : (held : List Holding) (used before ns : List Name) (ts : List ℕ) (xs : Parts) (ls : List Lodged) → AreDistinct ls → ((m : Name) → IsFree held used before m → lodged_as m ls ≡ None) → AreFree held used before ns → AreDistinct (ls ++ lodge_all ns ts xs)
 distinct_all held used before [] ts xs ls d f h = subst AreDistinct (sym (append-nil ls)) d

@@ -94,7 +94,7 @@ pub but_append : (ms ns : List Name) (ls : List Lodged) → but_all (ms ++ ns) l
 but_append [] ns ls = refl
 but_append (m ∷ ms) ns ls = but_append ms ns (but m ls)
 
-off_first : (m n : Name) (ns : List Name) → times m (n ∷ ns) ≡ 0 → (same_name m n ≡ false) × (times m ns ≡ 0)
+pub off_first : (m n : Name) (ns : List Name) → times m (n ∷ ns) ≡ 0 → (same_name m n ≡ false) × (times m ns ≡ 0)
 off_first m n ns h = by (same_name m n) refl
   where
     by : (b : Bool) → same_name m n ≡ b → (same_name m n ≡ false) × (times m ns ≡ 0)

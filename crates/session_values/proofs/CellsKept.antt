@@ -23,7 +23,7 @@ use Rattle.session_values.specs.Made.{AreMade}
 
 -- ---- live cells
 
-live_few : (l : Loading) (p : ℕ) → live l p ≤ 1
+pub live_few : (l : Loading) (p : ℕ) → live l p ≤ 1
 live_few l p = by (cell_at l.cells p) (slice_get l.released p)
   where
     by : (o : Option Cell) (r : Option Bool) → live_in o r ≤ 1

@@ -18,6 +18,7 @@ use Rattle.value_text.proofs.Tables.{is_table}
 use Rattle.session_values.specs.Read.{IsTextOf, Adds}
 use Rattle.session_values.proofs.Symbols.{chr, IsOneLine, chars_are, one_line_drop, are_read, Suffix, skip_chr}
 use Rattle.session_values.proofs.Bridge.{NotOpen, value_written, value_spelt}
+pub use Rattle.value_text.proofs.Counted.{cells_snoc, join-end as join_end}
 
 -- ---- suffixes of one list
 
@@ -97,14 +98,6 @@ module _ (tb : Table) (sound : IsSoundTable tb) (bytes : List ℕ) (one : IsOneL
 pub join_snoc : (a : Values) (v : Value) (b : Values) → join (snoc a v) b ≡ join a (More v b)
 join_snoc End v b = refl
 join_snoc (More x a) v b = ap (More x) (join_snoc a v b)
-
-pub join_end : (a : Values) → join a End ≡ a
-join_end End = refl
-join_end (More x a) = ap (More x) (join_end a)
-
-pub cells_snoc : (k : ℕ) (a : Values) (v : Value) → cells_of_all k (snoc a v) ≡ cells_of_all k a + cells k v
-cells_snoc k End v = omega arith
-cells_snoc k (More x a) v = let h = cells_snoc k a v in omega (arith, h)
 
 pub adds_none : (c : Counts) (more : ℕ → ℕ) → ((k : ℕ) → more k ≡ 0) → Adds c c more
 adds_none c more h k le few = let z = h k in omega (arith, z)

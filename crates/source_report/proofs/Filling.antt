@@ -13,7 +13,7 @@ use Rattle.source_report.specs.WellFormed.{IsKnownPattern, AreKnownPatterns, IsK
 use Rattle.source_report.specs.Literals.{FitsPattern, FitPatterns, Fits, FitsBlock, FitClauses, LiteralsFit}
 use Rattle.cell_lower.proofs.fip_language.Facts.{map_length}
 
-from_map : {A B : Type 0} (P : B → Type 0) (f : A → B) (xs : List A) → ((x : A) → Among x xs → P (f x)) → (y : B) → Among y (map f xs) → P y
+pub from_map : {A B : Type 0} (P : B → Type 0) (f : A → B) (xs : List A) → ((x : A) → Among x xs → P (f x)) → (y : B) → Among y (map f xs) → P y
 from_map P f [] h y a = absurd a
 from_map P f (x ∷ xs) h y (inl e) = subst P (sym e) (h x (inl refl))
 from_map P f (x ∷ xs) h y (inr a) = from_map P f xs (λ z b. h z (inr b)) y a

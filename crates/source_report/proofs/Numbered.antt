@@ -8,6 +8,7 @@ use Rattle.static_params.specs.reached_instances.Closed.{Closed, same_closed}
 use Rattle.static_params.specs.reached_instances.Numbering.{with_new, with_all, firsts, Reached, AreNumbered, AreMore, Differ}
 use Rattle.static_params.proofs.GoodTypes.{among_either, reached_have}
 use Rattle.static_params.proofs.TypeRows.{among_left, among_right, among_of, all_among, same_self}
+use Rattle.static_params.proofs.reached_instances.SharedTrees.{differ_last}
 
 -- the first goes on to the second
 abbrev IsFront : List Closed → List Closed → Type 0
@@ -46,15 +47,6 @@ not_found x (y ∷ xs) e (inr h) = by (same_closed x y) e (not_found x xs)
     by : (b : Bool) → (b || list_any (λ y. same_closed x y) xs) ≡ false → (list_any (λ y. same_closed x y) xs ≡ false → Among x xs → ⊥) → ⊥
     by true g later = absurd (cc)
     by false g later = later g h
-
-differ_last : (xs : List Closed) (x : Closed) → (Among x xs → ⊥) → Differ xs → Differ (xs ++ x ∷ [])
-differ_last [] x new d = ((λ h. h), tt)
-differ_last (y ∷ ys) x new d = ((λ h. by (among_either y ys (x ∷ []) h)), differ_last ys x (λ h. new (inr h)) d.1)
-  where
-    by : Among y ys ⊎ Among y (x ∷ []) → ⊥
-    by (inl h) = d.0 h
-    by (inr (inl e)) = new (inl (sym e))
-    by (inr (inr h)) = h
 
 differ_new : (xs : List Closed) (x : Closed) (b : Bool) → list_any (λ z. same_closed x z) xs ≡ b → Differ xs → Differ (if b then xs else xs ++ x ∷ [])
 differ_new xs x true e d = d

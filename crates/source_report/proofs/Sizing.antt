@@ -46,6 +46,7 @@ use Rattle.source_report.proofs.Scrutinees as Q
 use Rattle.source_report.proofs.Scrutinees.{core_asks}
 use Rattle.static_params.proofs.TypeRows.{there_among}
 use Rattle.cell_lower.proofs.fip_language.Facts.{map_length}
+use Rattle.source_report.proofs.Filling.{from_map}
 
 -- ---- declarations: E14 and E63
 
@@ -355,11 +356,6 @@ module _ (source : List ℕ) (q : Program) (flat : IsFlat source q) where
   flat_fine d a =
       all_of_have IsFine (instances_of (flat_source core) flat.numbers) flat.numbers.instances (λ c b e f. closed_fine c e f) d
       (subst (λ (p : Program). Among d p.instances) flat.is a)
-
-from_map : {A B : Type 0} (P : B → Type 0) (f : A → B) (xs : List A) → ((x : A) → Among x xs → P (f x)) → (y : B) → Among y (map f xs) → P y
-from_map P f [] h y a = absurd a
-from_map P f (x ∷ xs) h y (inl e) = subst P (sym e) (h x (inl refl))
-from_map P f (x ∷ xs) h y (inr a) = from_map P f xs (λ z b. h z (inr b)) y a
 
 pub typed_filled : (source : List ℕ) (p : Program) → IsTyped source p → Y.IsFilled p
 typed_filled source p h = subst Y.IsFilled (sym h.is) (filled_right h.untyped h.typed)

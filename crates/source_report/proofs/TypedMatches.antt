@@ -36,12 +36,9 @@ use Rattle.source_report.specs.TreeMatches.{bare as plain, bare_all as plain_all
 use Rattle.source_report.proofs.Erasing.{erased_is}
 use Rattle.source_report.proofs.Matching.{match_view, matches_are}
 use Rattle.cell_lower.proofs.fip_language.Facts.{get_within as within, same_number}
+use Rattle.cell_lower.proofs.fip_language.Plain.{every_append as every_both}
 
 -- ---- lists
-
-every_both : {A : Type 0} (P : A → Type 0) (xs ys : List A) → Every P xs → Every P ys → Every P (xs ++ ys)
-every_both P [] ys h k = k
-every_both P (x ∷ xs) ys h k = (h.0, every_both P xs ys h.1 k)
 
 -- ---- types that are in the table
 

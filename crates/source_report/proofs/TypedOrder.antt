@@ -30,6 +30,7 @@ use Rattle.source_report.specs.Order.{From, SpansPattern, SpansPatterns, Spans, 
 use Rattle.source_report.proofs.CoreOrder as O
 use Rattle.source_report.proofs.CoreOrder.{IsOrderedFunction, core_ordered}
 use Rattle.source_report.proofs.SpeltBinders.{spelt_has}
+use Rattle.source_report.proofs.Filling.{from_map}
 
 -- ---- specialising
 
@@ -179,11 +180,6 @@ module _ (w : World) where
         next = h.next;
         body = fill_block_spans (length d.params) h.next (parameter_scope d) true (map Some d.results) d.body h.body;
       }
-
-from_map : {A B : Type 0} (P : B → Type 0) (f : A → B) (xs : List A) → ((x : A) → Among x xs → P (f x)) → (y : B) → Among y (map f xs) → P y
-from_map P f [] h y a = absurd a
-from_map P f (x ∷ xs) h y (inl e) = subst P (sym e) (h x (inl refl))
-from_map P f (x ∷ xs) h y (inr a) = from_map P f xs (λ z b. h z (inr b)) y a
 
 filled_ordered : (p : Program) → ((d : T.Instance) → Among d p.instances → IsOrdered d) → (d : T.Instance) → Among d (filled p).instances → IsOrdered d
 filled_ordered p h = from_map IsOrdered (fill_instance (world p)) p.instances (λ d a. fill_ordered (world p) d (h d a))

@@ -25,6 +25,7 @@ use Rattle.specialisation_correctness.proofs.Lookups.{function_meant}
 use Rattle.specialisation_correctness.proofs.Places.{source_with, There, both_some, IsHere, by_name, closed_function_named, closed_function_there}
 use Rattle.source_report.proofs.cell_lower.fip_language.Facts.{if_some, nat_lt_of as less_is}
 pub use Rattle.source_report.proofs.cell_lower.fip_language.Facts.{get_map as map_at, map_at_inverse as at_map}
+use Rattle.specialisation_correctness.proofs.Arguments.{among_left, among_right}
 
 -- ---- lists
 
@@ -36,15 +37,6 @@ among_either x (y ∷ xs) ys (inr h) = later (among_either x xs ys h)
     later : Among x xs ⊎ Among x ys → Among x (y ∷ xs) ⊎ Among x ys
     later (inl a) = inl (inr a)
     later (inr b) = inr b
-
-among_left : {A : Type 0} (x : A) (xs ys : List A) → Among x xs → Among x (xs ++ ys)
-among_left x [] ys h = absurd h
-among_left x (y ∷ xs) ys (inl e) = inl e
-among_left x (y ∷ xs) ys (inr h) = inr (among_left x xs ys h)
-
-among_right : {A : Type 0} (x : A) (xs ys : List A) → Among x ys → Among x (xs ++ ys)
-among_right x [] ys h = h
-among_right x (y ∷ xs) ys h = inr (among_right x xs ys h)
 
 among_of : {A B : Type 0} (f : A → List B) (x : A) (y : B) (xs : List A) → Among x xs → Among y (f x) → Among y (all_of f xs)
 among_of f x y [] h g = absurd h

@@ -30,6 +30,7 @@ use Rattle.reached_instances.specs.TypeInstances.{field_types}
 use Rattle.static_params.specs.FlatSource.{flat_source, constructor, declared, fields}
 use Rattle.static_params.proofs.TableRows.{shapes_below, row_there, IsRow}
 use Rattle.fip_language.proofs.Facts.{or_first as or_left, or_last as or_right}
+use Rattle.data_types.proofs.Repeats.{none_here}
 
 -- ---- no name twice
 
@@ -38,10 +39,6 @@ same_is x y e = (bytes_eq-Decides x y).0 e
 
 same_self : (x : Name) → same_name x x ≡ true
 same_self x = (bytes_eq-Decides x x).1 refl
-
-none_here : (c : Bool) (v : Violation) (xs ys : List Violation) → (if c then v ∷ xs else ys) ≡ [] → (c ≡ false) × (ys ≡ [])
-none_here true v xs ys h = absurd (cc)
-none_here false v xs ys h = (refl, h)
 
 among_more : (n m : Name) (seen : List Name) → is_among n seen ≡ true → is_among n (seen ++ m ∷ []) ≡ true
 among_more n m seen e = list_any-append (same_name n) seen (m ∷ []) ∙ or_left (is_among n seen) (is_among n (m ∷ [])) e

@@ -17,17 +17,9 @@ use Rattle.reached_instances.specs.Numbering.{Way, Reached, with_new, with_all, 
 use Rattle.static_params.specs.FlatSource.{flat_source}
 use Rattle.static_params.proofs.Meanings.{type_there, function_there}
 pub use Rattle.fip_language.proofs.Facts.{get_map, get_within as below}
+pub use Rattle.reached_instances.proofs.Numbered.{among_either}
 
 -- ---- lists
-
-pub among_either : {A : Type 0} (x : A) (xs ys : List A) → Among x (xs ++ ys) → Among x xs ⊎ Among x ys
-among_either x [] ys h = inr h
-among_either x (y ∷ xs) ys (inl e) = inl (inl e)
-among_either x (y ∷ xs) ys (inr h) = later (among_either x xs ys h)
-  where
-    later : Among x xs ⊎ Among x ys → Among x (y ∷ xs) ⊎ Among x ys
-    later (inl a) = inl (inr a)
-    later (inr b) = inr b
 
 -- what all of a list give has a property that each gives
 pub all_of_have : {A B : Type 0} (P : B → Type 0) (f : A → List B) (xs : List A) → ((x : A) → Among x xs → (y : B) → Among y (f x) → P y) → (y : B) → Among y (all_of f xs) → P y

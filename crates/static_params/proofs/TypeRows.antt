@@ -21,43 +21,17 @@ use Rattle.static_params.specs.FlatSource.{flat_source, declared}
 use Rattle.static_params.proofs.GoodTypes.{among_either, all_of_have, reached_have, IsGood}
 use Rattle.static_params.proofs.GoodInstances.{declared_is}
 use Rattle.fip_language.proofs.Facts.{and_both as same_both, equal_itself as number_same, same_number}
+use Rattle.reached_instances.proofs.ClosedTrees.{head_is as heads_same, head_self as head_same}
+pub use Rattle.reached_instances.proofs.Numbered.{among_left, among_of, among_right}
+pub use Rattle.reached_instances.proofs.SharedTrees.{among_at as there_among}
 
 -- ---- lists
-
-pub among_left : {A : Type 0} (x : A) (xs ys : List A) → Among x xs → Among x (xs ++ ys)
-among_left x [] ys h = absurd h
-among_left x (y ∷ xs) ys (inl e) = inl e
-among_left x (y ∷ xs) ys (inr h) = inr (among_left x xs ys h)
-
-pub among_right : {A : Type 0} (x : A) (xs ys : List A) → Among x ys → Among x (xs ++ ys)
-among_right x [] ys h = h
-among_right x (y ∷ xs) ys h = inr (among_right x xs ys h)
-
-pub among_of : {A B : Type 0} (f : A → List B) (x : A) (y : B) (xs : List A) → Among x xs → Among y (f x) → Among y (all_of f xs)
-among_of f x y [] h g = absurd h
-among_of f x y (z ∷ xs) (inl e) g = among_left y (f z) (all_of f xs) (subst (λ w. Among y (f w)) e g)
-among_of f x y (z ∷ xs) (inr h) g = among_right y (f z) (all_of f xs) (among_of f x y xs h g)
 
 pub some_below : {A : Type 0} (x : A) (xs : List A) → Among x xs → 0 < length xs
 some_below x [] h = absurd h
 some_below x (y ∷ xs) h = omega arith
 
-pub there_among : {A : Type 0} (xs : List A) (i : ℕ) (x : A) → slice_get xs i ≡ Some x → Among x xs
-there_among [] i x e = absurd (cc)
-there_among (y ∷ xs) zero x e = inl (let f : x ≡ y = cc in f)
-there_among (y ∷ xs) (suc i) x e = inr (there_among xs i x e)
-
 -- ---- closed trees are the same where the test says so
-
-heads_same : (g h : Head) → same_head g h ≡ true → g ≡ h
-heads_same (H.«Type» m) (H.«Type» n) e = ap (λ k. H.«Type» k) (same_number m n e)
-heads_same (H.«Type» m) (H.Function n) e = absurd (cc)
-heads_same (H.Function m) (H.«Type» n) e = absurd (cc)
-heads_same (H.Function m) (H.Function n) e = ap (λ k. H.Function k) (same_number m n e)
-
-head_same : (h : Head) → same_head h h ≡ true
-head_same (H.«Type» n) = number_same n
-head_same (H.Function n) = number_same n
 
 mutual
   pub closed_same : (c d : Closed) → same_closed c d ≡ true → c ≡ d

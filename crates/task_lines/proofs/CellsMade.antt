@@ -26,6 +26,9 @@ use Rattle.task_lines.specs.Making.{AreValued, AreCredited}
 use Rattle.task_lines.specs.Reading.{AreAt}
 use Rattle.session_values.specs.Readable.{AreParams}
 use Rattle.fip_language.proofs.Facts.{take_next, take_whole}
+use Rattle.value_text.proofs.Counted.{join-end as join_nothing}
+use Rattle.value_text.proofs.Credits.{count_append as count_join}
+use Rattle.value_text.proofs.Residual.{join-assoc as join_assoc}
 
 -- ---- values
 
@@ -34,14 +37,6 @@ stand_join tb cs [] js NoParts ys h k = k
 stand_join tb cs [] js (MoreParts x xs) ys h k = absurd h
 stand_join tb cs (i ∷ ks) js NoParts ys h k = absurd h
 stand_join tb cs (i ∷ ks) js (MoreParts x xs) ys h k = (h.0, stand_join tb cs ks js xs ys h.1 k)
-
-join_assoc : (a b c : Values) → join (join a b) c ≡ join a (join b c)
-join_assoc End b c = refl
-join_assoc (More x a) b c = ap (More x) (join_assoc a b c)
-
-join_nothing : (a : Values) → join a End ≡ a
-join_nothing End = refl
-join_nothing (More x a) = ap (More x) (join_nothing a)
 
 -- what was made of the values that stand at places, and what is left of them
 pub record IsMaking (tb : Table) (bytes types : List ℕ) (vs : Values) (first now : Loading) (ks ps words : List ℕ) : Type 0 where
@@ -153,10 +148,6 @@ words_more : (ps qs : List ℕ) → cell_words (ps ++ qs) ≡ cell_words ps ++ c
 words_more [] qs = refl
 words_more (p ∷ ps) qs = ap (λ ws. (2 * p + 1) ∷ ws) (words_more ps qs)
 
-count_join : (q : ℕ) (ps qs : List ℕ) → count q (ps ++ qs) ≡ count q ps + count q qs
-count_join q [] qs = omega arith
-count_join q (p ∷ ps) qs = let h = count_join q ps qs in omega (arith, h)
-
 pub made_one : (old new : Loading) (p : ℕ) (c : Cell) → length old.released ≡ length old.cells → IsMade old new p c → AreMade old new (λ q. count q (p ∷ []))
 made_one old new p c flags h =
     let m = made old new p c flags h in
@@ -175,7 +166,7 @@ crediting_starts credits first before flags = record {
   credited = record { places = []; zero = tt; named = sym (append-nil before); made = made_none first (λ p. 0) (λ p. refl) };
 }
 
-sizes_at : (ks : List ℕ) (i : ℕ) → i < length ks → AreSizes ks → (0 < get_or ks i 0) × (get_or ks i 0 ≤ 16)
+pub sizes_at : (ks : List ℕ) (i : ℕ) → i < length ks → AreSizes ks → (0 < get_or ks i 0) × (get_or ks i 0 ≤ 16)
 sizes_at [] i lt h = absurd (omega (arith, lt))
 sizes_at (k ∷ ks) zero lt h = (h.0, h.1)
 sizes_at (k ∷ ks) (suc i) lt h = sizes_at ks i (omega (arith, lt)) h.2

@@ -8,6 +8,7 @@ use Rattle.value_text.specs.declared.counts.Counts.{Counts}
 use Rattle.session_values.specs.Read.{Adds}
 use Rattle.session_values.proofs.OneValue.{adds_none, adds_both}
 use Rattle.fip_language.proofs.Facts.{take_whole}
+use Rattle.task_lines.proofs.CellsMade.{sizes_at}
 
 abbrev Adding : Counts → Counts → ℕ → Type 0
 Adding old new s = ((0 < s → s ≤ 16 → slice_index_or old.numbers s 0 < 2 ^ 64 - 1 → slice_index_or new.numbers s 0 ≡ suc (slice_index_or old.numbers s 0))
@@ -27,11 +28,6 @@ one_more old new s some few h k le less = by (nat_eq k s) refl
         let none : one_at k s ≡ 0 = ap (λ (t : Bool). if t then 1 else 0) e in
         let x = h.1 k (eqb-false k s e) in
         omega (arith, x, none)
-
-sizes_at : (ks : List ℕ) (i : ℕ) → i < length ks → AreSizes ks → (0 < get_or ks i 0) × (get_or ks i 0 ≤ 16)
-sizes_at [] i lt h = absurd (omega (arith, lt))
-sizes_at (k ∷ ks) zero lt h = (h.0, h.1)
-sizes_at (k ∷ ks) (suc i) lt h = sizes_at ks i (omega (arith, lt)) h.2
 
 count_more : (k : ℕ) (ks : List ℕ) (i : ℕ) → i < length ks → count k (take (i + 1) ks) ≡ count k (take i ks) + one_at k (get_or ks i 0)
 count_more k ks i lt = ap (λ n. count k (take n ks)) (let z : i + 1 ≡ suc i = omega arith in z) ∙ by k ks i lt

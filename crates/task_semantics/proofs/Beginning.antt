@@ -83,7 +83,7 @@ projected c before waits s l sound literals kinds store lies once =
     (subst (StandAll c.types s (map (λ (p : Param). p.ty) l.task.header.params)) (sym (trees_stay l.trees)) lies.stand)
     (spare_long s l.task.header.credits l.spares lies.credits))
 
-same_begun : (c : PlainCode) (before waits : Kinds) (shared : Store) (n : ℕ) (f : ℕ → ℕ) (a u : State) (calls : ℕ) → IsProjected before waits (run_code c) f a (record u { store = shared }) → IsSameRun before waits (run_code c) n f (begun a calls) (in_store shared (begun u calls))
+pub same_begun : (c : PlainCode) (before waits : Kinds) (shared : Store) (n : ℕ) (f : ℕ → ℕ) (a u : State) (calls : ℕ) → IsProjected before waits (run_code c) f a (record u { store = shared }) → IsSameRun before waits (run_code c) n f (begun a calls) (in_store shared (begun u calls))
 same_begun c before waits shared n f a u zero h = (tt, h, refl, refl)
 same_begun c before waits shared n f a u (suc calls) h = (h, refl, refl)
 

@@ -27,6 +27,7 @@ use Rattle.task_semantics.specs.Schedules.{Shared, in_store}
 use Rattle.task_semantics.specs.Laid.{Task, IsTask, task_places, task_words, laid, shared_store, IsBegun, AreBegun, AreLaid}
 use Rattle.task_semantics.proofs.Moving.{moved, trees_moved, spots_moved, task_moved, cell_moved, all_long}
 use Rattle.task_semantics.proofs.Entries.{first_state, given_words, first_projected}
+use Rattle.task_semantics.proofs.Beginning.{same_begun}
 
 -- ---- one task
 
@@ -87,11 +88,6 @@ module _ (c : PlainCode) (before waits : Kinds) (os : List (Option Cell)) (n : �
       (first_projected (moved n) c before waits (own_store t) (unreleased os) t.function t.header xs ps t.frames sound kinds task.there (renamed_cells has) here
       (subst (StandAll c.types (unreleased os) (map (λ q. q.ty) t.header.params)) (sym (trees_moved n 0 n vs y)) there)
       (spots_long (length (all_places 0 vs)) ks)))
-
--- with any calls
-same_begun : (c : PlainCode) (before waits : Kinds) (shared : Store) (n : ℕ) (f : ℕ → ℕ) (a u : State) (calls : ℕ) → IsProjected before waits (run_code c) f a (record u { store = shared }) → IsSameRun before waits (run_code c) n f (begun a calls) (in_store shared (begun u calls))
-same_begun c before waits shared n f a u zero h = (tt, h, refl, refl)
-same_begun c before waits shared n f a u (suc calls) h = (h, refl, refl)
 
 -- what is known of the task with number k: its places are from one on to another, and it begins so
 record IsKnown (c : PlainCode) (before waits : Kinds) (shared : Store) (low k : ℕ) (b : Begun) (rs : List Run) : Type 0 where

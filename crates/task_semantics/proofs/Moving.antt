@@ -108,7 +108,7 @@ mutual
       let z : j ≡ n + i = omega arith in
       moved_append n (value_places m v) (value_places k v) (all_places i vs) (all_places j vs) (value_moved n m k v e) (values_moved n i j vs z)
 
-like_same : (f : Renaming) (ws : List ℕ) → AreLikeWords f ws ws
+pub like_same : (f : Renaming) (ws : List ℕ) → AreLikeWords f ws ws
 like_same f [] = tt
 like_same f (w ∷ ws) = (inl refl, like_same f ws)
 

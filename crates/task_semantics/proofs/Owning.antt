@@ -12,6 +12,7 @@ use Rattle.run_loading.specs.separation.Codes.{run_function}
 use Rattle.run_loading.proofs.Begins.{none_released}
 use Rattle.task_semantics.specs.Projected.{Renaming, renamed, renamed_parts, IsThere, IsLikeCell, AreLikeWords, AreRenamed}
 use Rattle.task_semantics.specs.Lying.{Lying, LiesIn, uses_by, cell_if, cells_used, own_store, call_words}
+pub use Rattle.task_semantics.proofs.Moving.{like_same as words_alike}
 
 -- ---- cells by place
 
@@ -87,10 +88,6 @@ own_given c s l store lies once = record {
 }
 
 -- ---- the same places
-
-pub words_alike : (f : Renaming) (ws : List ℕ) → AreLikeWords f ws ws
-words_alike f [] = tt
-words_alike f (w ∷ ws) = (inl refl, words_alike f ws)
 
 cells_alike : (f : Renaming) (a b : Option Cell) → a ≢ None → a ≡ b → IsLikeCell f a b
 cells_alike f None b h e = absurd (h refl)

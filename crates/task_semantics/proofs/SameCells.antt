@@ -33,7 +33,7 @@ there_one s q h = by (cell_at s q) h
 pub there_like : (s t : Store) (q : ℕ) → there t q ≡ there s q → IsThere t q → IsThere s q
 there_like s t q e h = let one = there_one t q h in there_some s q (omega arith)
 
-words_even : (f : Renaming) (ws vs : List ℕ) → AreLikeWords f ws vs → length vs ≡ length ws
+pub words_even : (f : Renaming) (ws vs : List ℕ) → AreLikeWords f ws vs → length vs ≡ length ws
 words_even f [] [] h = refl
 words_even f [] (v ∷ vs) h = absurd h
 words_even f (w ∷ ws) [] h = absurd h

@@ -23,7 +23,7 @@ use Rattle.task_semantics.proofs.RunsAlike.{RunGoes, later_alike, run_stays}
 
 -- ---- runs and lists of runs
 
-own_store : (r : Run) → in_store (state_of r).store r ≡ r
+pub own_store : (r : Run) → in_store (state_of r).store r ≡ r
 own_store (Going s left steps) = refl
 own_store (Over e s left steps) = refl
 

@@ -13,17 +13,11 @@ use Rattle.run_loading.specs.machine_semantics.Steps.{Kinds}
 use Rattle.task_semantics.specs.Projected.{Renaming, AreLikeWords, IsLikeCell, AreRenamed, AreRenamedWords, IsRenamedFrame}
 use Rattle.task_semantics.specs.Projected.{AreRenamedFrames, IsProjected, one_among, held_among_from, held_among}
 use Rattle.run_loading.proofs.tree_refinement.tree_semantics.machine_semantics.cell_code.fip_base.fip_language.Facts.{suc_injective as fewer, sum_same as added}
+use Rattle.task_semantics.proofs.Frames.{words_even}
+use Rattle.task_semantics.proofs.Renamings.{some_there}
+use Rattle.task_semantics.proofs.SameCells.{words_even as like_even}
 
 -- ---- frames
-
-words_even : (tb : Table) (f : Renaming) (own shared : Store) (ks : List Kind) (ws vs : List ℕ) →
-    AreRenamedWords tb f own shared ks ws vs → length vs ≡ length ws
-words_even tb f own shared [] [] [] h = refl
-words_even tb f own shared [] [] (v ∷ vs) h = absurd h
-words_even tb f own shared [] (w ∷ ws) vs h = absurd h
-words_even tb f own shared (k ∷ ks) [] vs h = absurd h
-words_even tb f own shared (k ∷ ks) (w ∷ ws) [] h = absurd h
-words_even tb f own shared (k ∷ ks) (w ∷ ws) (v ∷ vs) h = ap suc (words_even tb f own shared ks ws vs h.1)
 
 frame_even : (tb : Table) (f : Renaming) (own shared : Store) (ks : List Kind) (a b : Frame) →
     IsRenamedFrame tb f own shared ks a b → words_of_frame b ≡ words_of_frame a
@@ -63,12 +57,6 @@ words_are before waits code f a b h =
 
 -- ---- cells
 
-like_even : (f : Renaming) (ws vs : List ℕ) → AreLikeWords f ws vs → length vs ≡ length ws
-like_even f [] [] h = refl
-like_even f [] (v ∷ vs) h = absurd h
-like_even f (w ∷ ws) [] h = absurd h
-like_even f (w ∷ ws) (v ∷ vs) h = ap suc (like_even f ws vs h.1)
-
 same_one : (f : Renaming) (k : ℕ) (c : Cell) (o : Option Cell) (r : Bool) → IsLikeCell f (Some c) o →
     one_among k o (one_if_true (Some r)) ≡ one_held k (Some c) r
 same_one f k c None r h = absurd h
@@ -102,9 +90,6 @@ same_held f shared k p (Some c ∷ os) (r ∷ rs) e h =
     (ap (λ n. one_among k (cell_at shared (f p)) n) first.1 ∙ same_one f k c (cell_at shared (f p)) r first.0)
     (same_held f shared k (suc p) os rs (fewer (length rs) (length os) e)
     (λ j q d is there. h (suc j) q d (further p j q is) there))
-
-some_there : (c : Cell) (o : Option Cell) → o ≡ Some c → o ≢ None
-some_there c o h k = cc
 
 pub held_are : (f : Renaming) (own shared : Store) (k : ℕ) → IsStore own → AreRenamed f own shared →
     held_among k f own shared ≡ count_held k own

@@ -7,6 +7,7 @@ use Rattle.run_loading.specs.machine_semantics.States.{State}
 use Rattle.run_loading.specs.machine_semantics.Steps.{Kinds}
 use Rattle.run_loading.specs.machine_semantics.Runs.{End, Run, Going, Over, after, later, state_of}
 use Rattle.task_semantics.specs.Schedules.{Shared, turn, turned, scheduled, alone, in_store}
+use Rattle.task_semantics.proofs.Scheduling.{own_store}
 
 set_other : {A : Type 0} (xs : List A) (j k : ℕ) (x : A) → j ≢ k → slice_get (slice_set xs k x) j ≡ slice_get xs j
 set_other [] j k x h = refl
@@ -38,10 +39,6 @@ goes_on kinds code (k ∷ ks) more t = goes_on kinds code ks more (turn kinds co
 
 only : Run → Shared
 only r = record { store = (state_of r).store; runs = r ∷ [] }
-
-own_store : (r : Run) → in_store (state_of r).store r ≡ r
-own_store (Going s left steps) = refl
-own_store (Over e s left steps) = refl
 
 own_turn : (kinds : Kinds) (code : PlainCode) (r : Run) → turn kinds code (only r) 0 ≡ only (later kinds code r)
 unfolding only

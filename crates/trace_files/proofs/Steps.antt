@@ -10,6 +10,7 @@ use Rattle.cell_trace.specs.declared.error.ReadTraceError.TheVariants as E
 use Rattle.run_loading.specs.TraceReading.{Read, Got, Bad, then_read, asked, read_number, read_exactly, read_words, read_cell, read_cells, read_event, read_events, last_step, read_end, read_steps, read_all_events, read_all_cells, read_trace}
 use Rattle.run_loading.specs.TraceText.{Loaded, Trace, left_by}
 use Rattle.trace_files.specs.Reading.{Spot, Reads, read_byte}
+use Rattle.run_loading.proofs.Inverse.{not_bad as bad_got}
 
 -- ---- what follows
 
@@ -54,9 +55,6 @@ one_byte at (b ∷ bs) = ap (λ n. Got n (suc at) bs) (plain b)
 
 got_same : {A : Type 0} (x y : A) (a b : ℕ) (xs ys : List ℕ) → Got x a xs ≡ Got y b ys → (x ≡ y) × (a ≡ b) × (xs ≡ ys)
 got_same x y a b xs ys h = (cc, cc, cc)
-
-bad_got : {A : Type 0} (y : A) (a b : ℕ) (ys : List ℕ) → ◌≡◌ {A = Read A} (Bad a) (Got y b ys) → ⊥
-bad_got y a b ys h = cc
 
 pub number_on : (w n at b to : ℕ) (bs rest : List ℕ) → read_byte at bs ≡ Got b to rest → read_number (suc w) n at bs ≡ read_number w (256 * n + b) to rest
 unfolding read_number

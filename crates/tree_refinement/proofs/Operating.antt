@@ -18,21 +18,7 @@ use Rattle.separation_bounds.specs.separation.Rows.{IsTruth}
 use Rattle.separation_bounds.proofs.separation.Reading.{int_is}
 use Rattle.tree_refinement.specs.Agreement.{IsWordOf}
 use Rattle.tree_semantics.proofs.machine_semantics.cell_code.fip_base.fip_language.Facts.{abs_fits}
-
-fits_signed : (i : ℤ) → fits i ≡ true → FitsSigned w64 i
-fits_signed (pos n) e = record { sfits = ltb-true n (2 ^ 63) e }
-fits_signed (negsuc n) e = record { sfits = ltb-true n (2 ^ 63) e }
-
-some_abs : (j : ℤ) → same_int j (pos 0) ≡ false → 0 < unsigned_abs j
-some_abs (pos zero) e = absurd (cc)
-some_abs (pos (suc n)) e = omega arith
-some_abs (negsuc n) e = omega arith
-
-remainder_fits : (i j : ℤ) → FitsSigned w64 j → same_int j (pos 0) ≡ false → FitsSigned w64 (int_rem i j)
-remainder_fits i j f e =
-    let below = rem_below i j (some_abs j e) in
-    let most = abs_fits j f in
-    fits_signed_from_abs w64 (int_rem i j) (omega arith)
+use Rattle.separation_bounds.proofs.separation.Arithmetic.{fits_signed, remainder_fits, some_abs}
 
 abbrev pub GivesValue : Table → Store → ℕ → Operated → Type 0
 GivesValue tb s t (Is v) = IsWordOf tb s t (scalar_word v) v

@@ -350,7 +350,7 @@ none_left ps [] (suc i) h = entries_end ps
 none_left ps (y ∷ ys) zero h = absurd (omega arith)
 none_left ps (y ∷ ys) (suc i) h = none_left ps ys i (omega arith)
 
-and_none : (s : Scope) → s ++ [] ≡ s
+pub and_none : (s : Scope) → s ++ [] ≡ s
 and_none [] = refl
 and_none (e ∷ s) = ap (λ (r : Scope). e ∷ r) (and_none s)
 

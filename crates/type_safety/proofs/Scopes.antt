@@ -18,6 +18,7 @@ use Rattle.type_check.specs.World.{World, is_of, chosen, plain_type, fields_of, 
 use Rattle.type_check.specs.Typing.{bound_by, bound_by_all, IsPattern, ArePatterns, Annotated, Bind, parameter_entries}
 use Rattle.instance_semantics.specs.Matching.{matching, matching_all}
 use Rattle.instance_semantics.specs.Meaning.{bind_binders}
+pub use Rattle.type_check.proofs.Basics.{chosen_is}
 
 -- a value of the type is there
 abbrev pub Held : Table → Option Value → ℕ → Type 0
@@ -97,9 +98,6 @@ children_have w (suc t) c vs h = subst (λ ts. HaveTypes w.types ts vs) (sym (fi
 
 pub node_has : (w : World) (t c : ℕ) (s : Shape) (vs : Values) → slice_get (shapes w.types t) c ≡ Some s → HaveTypes w.types (fields_of w (suc t) c) vs → HasType w.types (suc t) (Node c vs)
 node_has w t c s vs e h = (s, e, subst (λ ts. HaveTypes w.types ts vs) (fields_are (shapes w.types t) c s e) h)
-
-pub chosen_is : (w : World) (t d : ℕ) → is_of w t d ≡ true → chosen w (Some (Some t)) d ≡ Some t
-chosen_is w t d e = ap (λ b. if b then Some t else plain_type w d) e
 
 pub bind_matched-append : (env : Environment) (as' bs : List Binding) → bind_matched env (as' ++ bs) ≡ bind_matched (bind_matched env as') bs
 bind_matched-append env [] bs = refl

@@ -41,7 +41,7 @@ count_join (More x xs) ys = let h = count_join xs ys in omega (arith, h)
 pub count_snoc : (xs : Values) (v : Value) → count_of (snoc xs v) ≡ suc (count_of xs)
 count_snoc xs v = let h = count_join xs (More v End) in omega (arith, h)
 
-join-end : (xs : Values) → join xs End ≡ xs
+pub join-end : (xs : Values) → join xs End ≡ xs
 join-end End = refl
 join-end (More x xs) = ap (More x) (join-end xs)
 

@@ -239,7 +239,7 @@ needed_on have free (suc j) fresh more needed' needed'' z le b n f m r =
       adds a t w v u s more needed' needed'' e f g h i j k l = omega (arith, e, f, g, h, i, j, k, l)
 
 -- the counts of the sizes of credits, one more
-count_most : (q : ℕ) (xs : List ℕ) → count q xs ≤ length xs
+pub count_most : (q : ℕ) (xs : List ℕ) → count q xs ≤ length xs
 count_most q [] = omega arith
 count_most q (x ∷ xs) = let h = count_most q xs in let o = at_most (nat_eq q x) in omega (arith, h, o) where
   at_most : (t : Bool) → (if t then 1 else 0) ≤ 1

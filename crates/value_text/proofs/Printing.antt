@@ -115,7 +115,7 @@ stand_length tb cs [] (MoreParts x xs) h = absurd h
 stand_length tb cs (k ∷ ks) NoParts h = absurd h
 stand_length tb cs (k ∷ ks) (MoreParts x xs) h = ap suc (stand_length tb cs ks xs h.1)
 
-last_fewer : (tb : Table) (cs : Cells) (k : ℕ) (ks : List ℕ) (p : ℕ) (c : Cell) (x : Placed) (xs : Parts) → AreLast tb cs (k ∷ ks) p c (MoreParts x xs) → (slice_get c.fields (length c.fields - suc (length ks)) ≡ Some (word_of x)) × AreLast tb cs ks p c xs × (suc (length ks) ≤ length c.fields)
+pub last_fewer : (tb : Table) (cs : Cells) (k : ℕ) (ks : List ℕ) (p : ℕ) (c : Cell) (x : Placed) (xs : Parts) → AreLast tb cs (k ∷ ks) p c (MoreParts x xs) → (slice_get c.fields (length c.fields - suc (length ks)) ≡ Some (word_of x)) × AreLast tb cs ks p c xs × (suc (length ks) ≤ length c.fields)
 last_fewer tb cs k ks p c x xs h =
     let d = drop_cons (length c.fields - suc (length ks)) c.fields (word_of x) (words_of xs) h.words in
     let lt = d.2 in
@@ -186,7 +186,7 @@ pub record IsNode (tb : Table) (cs : Cells) (ty p c : ℕ) (xs : Parts) : Type 0
   pub stand : StandAll tb cs s.fields xs
   pub text : (rest : List ℕ) → printed tb ty (Node c (values_of xs)) rest ≡ s.name ++ printed_fields tb s.fields (values_of xs) rest
 
-text_of : (tb : Table) (t c : ℕ) (s : Shape) (vs : Values) (rest : List ℕ) → slice_get (shapes tb t) c ≡ Some s → printed tb (suc t) (Node c vs) rest ≡ s.name ++ printed_fields tb s.fields vs rest
+pub text_of : (tb : Table) (t c : ℕ) (s : Shape) (vs : Values) (rest : List ℕ) → slice_get (shapes tb t) c ≡ Some s → printed tb (suc t) (Node c vs) rest ≡ s.name ++ printed_fields tb s.fields vs rest
 text_of tb t c s vs rest e = ap (λ (s : Shape). s.name ++ printed_fields tb s.fields vs rest) (shape_is (shapes tb t) c s e)
 
 pub node_of : (tb : Table) (cs : Cells) (ty p c : ℕ) (xs : Parts) → Stands tb cs ty (At p c xs) → IsNode tb cs ty p c xs

@@ -16,6 +16,7 @@ use Rattle.value_text.specs.Reading.{Pending, Outline, pending, pending_rows, Sp
 use Rattle.fip_base.specs.TableView.{fields_at}
 use Rattle.fip_language.proofs.Facts.{cons_head as head_same, cons_tail as tail_same}
 pub use Rattle.fip_language.proofs.Facts.{nonempty as some_open}
+use Rattle.value_text.proofs.Counted.{count_snoc as count_join}
 
 pub rows_push : (fs : List Frame) (f : Frame) → pending_rows (fs ++ f ∷ []) ≡ pending f ∷ pending_rows fs
 unfolding pending_rows
@@ -42,10 +43,6 @@ set_row (g ∷ h ∷ fs) (suc n) f l = ap (λ ps. ps ++ pending g ∷ []) (set_r
 pub rows_empty : pending_rows [] ≡ []
 unfolding pending_rows
 rows_empty = refl
-
-count_join : (xs : Values) (v : Value) → count_of (snoc xs v) ≡ suc (count_of xs)
-count_join End v = refl
-count_join (More x xs) v = ap suc (count_join xs v)
 
 abbrev pub outlined : Option ℕ → List Pending → List ℕ → Outline
 outlined n f l = record { next = n; frames = f; lines = l }

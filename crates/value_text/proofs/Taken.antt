@@ -14,16 +14,9 @@ use Rattle.value_text.specs.Loaded.{live_in, live, words_up_to, free_in}
 use Rattle.value_text.specs.Standing.{Holds, HoldAll}
 use Rattle.value_text.specs.Building.{IsMade, IsTaken}
 use Rattle.fip_language.proofs.Facts.{length_set as length-put}
-
--- one place or another
-pub one_here : (p : ℕ) → one_at p p ≡ 1
-one_here p = ap (λ (t : Bool). if t then 1 else 0) (eq-eqb p p refl)
-
-pub one_other : (q p : ℕ) → q ≢ p → one_at q p ≡ 0
-one_other q p n = by_test (nat_eq q p) refl where
-  by_test : (t : Bool) → nat_eq q p ≡ t → one_at q p ≡ 0
-  by_test true e = absurd (n (eqb-true q p e))
-  by_test false e = ap (λ (t : Bool). if t then 1 else 0) e
+use Rattle.cell_store.proofs.Freed.{free_gap as gap_free}
+use Rattle.cell_store.proofs.Marked.{none_past as gap}
+pub use Rattle.cell_store.proofs.Freed.{one_other, one_same as one_here}
 
 pub unlike_of : (q p : ℕ) → one_at q p ≡ 0 → q ≢ p
 unlike_of q p z e = let h = one_here p in let k : one_at q p ≡ one_at p p = ap (λ q. one_at q p) e in absurd (omega (arith, z, h, k))
@@ -37,11 +30,6 @@ pub record Sized (o : Option Cell) (n : ℕ) : Type 0 where
 some_size : (o : Option Cell) (n : ℕ) → option_map size_of o ≡ Some n → Sized o n
 some_size None n e = absurd (none-some n e)
 some_size (Some b) n e = record { cell = b; is = refl; size = cc }
-
-gap : (n q : ℕ) → cell_at (replicate n None) q ≡ None
-gap zero q = refl
-gap (suc n) zero = refl
-gap (suc n) (suc q) = gap n q
 
 append_here : (cs ds : Cells) (o : Option Cell) → cell_at (cs ++ o ∷ ds) (length cs) ≡ o
 append_here [] ds o = refl
@@ -75,10 +63,6 @@ append_live (o ∷ cs) (r ∷ rs) c n (suc q) e =
 past_dead : (cs : Cells) (r : Option Bool) → live_in (cell_at cs (length cs)) r ≡ 0
 past_dead [] r = refl
 past_dead (o ∷ cs) r = past_dead cs r
-
-gap_free : (k n : ℕ) → count_free k (replicate n None) (replicate n false) ≡ 0
-gap_free k zero = refl
-gap_free k (suc n) = gap_free k n
 
 -- a released cell served, or the cell took its words
 abbrev pub Served : Loading → Loading → Cell → Type 0

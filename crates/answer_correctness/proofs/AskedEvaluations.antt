@@ -16,13 +16,13 @@ use Rattle.command_answers.specs.command_library.command_words.Words.{Command, R
 use Rattle.command_answers.specs.command_library.command_outcome.declared.failure.Failure.TheVariants as F
 use Rattle.command_answers.specs.command_library.command_source.Wanted.{Wanted, Root, Compiled, Refuses, IsRoot, IsCompiled, IsReady}
 use Rattle.command_answers.proofs.command_library.command_source.Once.{refused_not_ready}
-use Rattle.command_answers.specs.command_library.command_eval.EvalAnswer.{Evaluates, Answered, Tells}
+use Rattle.command_answers.specs.command_library.command_eval.EvalAnswer.{Evaluates, Answered, Reports}
 use Rattle.command_answers.proofs.command_library.command_eval.Once.{evaluated_once}
 use Rattle.command_answers.specs.command_library.GenAnswer.{tree_source, build}
 use Rattle.command_answers.specs.command_library.MadeTree.{gen_input}
 use Rattle.command_answers.proofs.command_library.Short.{input_short}
 use Rattle.command_answers.specs.Answer.{ComesTo, OnFound}
-use Rattle.command_answers.specs.Asked.{Asked, answer_of, GivesWith, TrapsWith, Prints, TellsTrap, Suffices}
+use Rattle.command_answers.specs.Asked.{Asked, answer_of, GivesWith, TrapsWith, Prints, ReportsTrap, Suffices}
 use Rattle.command_answers.specs.Drawn.{drawn_text}
 use Rattle.command_answers.specs.Ends as A
 use Rattle.command_answers.specs.Ends.{Does, OnSource}
@@ -60,20 +60,20 @@ evaluates a files file calls frames e is h =
     done a.source a.input (Eval file a.name calls frames) (Root a.name) e (rooted a) is.short
     (subst (λ f. OnFound files a.input (Eval file a.name calls frames) f e) is.there h)
 
-told : (a : Asked) (calls frames : ℕ) (x : Answer) (e f : End) → answer_of a calls frames ≡ x → Tells a.program.types (a.rooted).root.results calls frames x f → Evaluates a.source a.name a.input calls frames e → e ≡ f
-told a calls frames x e f is tells h =
+reported : (a : Asked) (calls frames : ℕ) (x : Answer) (e f : End) → answer_of a calls frames ≡ x → Reports a.program.types (a.rooted).root.results calls frames x f → Evaluates a.source a.name a.input calls frames e → e ≡ f
+reported a calls frames x e f is reports h =
     let meant = sym (means a calls frames) ∙ is in
     evaluated_once a.source a.name a.input calls frames e f h
-    (Answered (entry a) a.arguments f a.spelt (subst (λ (y : Answer). Tells a.program.types (a.rooted).root.results calls frames y f) (sym meant) tells))
+    (Answered (entry a) a.arguments f a.spelt (subst (λ (y : Answer). Reports a.program.types (a.rooted).root.results calls frames y f) (sym meant) reports))
 
 pub eval_prints : (a : Asked) (files : List File) (file : List ℕ) (calls least frames : ℕ) (vs : Values) (e : End) → IsEvaluated a files file → GivesWith a calls least vs → least ≤ frames → ComesTo files a.input (Eval file a.name calls frames) e → Prints a vs e
 eval_prints a files file calls least frames vs e is gives enough h =
     let g = gives frames enough in
-    told a calls frames (Gives vs g.left) e (Ok (printed_lines a.program.types (a.rooted).root.results vs)) g.is refl (evaluates a files file calls frames e is h)
+    reported a calls frames (Gives vs g.left) e (Ok (printed_lines a.program.types (a.rooted).root.results vs)) g.is refl (evaluates a files file calls frames e is h)
 
-pub eval_traps : (a : Asked) (files : List File) (file : List ℕ) (calls least frames : ℕ) (kind : TrapKind) (line col : ℕ) (e : End) → IsEvaluated a files file → TrapsWith a calls least kind line col → least ≤ frames → ComesTo files a.input (Eval file a.name calls frames) e → TellsTrap kind line col e
+pub eval_traps : (a : Asked) (files : List File) (file : List ℕ) (calls least frames : ℕ) (kind : TrapKind) (line col : ℕ) (e : End) → IsEvaluated a files file → TrapsWith a calls least kind line col → least ≤ frames → ComesTo files a.input (Eval file a.name calls frames) e → ReportsTrap kind line col e
 eval_traps a files file calls least frames kind line col e is traps enough h =
-    told a calls frames (Trap kind line col) e (Err (F.Trap kind line col)) (traps frames enough) refl (evaluates a files file calls frames e is h)
+    reported a calls frames (Trap kind line col) e (Err (F.Trap kind line col)) (traps frames enough) refl (evaluates a files file calls frames e is h)
 
 -- ---- exec
 
@@ -86,15 +86,15 @@ executes a files r e is h =
 pub comes_to_values : (a : Asked) (files : List File) (r : Request) (least : ℕ) (vs : Values) (e : End) → IsExecuted a files r → GivesWith a r.room.calls least vs → Suffices a least r.room → ComesTo files a.input (Exec r) e → Prints a vs e
 comes_to_values a files r least vs e is gives enough h = exec_prints a r.room least vs e gives enough (executes a files r e is h)
 
-pub comes_to_a_trap : (a : Asked) (files : List File) (r : Request) (least : ℕ) (kind : TrapKind) (line col : ℕ) (e : End) → IsExecuted a files r → TrapsWith a r.room.calls least kind line col → Suffices a least r.room → ComesTo files a.input (Exec r) e → TellsTrap kind line col e
+pub comes_to_a_trap : (a : Asked) (files : List File) (r : Request) (least : ℕ) (kind : TrapKind) (line col : ℕ) (e : End) → IsExecuted a files r → TrapsWith a r.room.calls least kind line col → Suffices a least r.room → ComesTo files a.input (Exec r) e → ReportsTrap kind line col e
 comes_to_a_trap a files r least kind line col e is traps enough h = exec_traps a r.room least kind line col e traps enough (executes a files r e is h)
 
 -- ---- gen
 
-told_of_keys : (seed count : ℕ) (e : End) → length (gen_input seed count) ≤ MOST_FILE_BYTES → Generates seed count e → (e ≡ Ok (drawn_text seed count)) ⊎ ((r : Refusal) × Refuses tree_source (Compiled build) r × (e ≡ Err (F.Refused r)))
-told_of_keys seed count _ short (G.Refused r h) = inr (r, h, refl)
-told_of_keys seed count _ short (G.LongInput ready more) = absurd (omega (arith, more, short))
-told_of_keys seed count _ short (G.Drawn ready few) = inl refl
+reported_of_keys : (seed count : ℕ) (e : End) → length (gen_input seed count) ≤ MOST_FILE_BYTES → Generates seed count e → (e ≡ Ok (drawn_text seed count)) ⊎ ((r : Refusal) × Refuses tree_source (Compiled build) r × (e ≡ Err (F.Refused r)))
+reported_of_keys seed count _ short (G.Refused r h) = inr (r, h, refl)
+reported_of_keys seed count _ short (G.LongInput ready more) = absurd (omega (arith, more, short))
+reported_of_keys seed count _ short (G.Drawn ready few) = inl refl
 
-pub gen_tells : (files : List File) (input : List ℕ) (seed count : ℕ) (e : End) → count ≤ 100000 → ComesTo files input (Gen seed count) e → (e ≡ Ok (drawn_text seed count)) ⊎ ((r : Refusal) × Refuses tree_source (Compiled build) r × (e ≡ Err (F.Refused r)))
-gen_tells files input seed count e few h = told_of_keys seed count e (input_short seed count few) h
+pub gen_reports : (files : List File) (input : List ℕ) (seed count : ℕ) (e : End) → count ≤ 100000 → ComesTo files input (Gen seed count) e → (e ≡ Ok (drawn_text seed count)) ⊎ ((r : Refusal) × Refuses tree_source (Compiled build) r × (e ≡ Err (F.Refused r)))
+gen_reports files input seed count e few h = reported_of_keys seed count e (input_short seed count few) h

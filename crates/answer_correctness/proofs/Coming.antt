@@ -1,4 +1,4 @@
--- What a command comes to: by the constructors of what it does, behind the file that it fetches.
+-- What a command comes to: by the constructors of what it does, after the file that it fetches.
 use Rattle.std.proofs.Common.{◌≡◌, ◌<◌, ℕ, List, Some, None, refl, sym, subst, inl, length}
 use Rattle.std.specs.Prelude.{Option, Err}
 use Rattle.command_answers.specs.command_library.fip_language.declared.limits.TheConstants.{MOST_SOURCE_BYTES}

@@ -7,7 +7,7 @@ use Rattle.worked_examples.specs.instance_semantics.Meaning.{flat_meaning}
 use Rattle.worked_examples.specs.instance_semantics.Example.{lists}
 use Rattle.command_answers.specs.command_library.command_outcome.Successes.{tree_text}
 use Rattle.command_answers.specs.command_library.command_outcome.declared.failure.Failure.TheVariants as F
-use Rattle.command_answers.specs.Exec.{TellsAll}
+use Rattle.command_answers.specs.Exec.{ReportsAll}
 use Rattle.command_answers.specs.command_library.MadeTree.{keys_line, pads_line, lines_of_tree}
 use Rattle.answer_correctness.specs.Example.{three_keys, three_items, reversing, four_lines, increasing, increased_lines, cons, nil}
 use Rattle.answer_correctness.specs.Example.{weakened, weakened_in_vain, weakened_twice}
@@ -15,26 +15,26 @@ use Rattle.command_answers.specs.command_source.derivation_making.Weakening.{IsL
 use Rattle.worked_examples.specs.source_report.ownership_calculus.Terms.{Own}
 
 pub rev_prints :
-    TellsAll reversing three_items 1000 0 true (flat_meaning lists 0 three_items 1000 0) (Ok four_lines)
+    ReportsAll reversing three_items 1000 0 true (flat_meaning lists 0 three_items 1000 0) (Ok four_lines)
 unfolding flat_meaning
 rev_prints = refl
 
-pub rev_has_calls : TellsAll reversing three_items 4 0 true (flat_meaning lists 0 three_items 4 0) (Ok four_lines)
+pub rev_has_calls : ReportsAll reversing three_items 4 0 true (flat_meaning lists 0 three_items 4 0) (Ok four_lines)
 unfolding flat_meaning
 rev_has_calls = refl
 
-pub rev_is_out : TellsAll reversing three_items 3 0 true (flat_meaning lists 0 three_items 3 0) (Err (F.OutOfCalls 3))
+pub rev_is_out : ReportsAll reversing three_items 3 0 true (flat_meaning lists 0 three_items 3 0) (Err (F.OutOfCalls 3))
 unfolding flat_meaning
 rev_is_out = refl
 
 pub inc_prints :
-    TellsAll increasing (More (cons 1 nil) End) 1000 10 true (flat_meaning lists 1 (More (cons 1 nil) End) 1000 10)
+    ReportsAll increasing (More (cons 1 nil) End) 1000 10 true (flat_meaning lists 1 (More (cons 1 nil) End) 1000 10)
     (Ok increased_lines)
 unfolding flat_meaning
 inc_prints = refl
 
 pub inc_is_deep :
-    TellsAll increasing (More (cons 1 nil) End) 1000 0 true (flat_meaning lists 1 (More (cons 1 nil) End) 1000 0)
+    ReportsAll increasing (More (cons 1 nil) End) 1000 0 true (flat_meaning lists 1 (More (cons 1 nil) End) 1000 0)
     (Err (F.OutOfFrames 0))
 unfolding flat_meaning
 inc_is_deep = refl

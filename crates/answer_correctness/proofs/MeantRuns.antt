@@ -1,6 +1,6 @@
--- What `run` tells of the file of a code is what `exec` tells of the source of which it is the code, by what is asked of a
+-- What `run` reports of the file of a code is what `exec` reports of the source of which it is the code, by what is asked of a
 -- code alone.
--- The idea: `run` tells one thing, wherever the cells of the arguments lie; so the run may be that from the state in which
+-- The idea: `run` reports one thing, wherever the cells of the arguments lie; so the run may be that from the state in which
 -- they are loaded, which ends as the program means, with its peak; and its cells are counted by trees, as of every sound
 -- code.
 use Rattle.std.proofs.Common.{◌≡◌, ◌∙◌, ◌<◌, ◌≤◌, ◌+◌, ℕ, Bool, true, List, [], ◌∷◌, ◌++◌, length, map, Some, slice_get, refl, sym, ap, subst, arith}
@@ -54,13 +54,13 @@ use Rattle.command_answers.specs.command_library.command_source.ProgramCode as P
 use Rattle.command_answers.specs.command_library.command_eval.EvalAnswer.{Entry}
 use Rattle.command_answers.proofs.command_library.command_eval.Meant.{typed_of}
 use Rattle.command_answers.specs.command_library.command_run.CodeRun as D
-use Rattle.command_answers.specs.command_library.command_run.CodeRun.{Chosen, RunsCode, TellsCode, all_seen, words_for}
+use Rattle.command_answers.specs.command_library.command_run.CodeRun.{Chosen, RunsCode, ReportsCode, all_seen, words_for}
 use Rattle.command_answers.specs.command_library.command_run.ExecAnswer.{IsBoundOf}
 use Rattle.command_answers.specs.command_library.command_run.GaugeText.{gauge_by_states, highest_stack, if_asked}
 use Rattle.command_answers.proofs.command_library.command_run.CodeOnce.{code_run_once, long}
 use Rattle.command_answers.proofs.command_library.command_run.Entry.{IsRootAt, root_at}
 use Rattle.command_answers.specs.Exec as X
-use Rattle.command_answers.specs.Exec.{End as Told, Start, Execs, Running, TellsRun, gauge_by_trees, stack_of_peak}
+use Rattle.command_answers.specs.Exec.{End as Reported, Start, Execs, Running, ReportsRun, gauge_by_trees, stack_of_peak}
 use Rattle.command_answers.proofs.command_library.command_run.source_report.Once.{accepted_once}
 use Rattle.command_answers.proofs.ByTrees.{gauge_is}
 use Rattle.command_answers.proofs.OneCode.{code_same}
@@ -73,34 +73,34 @@ headers_view : (fs : List F.PlainFunction) → map plain_header (map sound_funct
 headers_view [] = refl
 headers_view (f ∷ fs) = ap (λ hs. P.plain_header f ∷ hs) (headers_view fs)
 
--- an end, told by the code and by trees
-told_both : (r : Running) (vs : Values) (calls frames : ℕ) (gauge : Bool) (peak : Peak) (behind : List ℕ) (last : State) (left : ℕ) (end : End) (a : Answer) → ((us : Values) (k : ℕ) (ws : List ℕ) → a ≡ Gives us k → end ≡ C.Value ws → AreWordsOf r.types last.store (r.instance).results ws us → behind ≡ if_asked gauge (gauge_by_trees r vs us peak)) → IsSameEnd r.types (r.instance).results last left end a → (e : Told) × TellsCode r.types (r.instance).results calls frames behind last end e × TellsRun r vs calls frames gauge peak a e
-told_both r vs calls frames gauge peak behind last left (C.Value ws) (Gives us k) same h =
-    (Ok (printed_lines r.types (r.instance).results us ++ behind), (us, h.0, refl), ap (λ text. Ok (printed_lines r.types (r.instance).results us ++ text)) (same us k ws refl refl h.0))
-told_both r vs calls frames gauge peak behind last left (C.Value ws) (Trap kind line col) same h = absurd h
-told_both r vs calls frames gauge peak behind last left (C.Value ws) Out same h = absurd h
-told_both r vs calls frames gauge peak behind last left (C.Value ws) Deep same h = absurd h
-told_both r vs calls frames gauge peak behind last left (C.Value ws) Stuck same h = absurd h
-told_both r vs calls frames gauge peak behind last left (C.Trap kind line col) (Gives us k) same h = absurd h
-told_both r vs calls frames gauge peak behind last left (C.Trap kind line col) (Trap other row at) same h = (Err (O.Trap kind line col), refl, λ i. Err (O.Trap (h.0 i) (h.1 i) (h.2 i)))
-told_both r vs calls frames gauge peak behind last left (C.Trap kind line col) Out same h = absurd h
-told_both r vs calls frames gauge peak behind last left (C.Trap kind line col) Deep same h = absurd h
-told_both r vs calls frames gauge peak behind last left (C.Trap kind line col) Stuck same h = absurd h
-told_both r vs calls frames gauge peak behind last left C.Out (Gives us k) same h = absurd h
-told_both r vs calls frames gauge peak behind last left C.Out (Trap kind line col) same h = absurd h
-told_both r vs calls frames gauge peak behind last left C.Out Out same h = (Err (O.OutOfCalls calls), refl, refl)
-told_both r vs calls frames gauge peak behind last left C.Out Deep same h = absurd h
-told_both r vs calls frames gauge peak behind last left C.Out Stuck same h = absurd h
-told_both r vs calls frames gauge peak behind last left C.Deep (Gives us k) same h = absurd h
-told_both r vs calls frames gauge peak behind last left C.Deep (Trap kind line col) same h = absurd h
-told_both r vs calls frames gauge peak behind last left C.Deep Out same h = absurd h
-told_both r vs calls frames gauge peak behind last left C.Deep Deep same h = (Err (O.OutOfFrames frames), refl, refl)
-told_both r vs calls frames gauge peak behind last left C.Deep Stuck same h = absurd h
-told_both r vs calls frames gauge peak behind last left C.Unsound (Gives us k) same h = absurd h
-told_both r vs calls frames gauge peak behind last left C.Unsound (Trap kind line col) same h = absurd h
-told_both r vs calls frames gauge peak behind last left C.Unsound Out same h = absurd h
-told_both r vs calls frames gauge peak behind last left C.Unsound Deep same h = absurd h
-told_both r vs calls frames gauge peak behind last left C.Unsound Stuck same h = absurd h
+-- an end, reported by the code and by trees
+reported_both : (r : Running) (vs : Values) (calls frames : ℕ) (gauge : Bool) (peak : Peak) (following : List ℕ) (last : State) (left : ℕ) (end : End) (a : Answer) → ((us : Values) (k : ℕ) (ws : List ℕ) → a ≡ Gives us k → end ≡ C.Value ws → AreWordsOf r.types last.store (r.instance).results ws us → following ≡ if_asked gauge (gauge_by_trees r vs us peak)) → IsSameEnd r.types (r.instance).results last left end a → (e : Reported) × ReportsCode r.types (r.instance).results calls frames following last end e × ReportsRun r vs calls frames gauge peak a e
+reported_both r vs calls frames gauge peak following last left (C.Value ws) (Gives us k) same h =
+    (Ok (printed_lines r.types (r.instance).results us ++ following), (us, h.0, refl), ap (λ text. Ok (printed_lines r.types (r.instance).results us ++ text)) (same us k ws refl refl h.0))
+reported_both r vs calls frames gauge peak following last left (C.Value ws) (Trap kind line col) same h = absurd h
+reported_both r vs calls frames gauge peak following last left (C.Value ws) Out same h = absurd h
+reported_both r vs calls frames gauge peak following last left (C.Value ws) Deep same h = absurd h
+reported_both r vs calls frames gauge peak following last left (C.Value ws) Stuck same h = absurd h
+reported_both r vs calls frames gauge peak following last left (C.Trap kind line col) (Gives us k) same h = absurd h
+reported_both r vs calls frames gauge peak following last left (C.Trap kind line col) (Trap other row at) same h = (Err (O.Trap kind line col), refl, λ i. Err (O.Trap (h.0 i) (h.1 i) (h.2 i)))
+reported_both r vs calls frames gauge peak following last left (C.Trap kind line col) Out same h = absurd h
+reported_both r vs calls frames gauge peak following last left (C.Trap kind line col) Deep same h = absurd h
+reported_both r vs calls frames gauge peak following last left (C.Trap kind line col) Stuck same h = absurd h
+reported_both r vs calls frames gauge peak following last left C.Out (Gives us k) same h = absurd h
+reported_both r vs calls frames gauge peak following last left C.Out (Trap kind line col) same h = absurd h
+reported_both r vs calls frames gauge peak following last left C.Out Out same h = (Err (O.OutOfCalls calls), refl, refl)
+reported_both r vs calls frames gauge peak following last left C.Out Deep same h = absurd h
+reported_both r vs calls frames gauge peak following last left C.Out Stuck same h = absurd h
+reported_both r vs calls frames gauge peak following last left C.Deep (Gives us k) same h = absurd h
+reported_both r vs calls frames gauge peak following last left C.Deep (Trap kind line col) same h = absurd h
+reported_both r vs calls frames gauge peak following last left C.Deep Out same h = absurd h
+reported_both r vs calls frames gauge peak following last left C.Deep Deep same h = (Err (O.OutOfFrames frames), refl, refl)
+reported_both r vs calls frames gauge peak following last left C.Deep Stuck same h = absurd h
+reported_both r vs calls frames gauge peak following last left C.Unsound (Gives us k) same h = absurd h
+reported_both r vs calls frames gauge peak following last left C.Unsound (Trap kind line col) same h = absurd h
+reported_both r vs calls frames gauge peak following last left C.Unsound Out same h = absurd h
+reported_both r vs calls frames gauge peak following last left C.Unsound Deep same h = absurd h
+reported_both r vs calls frames gauge peak following last left C.Unsound Stuck same h = absurd h
 
 module _ (source name bytes : List ℕ) (y : Entry source name) (x : Chosen bytes name) (h : IsCodeOf y.program x.code) where
   abbrev c : PlainCode
@@ -145,7 +145,7 @@ module _ (source name bytes : List ℕ) (y : Entry source name) (x : Chosen byte
   bound ms found i m at there = has_once c x.number x.held m.stack x.stack (h.stacks ms found i x.number m (number i at) there)
 
   abbrev start_of : Start source name
-  start_of = record { entry = y; members = h.members; found = h.found; bound = x.held; told = bound }
+  start_of = record { entry = y; members = h.members; found = h.found; bound = x.held; reported = bound }
 
   abbrev of_root : Running
   of_root = X.running start_of
@@ -246,49 +246,49 @@ module _ (source name bytes : List ℕ) (y : Entry source name) (x : Chosen byte
     abbrev lines : List ℕ
     lines = if_asked gauge (gauge_by_states (all_seen run) x.held)
 
-    both : (e : Told) × TellsCode p.types d.results room.calls frames lines ends.last ends.end e × TellsRun of_root vs room.calls frames gauge meant.peak meant.answer e
+    both : (e : Reported) × ReportsCode p.types d.results room.calls frames lines ends.last ends.end e × ReportsRun of_root vs room.calls frames gauge meant.peak meant.answer e
     both =
-        told_both of_root vs room.calls frames gauge meant.peak lines ends.last ends.left ends.end meant.answer
+        reported_both of_root vs room.calls frames gauge meant.peak lines ends.last ends.left ends.end meant.answer
         (λ us k ws gives is are. ap (if_asked gauge) (gauge_is of_root vs us meant.peak (all_seen run) (measured us ws is
         (subst (λ tb. AreWordsOf tb (ends.last).store (results c n) ws us) (sym h.types)
         (subst (λ ts. AreWordsOf p.types (ends.last).store ts ws us) (sym (ap results_of x.there ∙ results_same)) are)))))
         same_end
 
-    -- one thing is told of the file and of the source
-    pub ran : words_for vs (x.function).credits ≤ room.words → (e : Told) × RunsCode bytes name input room gauge e × Execs source name input room gauge e
+    -- one thing is reported of the file and of the source
+    pub ran : words_for vs (x.function).credits ≤ room.words → (e : Reported) × RunsCode bytes name input room gauge e × Execs source name input room gauge e
     ran fits =
         let e = both.0 in
-        let told : D.TellsOf x vs room run gauge e =
-        subst (λ tb. TellsCode tb (x.function).results room.calls frames lines ends.last ends.end e) (sym h.types)
-        (subst (λ ts. TellsCode p.types ts room.calls frames lines ends.last ends.end e) (sym results_same) both.1) in
-        let by_source : X.TellsAll of_root vs room.calls frames gauge (meaning y.core name NoClosed vs room.calls frames) e = subst (λ (m : Run). X.TellsAll of_root vs room.calls frames gauge m e) meant_same both.2 in
+        let reported : D.ReportsOf x vs room run gauge e =
+        subst (λ tb. ReportsCode tb (x.function).results room.calls frames lines ends.last ends.end e) (sym h.types)
+        (subst (λ ts. ReportsCode p.types ts room.calls frames lines ends.last ends.end e) (sym results_same) both.1) in
+        let by_source : X.ReportsAll of_root vs room.calls frames gauge (meaning y.core name NoClosed vs room.calls frames) e = subst (λ (m : Run). X.ReportsAll of_root vs room.calls frames gauge m e) meant_same both.2 in
         let words = words_same vs in
-        (e, D.Ran x vs run e spelt fits told, X.Ran start_of vs e (spells_same (λ tb ks. SpellsValues tb ks input vs) spelt) (omega (arith, fits, words)) by_source)
+        (e, D.Ran x vs run e spelt fits reported, X.Ran start_of vs e (spells_same (λ tb ks. SpellsValues tb ks input vs) spelt) (omega (arith, fits, words)) by_source)
 
 -- a source is run by one entry of the name
-entry_in : (source name input : List ℕ) (room : Room) (gauge : Bool) (d : Told) → Execs source name input room gauge d → Entry source name
+entry_in : (source name input : List ℕ) (room : Room) (gauge : Bool) (d : Reported) → Execs source name input room gauge d → Entry source name
 entry_in source name input room gauge d (X.Misspelt y at place) = y
 entry_in source name input room gauge d (X.Small y vs spelt less) = y
-entry_in source name input room gauge d (X.Ran s vs e spelt fits told) = s.entry
+entry_in source name input room gauge d (X.Ran s vs e spelt fits reported) = s.entry
 
 module _ (source name bytes input : List ℕ) (room : Room) (gauge : Bool) (y : Entry source name) (code : F.PlainCode) (h : IsCodeOf y.program code) (file : IsSoundFile bytes code) where
   code_in : (z : Chosen bytes name) → IsCodeOf y.program z.code
   code_in z = subst (IsCodeOf y.program) (code_same bytes code z.code file.spelt (z.file).spelt) h
 
-  told_once : (d e : Told) → Execs source name input room gauge d → RunsCode bytes name input room gauge e → d ≡ e
-  told_once d _ k (D.Misspelt z at place) =
+  reported_once : (d e : Reported) → Execs source name input room gauge d → RunsCode bytes name input room gauge e → d ≡ e
+  reported_once d _ k (D.Misspelt z at place) =
       trees_once source name input room gauge d (Err (O.BadInput at)) k
       (X.Misspelt y at (spells_same source name bytes y z (code_in z) (λ tb ks. IsPlace (SpellsValues tb ks) input at) place))
-  told_once d _ k (D.Small z vs spelt less) =
+  reported_once d _ k (D.Small z vs spelt less) =
       let words = words_same source name bytes y z (code_in z) vs in
       trees_once source name input room gauge d (Err (O.TooSmall (X.words_of y vs) room.words)) k
       (X.Small y vs (spells_same source name bytes y z (code_in z) (λ tb ks. SpellsValues tb ks input vs) spelt) (omega (arith, less, words)))
       ∙ ap (λ n. Err (O.TooSmall n room.words)) (sym words)
-  told_once d e k (D.Ran z vs r _ spelt fits told) =
+  reported_once d e k (D.Ran z vs r _ spelt fits reported) =
       let b = ran source name bytes y z (code_in z) input room gauge vs spelt fits in
-      trees_once source name input room gauge d b.0 k b.2 ∙ code_run_once bytes name input room gauge b.0 e b.1 (D.Ran z vs r e spelt fits told)
+      trees_once source name input room gauge d b.0 k b.2 ∙ code_run_once bytes name input room gauge b.0 e b.1 (D.Ran z vs r e spelt fits reported)
 
-pub runs_as_its_source : (source bytes name input : List ℕ) (room : Room) (gauge : Bool) (p : Program) (code : F.PlainCode) (d e : Told) → IsAccepted source p → IsCodeOf p code → IsSoundFile bytes code → Execs source name input room gauge d → RunsCode bytes name input room gauge e → d ≡ e
+pub runs_as_its_source : (source bytes name input : List ℕ) (room : Room) (gauge : Bool) (p : Program) (code : F.PlainCode) (d e : Reported) → IsAccepted source p → IsCodeOf p code → IsSoundFile bytes code → Execs source name input room gauge d → RunsCode bytes name input room gauge e → d ≡ e
 runs_as_its_source source bytes name input room gauge p code d e accepted h file k r =
     let y = entry_in source name input room gauge d k in
-    told_once source name bytes input room gauge y code (subst (λ (q : Program). IsCodeOf q code) (accepted_once source p y.program accepted y.accepted) h) file d e k r
+    reported_once source name bytes input room gauge y code (subst (λ (q : Program). IsCodeOf q code) (accepted_once source p y.program accepted y.accepted) h) file d e k r

@@ -1,4 +1,4 @@
--- Two answers of the same words are alike, but where an end isn't one, or memory was wanting.
+-- Two answers of the same words are alike, but where an end isn't one, or memory ran out.
 use Rattle.std.proofs.Common.{◌≡◌, ◌≢◌, ◌∙◌, inl, inr, ℕ, List, Option, Some, None, sym, ap, subst}
 use Rattle.std.specs.Prelude.{◌⊎◌, Ok, Err}
 use Rattle.std.specs.Io.KnownBytes.{Appends}
@@ -11,7 +11,7 @@ use Rattle.command_answers.proofs.OneCommand.{command_once}
 use Rattle.command_answers.proofs.OneEnd.{comes_once}
 use Rattle.answer_correctness.specs.Alike.{Finds, AreAlike}
 
--- behind known bytes the same text makes the same
+-- after known bytes the same text makes the same
 grown : (old text : List ℕ) (a b : Option (List ℕ)) → Appends (Some old) a text → Appends (Some old) b text → a ≡ b
 grown old text None b h k = absurd h
 grown old text (Some xs) None h k = absurd k

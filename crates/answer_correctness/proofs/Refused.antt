@@ -10,10 +10,10 @@ use Rattle.command_answers.specs.Ends as A
 use Rattle.command_answers.specs.Ends.{OnSource}
 use Rattle.command_answers.specs.Exec.{End}
 
-pub refused_is_told : (source input : List ℕ) (c : Command) (w : Wanted) (r : Refusal)
+pub refused_is_reported : (source input : List ℕ) (c : Command) (w : Wanted) (r : Refusal)
     (e : End) → Refuses source w r → OnSource source input c w e → e ≡ Err (F.Refused r)
-refused_is_told source input c w r _ h (A.Refused q k) =
+refused_is_reported source input c w r _ h (A.Refused q k) =
     ap (λ x. Err (F.Refused x)) (refused_once source w q r k h)
-refused_is_told source input c w r _ h (A.LongInput ready reads long) =
+refused_is_reported source input c w r _ h (A.LongInput ready reads long) =
     absurd (refused_not_ready source w r h ready)
-refused_is_told source input c w r _ h (A.Ready e ready taken does) = absurd (refused_not_ready source w r h ready)
+refused_is_reported source input c w r _ h (A.Ready e ready taken does) = absurd (refused_not_ready source w r h ready)

@@ -53,10 +53,10 @@ module _ (files : List File) (input : List ℕ) (h : Host) where
   alone : (status : ℕ) (text : List ℕ) → (status ≡ 0 → ⊥) → IsAlone files status text h → h.status ≡ 0 → h.err' ≡ h.err
   alone status text bad a good = absurd (bad (sym a.ended ∙ good))
 
-  pub nothing_told : (words : List (List ℕ)) → Answered words files input h → h.status ≡ 0 → h.err' ≡ h.err
-  nothing_told words (inl a) good = alone 10 _ (λ e. absurd cc) a good
-  nothing_told words (inr (inl a)) good = alone 2 _ (λ e. absurd cc) a.1 good
-  nothing_told words (inr (inr a)) good = end_done a.2.end good a.2.shown
+  pub nothing_reported : (words : List (List ℕ)) → Answered words files input h → h.status ≡ 0 → h.err' ≡ h.err
+  nothing_reported words (inl a) good = alone 10 _ (λ e. absurd cc) a good
+  nothing_reported words (inr (inl a)) good = alone 2 _ (λ e. absurd cc) a.1 good
+  nothing_reported words (inr (inr a)) good = end_done a.2.end good a.2.shown
 
   pub unknown_words : (words : List (List ℕ)) → IsNoCommand words → Answered words files input h → (h.status ≡ 10) ⊎ (h.status ≡ 2)
   unknown_words words none (inl a) = inl a.ended

@@ -32,7 +32,7 @@ use Rattle.command_answers.proofs.command_library.value_text.Typed.{input_typed}
 use Rattle.command_answers.specs.command_library.command_source.Codes.{sound_view, IsSoundFile, has_named, names_one, HasFunction}
 use Rattle.command_answers.proofs.command_library.command_run.FileTypes.{file_spelt}
 use Rattle.command_answers.proofs.command_library.command_run.RunTables.{tables, sound_table, params_known}
-use Rattle.command_answers.specs.command_library.command_run.CodeRun.{Chosen, SpellsFor, RunOf, frames_for, words_of, all_seen, TellsCode, RunsCode, Misspelt, Small, Ran}
+use Rattle.command_answers.specs.command_library.command_run.CodeRun.{Chosen, SpellsFor, RunOf, frames_for, words_of, all_seen, ReportsCode, RunsCode, Misspelt, Small, Ran}
 use Rattle.command_answers.specs.command_library.command_run.GaugeText.{gauge_by_states, if_asked}
 use Rattle.command_answers.specs.command_library.run_loading.Loading.{first_store, first_words}
 use Rattle.command_answers.proofs.command_library.separation.Loading.{loaded_is}
@@ -72,22 +72,22 @@ chosen bytes (b ∷ name) code file e none =
       stack = stack;
     }))
 
--- ---- what is told
+-- ---- what is reported
 
-tells : (tb : Table) (results : List ℕ) (calls frames : ℕ) (behind : List ℕ) (last : State) (end : R.End) (left : ℕ) (a : M.Answer) → A.IsSameEnd tb results last left end a → (e : End) × TellsCode tb results calls frames behind last end e
-tells tb results calls frames behind last (R.Value ws) left (M.Gives us l) h = (Ok (printed_lines tb results us ++ behind), (us, h.0, refl))
-tells tb results calls frames behind last (R.Value ws) left (M.Trap k line col) h = absurd h
-tells tb results calls frames behind last (R.Value ws) left M.Out h = absurd h
-tells tb results calls frames behind last (R.Value ws) left M.Deep h = absurd h
-tells tb results calls frames behind last (R.Value ws) left M.Stuck h = absurd h
-tells tb results calls frames behind last (R.Trap k line col) left a h = (Err (F.Trap k line col), refl)
-tells tb results calls frames behind last R.Out left a h = (Err (F.OutOfCalls calls), refl)
-tells tb results calls frames behind last R.Deep left a h = (Err (F.OutOfFrames frames), refl)
-tells tb results calls frames behind last R.Unsound left (M.Gives us l) h = absurd h
-tells tb results calls frames behind last R.Unsound left (M.Trap k line col) h = absurd h
-tells tb results calls frames behind last R.Unsound left M.Out h = absurd h
-tells tb results calls frames behind last R.Unsound left M.Deep h = absurd h
-tells tb results calls frames behind last R.Unsound left M.Stuck h = absurd h
+reports : (tb : Table) (results : List ℕ) (calls frames : ℕ) (following : List ℕ) (last : State) (end : R.End) (left : ℕ) (a : M.Answer) → A.IsSameEnd tb results last left end a → (e : End) × ReportsCode tb results calls frames following last end e
+reports tb results calls frames following last (R.Value ws) left (M.Gives us l) h = (Ok (printed_lines tb results us ++ following), (us, h.0, refl))
+reports tb results calls frames following last (R.Value ws) left (M.Trap k line col) h = absurd h
+reports tb results calls frames following last (R.Value ws) left M.Out h = absurd h
+reports tb results calls frames following last (R.Value ws) left M.Deep h = absurd h
+reports tb results calls frames following last (R.Value ws) left M.Stuck h = absurd h
+reports tb results calls frames following last (R.Trap k line col) left a h = (Err (F.Trap k line col), refl)
+reports tb results calls frames following last R.Out left a h = (Err (F.OutOfCalls calls), refl)
+reports tb results calls frames following last R.Deep left a h = (Err (F.OutOfFrames frames), refl)
+reports tb results calls frames following last R.Unsound left (M.Gives us l) h = absurd h
+reports tb results calls frames following last R.Unsound left (M.Trap k line col) h = absurd h
+reports tb results calls frames following last R.Unsound left M.Out h = absurd h
+reports tb results calls frames following last R.Unsound left M.Deep h = absurd h
+reports tb results calls frames following last R.Unsound left M.Stuck h = absurd h
 
 -- ---- the run
 
@@ -120,8 +120,8 @@ runs bytes name input room gauge c vs spelt fits =
       steps = over.3;
       ends = over.4;
     } in
-    let told = tells code.types f.results room.calls frames (if_asked gauge (gauge_by_states (all_seen r) c.held)) over.1 over.0 over.2 trees.0 (subst (λ ts. A.IsSameEnd code.types ts over.1 over.2 over.0 trees.0) (results_are code c.number f c.there) trees.3) in
-    (told.0, Ran c vs r told.0 spelt fits told.1)
+    let reported = reports code.types f.results room.calls frames (if_asked gauge (gauge_by_states (all_seen r) c.held)) over.1 over.0 over.2 trees.0 (subst (λ ts. A.IsSameEnd code.types ts over.1 over.2 over.0 trees.0) (results_are code c.number f c.there) trees.3) in
+    (reported.0, Ran c vs r reported.0 spelt fits reported.1)
 
 by_tables : (bytes name input : List ℕ) (room : Room) (gauge : Bool) (c : Chosen bytes name) → AreSoundTables (sound_view c.code) → ((e : End) → RunsCode bytes name input room gauge e → ⊥) → ⊥
 by_tables bytes name input room gauge c t none = by (P.run (step tb) (final tb) (start ks) input 0) refl

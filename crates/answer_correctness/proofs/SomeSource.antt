@@ -36,7 +36,7 @@ use Rattle.command_answers.specs.command_library.command_source.Roots.{root_name
 use Rattle.command_answers.specs.command_library.command_source.Wanted.{Lawful, Root, Compiled, IsRoot, IsCompiled, IsReady}
 use Rattle.command_answers.proofs.command_library.command_source.Once.{held_same}
 use Rattle.command_answers.specs.command_library.command_eval.EvalAnswer as E
-use Rattle.command_answers.specs.command_library.command_eval.EvalAnswer.{Entry, Spells, Tells, Evaluates}
+use Rattle.command_answers.specs.command_library.command_eval.EvalAnswer.{Entry, Spells, Reports, Evaluates}
 use Rattle.command_answers.proofs.command_library.command_eval.Meant.{typed_of, entry, table_sound, parameters_known, answers_soundly}
 use Rattle.command_answers.specs.command_library.command_run.ExecAnswer.{IsBoundOf}
 use Rattle.command_answers.proofs.command_library.command_run.Entry.{IsRootAt, root_at}
@@ -48,27 +48,27 @@ use Rattle.command_answers.specs.command_library.GenAnswer.{tree_source, build}
 use Rattle.command_answers.specs.command_library.MadeTree.{gen_input}
 use Rattle.command_answers.specs.Drawn.{drawn_text}
 use Rattle.command_answers.specs.Exec as X
-use Rattle.command_answers.specs.Exec.{End, Start, Running, Execs, TellsRun, gauge_by_trees}
+use Rattle.command_answers.specs.Exec.{End, Start, Running, Execs, ReportsRun, gauge_by_trees}
 use Rattle.command_answers.specs.Generating as G
 use Rattle.command_answers.specs.Generating.{Generates}
 use Rattle.command_answers.specs.GaugeText.{if_asked}
 
--- ---- what is told of an answer that isn't stuck
+-- ---- what is reported of an answer that isn't stuck
 
-evaluation_told : (tb : Table) (rs : List ℕ) (calls frames : ℕ) (a : Answer) → IsSoundAnswer tb rs a → (e : End) × Tells tb rs calls frames a e
-evaluation_told tb rs calls frames (Gives us left) h = (Ok (printed_lines tb rs us), refl)
-evaluation_told tb rs calls frames (Trap kind line col) h = (Err (F.Trap kind line col), refl)
-evaluation_told tb rs calls frames Out h = (Err (F.OutOfCalls calls), refl)
-evaluation_told tb rs calls frames Deep h = (Err (F.OutOfFrames frames), refl)
-evaluation_told tb rs calls frames Stuck h = absurd h
+evaluation_reported : (tb : Table) (rs : List ℕ) (calls frames : ℕ) (a : Answer) → IsSoundAnswer tb rs a → (e : End) × Reports tb rs calls frames a e
+evaluation_reported tb rs calls frames (Gives us left) h = (Ok (printed_lines tb rs us), refl)
+evaluation_reported tb rs calls frames (Trap kind line col) h = (Err (F.Trap kind line col), refl)
+evaluation_reported tb rs calls frames Out h = (Err (F.OutOfCalls calls), refl)
+evaluation_reported tb rs calls frames Deep h = (Err (F.OutOfFrames frames), refl)
+evaluation_reported tb rs calls frames Stuck h = absurd h
 
-run_told : (r : Running) (vs : Values) (calls frames : ℕ) (gauge : Bool) (peak : Peak) (a : Answer) → IsSoundAnswer r.types (r.instance).results a → (e : End) × TellsRun r vs calls frames gauge peak a e
-run_told r vs calls frames gauge peak (Gives us left) h =
+run_reported : (r : Running) (vs : Values) (calls frames : ℕ) (gauge : Bool) (peak : Peak) (a : Answer) → IsSoundAnswer r.types (r.instance).results a → (e : End) × ReportsRun r vs calls frames gauge peak a e
+run_reported r vs calls frames gauge peak (Gives us left) h =
     (Ok (printed_lines r.types (r.instance).results us ++ if_asked gauge (gauge_by_trees r vs us peak)), refl)
-run_told r vs calls frames gauge peak (Trap kind line col) h = (Err (F.Trap kind line col), refl)
-run_told r vs calls frames gauge peak Out h = (Err (F.OutOfCalls calls), refl)
-run_told r vs calls frames gauge peak Deep h = (Err (F.OutOfFrames frames), refl)
-run_told r vs calls frames gauge peak Stuck h = absurd h
+run_reported r vs calls frames gauge peak (Trap kind line col) h = (Err (F.Trap kind line col), refl)
+run_reported r vs calls frames gauge peak Out h = (Err (F.OutOfCalls calls), refl)
+run_reported r vs calls frames gauge peak Deep h = (Err (F.OutOfFrames frames), refl)
+run_reported r vs calls frames gauge peak Stuck h = absurd h
 
 -- ---- a root of an accepted source
 
@@ -114,24 +114,24 @@ module _ (source name : List ℕ) (p : Program) (accepted : IsAccepted source p)
     where
       by : ((vs : Values) × Spells y input vs) ⊎ ((at : ℕ) × IsPlace (Spells y) input at) → (e : End) × Evaluates source name input calls frames e
       by (inl (vs, spelt)) =
-          let told = evaluation_told p.types d.results calls frames (meaning y.core name NoClosed vs calls frames).answer (sound input vs calls frames spelt) in
-          (told.0, E.Answered y vs told.0 spelt told.1)
+          let reported = evaluation_reported p.types d.results calls frames (meaning y.core name NoClosed vs calls frames).answer (sound input vs calls frames spelt) in
+          (reported.0, E.Answered y vs reported.0 spelt reported.1)
       by (inr (at, place)) = (Err (F.BadInput at), E.Misspelt y at place)
 
   -- its stack number is one
-  pub bound_told : IsBoundOf y (held accepted.members root.place)
-  bound_told ms found i m at is =
+  pub bound_reported : IsBoundOf y (held accepted.members root.place)
+  bound_reported ms found i m at is =
       let same : root.place ≡ i = (typed_sound source p types).roots root.place i d d root.there at root.root root.root refl in
       held_same p.instances accepted.members ms (fip_calls source p accepted.tailed.credited.owned) accepted.groups found root.place
       ∙ ap (held ms) same
       ∙ ap (option_and_then (λ (n : Member). n.stack)) is
 
   abbrev pub started : Start source name
-  started = record { entry = y; members = accepted.members; found = accepted.groups; bound = held accepted.members root.place; told = bound_told }
+  started = record { entry = y; members = accepted.members; found = accepted.groups; bound = held accepted.members root.place; reported = bound_reported }
 
-  told_of : (input : List ℕ) (vs : Values) (room : Room) (gauge : Bool) → Spells y input vs → (e : End) × X.TellsAll (X.running started) vs room.calls (X.frames_for started room) gauge (X.run_of started vs room) e
-  told_of input vs room gauge spelt =
-      run_told (X.running started) vs room.calls (X.frames_for started room) gauge (X.run_of started vs room).peak (X.run_of started vs room).answer
+  reported_of : (input : List ℕ) (vs : Values) (room : Room) (gauge : Bool) → Spells y input vs → (e : End) × X.ReportsAll (X.running started) vs room.calls (X.frames_for started room) gauge (X.run_of started vs room) e
+  reported_of input vs room gauge spelt =
+      run_reported (X.running started) vs room.calls (X.frames_for started room) gauge (X.run_of started vs room).peak (X.run_of started vs room).answer
       (sound input vs room.calls (X.frames_for started room) spelt)
 
   -- a store is great enough, or too small
@@ -140,7 +140,7 @@ module _ (source name : List ℕ) (p : Program) (accepted : IsAccepted source p)
     fitting vs spelt = by (le_or_less (X.words_of y vs) room.words)
       where
         by : (X.words_of y vs ≤ room.words) ⊎ (room.words < X.words_of y vs) → (e : End) × Execs source name input room gauge e
-        by (inl fits) = let told = told_of input vs room gauge spelt in (told.0, X.Ran started vs told.0 spelt fits told.1)
+        by (inl fits) = let reported = reported_of input vs room gauge spelt in (reported.0, X.Ran started vs reported.0 spelt fits reported.1)
         by (inr less) = (Err (F.TooSmall (X.words_of y vs) room.words), X.Small y vs spelt less)
 
     pub some_run : (e : End) × Execs source name input room gauge e

@@ -17,7 +17,7 @@ use Rattle.command_answers.specs.command_library.fip_language.Table.{Table, HasT
 use Rattle.command_answers.specs.command_library.fip_language.Values.{Value, Values, End, More}
 use Rattle.command_answers.specs.command_library.session_semantics.Lines.{Given, Held, Fresh, Line, Calls, Shows, GivesUp, SpellsLine, lines_of}
 use Rattle.command_answers.specs.command_library.session_semantics.Talk.{Setting, Holding, State, IsTaken, AreTaken, IsWrong, AreFree, IsTakenName, Called, Fits, CallReplies, NoEntry, WrongNumber, BadArgument, BadResult, TooSmall, Ended, Done, Replies, BadLine, NothingShown, NothingGivenUp, Shown, GivenUp, Called', Talks}
-use Rattle.command_answers.specs.command_library.session_semantics.Talk.{EndText, answer_of, at_first, free_frames, held_as, hold_all, holding, left, made_then, named_by, needed, ok_text, running, store_text, told, used_by, without, without_all}
+use Rattle.command_answers.specs.command_library.session_semantics.Talk.{EndText, answer_of, at_first, free_frames, held_as, hold_all, holding, left, made_then, named_by, needed, ok_text, running, store_text, reported, used_by, without, without_all}
 use Rattle.command_answers.specs.command_library.session_semantics.Turns.{type_of}
 use Rattle.command_answers.specs.command_library.session_semantics.Typed.{IsEntry}
 use Rattle.command_answers.proofs.Written.{typed}
@@ -130,8 +130,8 @@ module _ (source : List ℕ) (o : Setting) (accepted : IsAccepted source o.progr
 
       counted : length gs ≡ length d.params → length rs ≡ length d.results → ⊥
       counted one two =
-          taken_or_wrong p.types s.held [] d.params gs one (λ k w. none (told (codes "bad argument ") (decimal (suc k))) s all (BadArgument i d k is one two w)) (λ vs taken.
-          free_or_not s.held (used_by p.types d.params gs) [] rs (λ name w. none (told (codes "bad result ") name) s all (BadResult i d vs name is two taken w)) (λ free.
+          taken_or_wrong p.types s.held [] d.params gs one (λ k w. none (reported (codes "bad argument ") (decimal (suc k))) s all (BadArgument i d k is one two w)) (λ vs taken.
+          free_or_not s.held (used_by p.types d.params gs) [] rs (λ name w. none (reported (codes "bad result ") name) s all (BadResult i d vs name is two taken w)) (λ free.
           in_store vs (record { count = two; taken = taken; free = free })))
 
       called : ⊥
@@ -144,15 +144,15 @@ module _ (source : List ℕ) (o : Setting) (accepted : IsAccepted source o.progr
       ]
 
     some_call : ⊥
-    some_call = none (told (codes "no entry ") entry) s all (NoEntry called)
+    some_call = none (reported (codes "no entry ") entry) s all (NoEntry called)
 
   module _ (s : State) (all : Typed s) (bytes : List ℕ) (none : (t : List ℕ) (a : State) → Typed a → Replies o s bytes t a → ⊥) where
     shown : (name : Name) → SpellsLine bytes (Shows name) → (h : Option Holding) → held_as name s.held ≡ h → ⊥
-    shown name is None e = none (told (codes "no name ") name) s all (NothingShown name is e)
+    shown name is None e = none (reported (codes "no name ") name) s all (NothingShown name is e)
     shown name is (Some h) e = none (printed p.types h.type h.value line_end) s all (Shown name h is e)
 
     given_up : (name : Name) → SpellsLine bytes (GivesUp name) → (h : Option Holding) → held_as name s.held ≡ h → ⊥
-    given_up name is None e = none (told (codes "no name ") name) s all (NothingGivenUp name is e)
+    given_up name is None e = none (reported (codes "no name ") name) s all (NothingGivenUp name is e)
     given_up name is (Some h) e = none ok_text (record { held = without name s.held; made = s.made }) (without_typed p.types name s.held all) (GivenUp name h is e)
 
     spelt : (line : Line) → SpellsLine bytes line → ⊥

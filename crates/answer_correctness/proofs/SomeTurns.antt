@@ -24,16 +24,16 @@ module _ (source : List ℕ) (o : Setting) (accepted : IsAccepted source o.progr
   abbrev p : Program
   p = o.program
 
-  told : (t : Task) (a : Answer) → IsSoundAnswer p.types t.header.results a → (text : List ℕ) × TaskText o t a text
-  told t (Gives vs left) h = (joined p.types t.header.results vs line_end, refl)
-  told t (Trap kind line col) h = (trap_text kind line col, refl)
-  told t Out h = (out_of_calls_text o.calls, refl)
-  told t Deep h = (out_of_frames_text (free_frames o t.entry), refl)
-  told t Stuck h = absurd h
+  reported : (t : Task) (a : Answer) → IsSoundAnswer p.types t.header.results a → (text : List ℕ) × TaskText o t a text
+  reported t (Gives vs left) h = (joined p.types t.header.results vs line_end, refl)
+  reported t (Trap kind line col) h = (trap_text kind line col, refl)
+  reported t Out h = (out_of_calls_text o.calls, refl)
+  reported t Deep h = (out_of_frames_text (free_frames o t.entry), refl)
+  reported t Stuck h = absurd h
 
   task_text : (line : List ℕ) (t : Task) → IsTask p line t → (text : List ℕ) × TaskText o t (answer_of o t.entry t.values) text
   task_text line t is =
-      told t (answer_of o t.entry t.values)
+      reported t (answer_of o t.entry t.values)
       (matched_sound source p t.entry t.header t.values o.calls (free_frames o t.entry) accepted.tailed.credited.owned.matched is.called.there
       (all_typed p.types (map type_of t.header.params) is.parts t.values is.typed))
 

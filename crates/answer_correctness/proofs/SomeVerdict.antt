@@ -1,5 +1,5 @@
 -- `audit` is never without an answer, where the source's types and matches are right or it has an early report.
--- Idea: bytes are a derivation's text or go wrong at a place; and entries that are no derivation of the program are told.
+-- Idea: bytes are a derivation's text or go wrong at a place; and entries that are no derivation of the program are reported.
 use Rattle.std.proofs.Common.{◌≡◌, ◌≤◌, ◌<◌, inl, inr, ℕ, List, Option, Some, None, length, refl}
 use Rattle.std.specs.Fmt.{decimal}
 use Rattle.std.specs.Prelude.{◌⊎◌, Ok, Err}

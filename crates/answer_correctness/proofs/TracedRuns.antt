@@ -63,7 +63,7 @@ use Rattle.command_answers.specs.CodeOf.{IsLoaded, IsSourceCode, IsSourceTrace}
 use Rattle.command_answers.specs.Ends as A
 use Rattle.command_answers.specs.Ends.{TracesTo}
 use Rattle.command_answers.specs.Exec as X
-use Rattle.command_answers.specs.Exec.{End, Start, Execs, TellsRun, gauge_by_trees}
+use Rattle.command_answers.specs.Exec.{End, Start, Execs, ReportsRun, gauge_by_trees}
 use Rattle.command_answers.specs.GaugeText.{if_asked}
 use Rattle.answer_correctness.proofs.Joined.{headed}
 use Rattle.answer_correctness.proofs.SomeSource.{means, sound, started, text_or_place}
@@ -224,9 +224,9 @@ module _ (source name : List ℕ) (code : F.PlainCode) (of' : IsSourceCode sourc
 
     -- ---- its end
 
-    told_so : (a : Answer) (e : End) → (X.run_of s vs room).answer ≡ a → TellsRun (X.running s) vs room.calls (X.frames_for s room) false (X.run_of s vs room).peak a e → Execs source name input room false e
-    told_so a e is t =
-        X.Ran s vs e spelt fits (subst (λ b. TellsRun (X.running s) vs room.calls (X.frames_for s room) false (X.run_of s vs room).peak b e) (sym is) t)
+    reported_so : (a : Answer) (e : End) → (X.run_of s vs room).answer ≡ a → ReportsRun (X.running s) vs room.calls (X.frames_for s room) false (X.run_of s vs room).peak a e → Execs source name input room false e
+    reported_so a e is t =
+        X.Ran s vs e spelt fits (subst (λ b. ReportsRun (X.running s) vs room.calls (X.frames_for s room) false (X.run_of s vs room).peak b e) (sym is) t)
 
     module _ (us : Values) (left : ℕ) (gives : (X.run_of s vs room).answer ≡ Gives us left) where
       its_words : (ws : List ℕ) × (ends.end ≡ C.Value ws)
@@ -254,16 +254,16 @@ module _ (source name : List ℕ) (code : F.PlainCode) (of' : IsSourceCode sourc
         where
           by : IsLong (trace_of_run its_run) ⊎ (IsLong (trace_of_run its_run) → ⊥) → (e : End) × TracesTo source name input room e
           by (inl more) = (Err (O.Refused (bare E75)), A.TooLong (trace_of_run its_run) its_trace more)
-          by (inr few) = (Ok text, A.Traced text (trace_of_run its_run) (told_so (Gives us left) (Ok text) gives refl) its_trace few)
+          by (inr few) = (Ok text, A.Traced text (trace_of_run its_run) (reported_so (Gives us left) (Ok text) gives refl) its_trace few)
 
     ended : (f : Failure) → Execs source name input room false (Err f) → (e : End) × TracesTo source name input room e
     ended f h = (Err f, A.Ended f h)
 
     by_answer : (a : Answer) → (X.run_of s vs room).answer ≡ a → (Stuck ≡ a → ⊥) → (e : End) × TracesTo source name input room e
     by_answer (Gives us left) is never = traced_end us left is
-    by_answer (Trap kind line col) is never = ended (O.Trap kind line col) (told_so (Trap kind line col) (Err (O.Trap kind line col)) is refl)
-    by_answer Out is never = ended (O.OutOfCalls room.calls) (told_so Out (Err (O.OutOfCalls room.calls)) is refl)
-    by_answer Deep is never = ended (O.OutOfFrames (X.frames_for s room)) (told_so Deep (Err (O.OutOfFrames (X.frames_for s room))) is refl)
+    by_answer (Trap kind line col) is never = ended (O.Trap kind line col) (reported_so (Trap kind line col) (Err (O.Trap kind line col)) is refl)
+    by_answer Out is never = ended (O.OutOfCalls room.calls) (reported_so Out (Err (O.OutOfCalls room.calls)) is refl)
+    by_answer Deep is never = ended (O.OutOfFrames (X.frames_for s room)) (reported_so Deep (Err (O.OutOfFrames (X.frames_for s room))) is refl)
     by_answer Stuck is never = absurd (never refl)
 
     never_stuck : (a : Answer) → (X.run_of s vs room).answer ≡ a → Stuck ≡ a → ⊥

@@ -1,4 +1,4 @@
-// What commands come to on a source without any text, and on the file of its code: nothing is asked for them. Each law
+// What commands come to on a source without any text, and on the file of its code: nothing is asked for them. Each theorem
 // is the contract of a function that does nothing.
 ghost use Rattle.std.specs.Prelude.{◌≡◌, ℕ, List, [], ◌∷◌, Some, Ok, Err, codes};
 ghost use Rattle.command_answers.specs.command_library.fip_language.declared.rule.Rule.TheVariants.{E70};

@@ -1,4 +1,4 @@
-// The laws that a command has an answer. Each is the contract of a function that does nothing.
+// The theorems that a command has an answer. Each is the contract of a function that does nothing.
 ghost use Rattle.std.specs.Prelude.{◌≡◌, ◌⊎◌, ℕ, List, Some, Ok, Err};
 ghost use Rattle.command_answers.specs.command_library.fip_language.declared.rule.Rule.TheVariants.{E61};
 ghost use Rattle.command_answers.specs.command_library.fip_base.declared.refusal.Refusal.{Refusal as a_refusal};
@@ -23,7 +23,7 @@ ghost use Rattle.answer_correctness.specs.Certain.{IsCertain};
 /// `check`, `exec`, `eval` and `derive` have an answer on a source that is refused, or has what the command wants,
 /// whatever the input is. For who asks whether a command may be without one.
 pub fn a_source_has_an_answer()
-    ensures law { (files : List File) (source input name : List ℕ) (c : Command) (w : Wanted) →
+    ensures theorem { (files : List File) (source input name : List ℕ) (c : Command) (w : Wanted) →
         fetched_name c ≡ Some name → wanted c ≡ Some w → file_of name files ≡ Some source → IsCertain c →
         ((r : a_refusal) × Refuses source w r) ⊎ IsReady source w → (e : an_end) × ComesTo files input c e }
 {}
@@ -31,14 +31,14 @@ pub fn a_source_has_an_answer()
 /// `trace` has an end on a source that has the entry, and of which there is a code, once the input is read. For who asks
 /// whether a command may be without one.
 pub fn a_source_with_a_code_is_traced()
-    ensures law { (source name input : List ℕ) (room : Room) (code : PlainCode) → IsReady source (Compiled name) →
+    ensures theorem { (source name input : List ℕ) (room : Room) (code : PlainCode) → IsReady source (Compiled name) →
         IsSourceCode source code → (e : an_end) × TracesTo source name input room e }
 {}
 
 /// `compile` has an end on a source of which there is a code: the lines of `check`, and a file that can be stored; or E61. For
 /// who asks whether a command may be without one.
 pub fn a_source_with_a_code_is_compiled()
-    ensures law { (source : List ℕ) (code : PlainCode) → IsSourceCode source code →
+    ensures theorem { (source : List ℕ) (code : PlainCode) → IsSourceCode source code →
         ((text file : List ℕ) × Compiles source (Ok text) × IsSourceFile source file)
         ⊎ Compiles source (Err (Refused (bare E61))) }
 {}
@@ -62,7 +62,7 @@ pub fn a_source_is_never_without_an_answer()
 /// makes is put under its name. So what was said of ends holds of status, texts and files. For who asks whether a command
 /// may be without an answer.
 pub fn an_end_has_a_whole_answer()
-    ensures law { (c : Command) (files : List File) (input out err : List ℕ) (e : an_end) → ComesTo files input c e →
+    ensures theorem { (c : Command) (files : List File) (input out err : List ℕ) (e : an_end) → ComesTo files input c e →
         ((text : List ℕ) → e ≡ Ok text → (bytes : List ℕ) × IsMadeBy c (Some input) (Some files) bytes) →
         (h : Host) × Finds h out err × IsAnswer c files input h }
 {}

@@ -1,4 +1,4 @@
-// The one relation of answers: what is enough for each of them, that there is one, and examples. Laws; no code.
+// The one relation of answers: what is enough for each of them, that there is one, and examples. Theorems; no code.
 #![tactic(auto)]
 
 pub mod empty;

@@ -1,4 +1,4 @@
-// The laws that say of what a command ends with. Each is the contract of a function that does nothing.
+// The theorems that say of what a command ends with. Each is the contract of a function that does nothing.
 ghost use Rattle.std.specs.Prelude.{◌≡◌, ◌<◌, ◌≤◌, ℕ, false, List, [], codes, length, Some, None, Ok, Err};
 ghost use Rattle.std.specs.Fmt.{decimal};
 ghost use Rattle.command_answers.specs.command_library.fip_language.declared.limits.TheConstants.{MOST_FILE_BYTES, MOST_SOURCE_BYTES};
@@ -27,7 +27,7 @@ ghost use Rattle.command_answers.specs.command_library.command_source.Judged.{Is
 ghost use Rattle.command_answers.specs.command_library.command_source.Roots.{IsListing};
 ghost use Rattle.command_answers.specs.command_library.command_source.Wanted.{Wanted, Compiled, Refuses, IsReady, IsReport, of_entry};
 ghost use Rattle.command_answers.specs.command_library.command_eval.EvalAnswer.{Entry as an_entry, Spells, Evaluates};
-ghost use Rattle.command_answers.specs.command_library.command_run.CodeRun.{Chosen, RunOf, SpellsFor, TellsOf, words_of as words_of_code};
+ghost use Rattle.command_answers.specs.command_library.command_run.CodeRun.{Chosen, RunOf, SpellsFor, ReportsOf, words_of as words_of_code};
 ghost use Rattle.command_answers.specs.command_library.run_loading.Example.{rewriting, file_with};
 ghost use Rattle.command_answers.specs.command_library.run_loading.Replaying.{replayed};
 ghost use Rattle.command_answers.specs.command_library.run_loading.TraceText.{Trace as a_trace};
@@ -39,15 +39,15 @@ ghost use Rattle.command_answers.specs.Answer.{ComesTo};
 ghost use Rattle.command_answers.specs.Asks.{ReadsInput, fetched_name, wanted};
 ghost use Rattle.command_answers.specs.CodeOf.{HasLongCode, IsSourceTrace};
 ghost use Rattle.command_answers.specs.Ends.{Does, IsTaken};
-ghost use Rattle.command_answers.specs.Exec.{End as an_end, Start, TellsAll, frames_for, run_of, running, words_of};
+ghost use Rattle.command_answers.specs.Exec.{End as an_end, Start, ReportsAll, frames_for, run_of, running, words_of};
 
-/// A file that is missing is told, whatever fetches it. For who reads a fault.
-pub fn a_missing_file_is_told()
-    ensures law { (files : List File) (input : List ℕ) (c : Command) (name : List ℕ) → fetched_name c ≡ Some name →
+/// A file that is missing is reported, whatever fetches it. For who reads a fault.
+pub fn a_missing_file_is_reported()
+    ensures theorem { (files : List File) (input : List ℕ) (c : Command) (name : List ℕ) → fetched_name c ≡ Some name →
         file_of name files ≡ None → ComesTo files input c (Err (F.Fault O.Folder)) }
 {}
 
-/// Of a source that is there: its refusal is told, as that it is too long; then that the input is; and else what the
+/// Of a source that is there: its refusal is reported, as that it is too long; then that the input is; and else what the
 /// command does. For who reads a report.
 pub fn a_source_is_answered()
     ensures refused { (files : List File) (source input name : List ℕ) (c : Command) (w : Wanted) (r : a_refusal) →
@@ -89,15 +89,15 @@ pub fn a_ready_entry_is_run()
         Does source input (Exec r) (Err (F.TooSmall (words_of y vs) r.room.words)) }
     ensures exec { (source input : List ℕ) (r : Request) (s : Start source r.entry) (vs : Values) (e : an_end) →
         Spells s.entry input vs → words_of s.entry vs ≤ r.room.words →
-        TellsAll (running s) vs r.room.calls (frames_for s r.room) r.gauge (run_of s vs r.room) e →
+        ReportsAll (running s) vs r.room.calls (frames_for s r.room) r.gauge (run_of s vs r.room) e →
         Does source input (Exec r) e }
     ensures kept { (source input name entry out : List ℕ) (room : Room) (s : Start source entry) (vs : Values)
         (f : Failure) → Spells s.entry input vs → words_of s.entry vs ≤ room.words →
-        TellsAll (running s) vs room.calls (frames_for s room) false (run_of s vs room) (Err f) →
+        ReportsAll (running s) vs room.calls (frames_for s room) false (run_of s vs room) (Err f) →
         Does source input (Trace name entry out room) (Err f) }
     ensures traced { (source input name entry out text : List ℕ) (room : Room) (s : Start source entry) (vs : Values)
         (t : a_trace) → Spells s.entry input vs → words_of s.entry vs ≤ room.words →
-        TellsAll (running s) vs room.calls (frames_for s room) false (run_of s vs room) (Ok text) →
+        ReportsAll (running s) vs room.calls (frames_for s room) false (run_of s vs room) (Ok text) →
         IsSourceTrace source entry input room t → (IsLong t → ⊥) →
         Does source input (Trace name entry out room) (Ok text) }
     ensures untraced { (source input name entry out : List ℕ) (room : Room) (t : a_trace) →
@@ -107,7 +107,7 @@ pub fn a_ready_entry_is_run()
         TakesTurns source input room e → Does source input (Tasks name seed turns room) e }
 {}
 
-/// Of a code's file that is there: that it is too long, or no sound code's, is told; and else what the command does.
+/// Of a code's file that is there: that it is too long, or no sound code's, is reported; and else what the command does.
 /// For who keeps code files.
 pub fn a_code_file_is_answered()
     ensures long { (files : List File) (bytes input name : List ℕ) → file_of name files ≡ Some bytes →
@@ -128,11 +128,11 @@ pub fn a_code_file_is_answered()
         ComesTo files input (Run r) (Err (F.TooSmall (words_of_code c vs) r.room.words)) }
     ensures run { (files : List File) (bytes input : List ℕ) (r : Request) (c : Chosen bytes r.entry) (vs : Values)
         (q : RunOf c vs r.room) (e : an_end) → file_of r.file files ≡ Some bytes → length input ≤ MOST_FILE_BYTES →
-        SpellsFor c input vs → words_of_code c vs ≤ r.room.words → TellsOf c vs r.room q r.gauge e →
+        SpellsFor c input vs → words_of_code c vs ≤ r.room.words → ReportsOf c vs r.room q r.gauge e →
         ComesTo files input (Run r) e }
 {}
 
-/// What `audit` tells of a source and of a proof's file, that is there or missing. For who checks derivations of
+/// What `audit` reports of a source and of a proof's file, that is there or missing. For who checks derivations of
 /// strangers.
 pub fn a_derivation_is_judged()
     ensures reported { (files : List File) (source input name proof : List ℕ) (r : a_refusal) →
@@ -165,7 +165,7 @@ pub fn an_example_of_replay()
         ComesTo files input (Replay name step) (Ok (replayed rewriting step)) }
 {}
 
-/// The text list is printed, and a tree is told by its keys: the run that makes it fails at nothing. For who wants to see
+/// The text list is printed, and a tree is reported by its keys: the run that makes it fails at nothing. For who wants to see
 /// texts and trees.
 pub fn texts_and_trees_are_printed()
     ensures library { (files : List File) (input : List ℕ) →
@@ -178,5 +178,5 @@ pub fn texts_and_trees_are_printed()
     ensures never { (seed count : ℕ) (s : Start tree_source build) (vs : Values) (f : Failure) →
         IsReady tree_source (Compiled build) → length (gen_input seed count) ≤ MOST_FILE_BYTES →
         Spells s.entry (gen_input seed count) vs → words_of s.entry vs ≤ gen_room.words →
-        TellsAll (running s) vs gen_room.calls (frames_for s gen_room) false (run_of s vs gen_room) (Err f) → ⊥ }
+        ReportsAll (running s) vs gen_room.calls (frames_for s gen_room) false (run_of s vs gen_room) (Err f) → ⊥ }
 {}

@@ -1,4 +1,4 @@
-// The laws that runs, and commands on the files of codes and of traces, have one answer. Each is the contract of a
+// The theorems that runs, and commands on the files of codes and of traces, have one answer. Each is the contract of a
 // function that does nothing.
 ghost use Rattle.std.specs.Prelude.{◌≡◌, ℕ, Bool, List};
 ghost use Rattle.command_answers.specs.fip_outside.Files.{File};
@@ -9,18 +9,18 @@ ghost use Rattle.command_answers.specs.command_library.command_run.ExecAnswer as
 ghost use Rattle.command_answers.specs.Answer.{ComesTo};
 ghost use Rattle.command_answers.specs.Exec.{End as an_end, Execs};
 
-/// The file of a sound code that has a function of the entry's name: whatever the input is, the run of it is told as one
+/// The file of a sound code that has a function of the entry's name: whatever the input is, the run of it is reported as one
 /// thing, and never as nothing. For who prints what a machine answers.
-pub fn what_is_told_of_a_run_is_one()
+pub fn what_is_reported_of_a_run_is_one()
     ensures some { (bytes name input : List ℕ) (room : Room) (gauge : Bool) → HasFunction bytes name →
         ((e : an_end) → RunsCode bytes name input room gauge e → ⊥) → ⊥ }
     ensures one { (bytes name input : List ℕ) (room : Room) (gauge : Bool) (e d : an_end) →
         RunsCode bytes name input room gauge e → RunsCode bytes name input room gauge d → e ≡ d }
 {}
 
-/// A run of a source's entry is told as one thing, with the gauge as without, whichever code of the source is run, and
-/// wherever its cells lie; and it is what is told by trees. For who replaces a compiler.
-pub fn what_is_told_of_an_entry_is_one()
+/// A run of a source's entry is reported as one thing, with the gauge as without, whichever code of the source is run, and
+/// wherever its cells lie; and it is what is reported by trees. For who replaces a compiler.
+pub fn what_is_reported_of_an_entry_is_one()
     ensures one { (source name input : List ℕ) (room : Room) (gauge : Bool) (e d : an_end) →
         E.Execs source name input room gauge e → E.Execs source name input room gauge d → e ≡ d }
     ensures is { (source name input : List ℕ) (room : Room) (gauge : Bool) (d e : an_end) →

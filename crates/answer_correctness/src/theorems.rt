@@ -1,4 +1,4 @@
-// The laws of answers. Each is the contract of a function that does nothing.
+// The theorems of answers. Each is the contract of a function that does nothing.
 ghost use Rattle.std.specs.Prelude.{◌≡◌, ◌≢◌, ◌<◌, ◌≤◌, ◌⊎◌, ℕ, Bool, pos, true, List, [], ◌∷◌, ◌++◌, Some, None, Ok, Err, codes};
 ghost use Rattle.std.specs.Prelude.{length, slice_get};
 ghost use Rattle.std.specs.Fmt.{decimal};
@@ -35,7 +35,7 @@ ghost use Rattle.command_answers.specs.Answer.{Answered, Host, IsAnswer, IsNoCom
 ghost use Rattle.command_answers.specs.CodeOf.{HasLongCode, IsCodeOf, IsLoaded, IsSourceFile};
 ghost use Rattle.compile_correctness.specs.code_bytes.Bytes.{most_bytes};
 ghost use Rattle.command_answers.specs.Ends.{OnSource};
-ghost use Rattle.command_answers.specs.Exec.{End as an_end, Execs, TellsAll};
+ghost use Rattle.command_answers.specs.Exec.{End as an_end, Execs, ReportsAll};
 ghost use Rattle.command_answers.specs.GaugeText.{highest_of, lowest_of};
 ghost use Rattle.command_answers.specs.Open.{IsOpen};
 ghost use Rattle.answer_correctness.specs.Alike.{Finds, AreAlike};
@@ -45,16 +45,16 @@ ghost use Rattle.answer_correctness.specs.Example.{cons, nil, three_keys, weaken
 /// Words that are no command are answered with status 2, or 10 for want of memory. For who calls the program with any
 /// words.
 pub fn no_command_has_one_answer()
-    ensures law { (words : List (List ℕ)) (files : List File) (input : List ℕ) (h : Host) → IsNoCommand words →
+    ensures theorem { (words : List (List ℕ)) (files : List File) (input : List ℕ) (h : Host) → IsNoCommand words →
         Answered words files input h → (h.status ≡ 10) ⊎ (h.status ≡ 2) }
 {}
 
-/// Two answers of the same words, on the same files and input and behind the same on out and err, have the same status,
-/// and leave the same on out and err, unless memory was wanting. But two codes of an accepted source may differ in whether
+/// Two answers of the same words, on the same files and input and after the same on out and err, have the same status,
+/// and leave the same on out and err, unless memory ran out. But two codes of an accepted source may differ in whether
 /// they have a file or a trace that can be stored: then of two answers of `compile` one is E61, and of two of `trace` one is
 /// E75. So codes differ in what is left, stored and traced alone. For who compares two calls.
 pub fn an_answer_is_one()
-    ensures law { (words : List (List ℕ)) (files : List File) (input out err : List ℕ) (h k : Host) →
+    ensures theorem { (words : List (List ℕ)) (files : List File) (input out err : List ℕ) (h k : Host) →
         Finds h out err → Finds k out err → Answered words files input h → Answered words files input k →
         h.status ≢ 10 → k.status ≢ 10 → AreAlike h k
         ⊎ ((c : Command) × IsCommand words c × ((a : IsAnswer c files input h) × (b : IsAnswer c files input k)
@@ -71,8 +71,8 @@ pub fn a_failure_leaves_out_and_files()
 
 /// A source that is refused comes to nothing else, whatever the command does with accepted ones: the causes exclude
 /// each other. For who reads a report.
-pub fn a_refused_source_is_told()
-    ensures law { (source input : List ℕ) (c : Command) (w : Wanted) (r : a_refusal) (e : an_end) →
+pub fn a_refused_source_is_reported()
+    ensures theorem { (source input : List ℕ) (c : Command) (w : Wanted) (r : a_refusal) (e : an_end) →
         Refuses source w r → OnSource source input c w e → e ≡ Err (F.Refused r) }
 {}
 
@@ -80,14 +80,14 @@ pub fn a_refused_source_is_told()
 /// is not. An fbip function has no bound, and a call of it that waits holds a frame. For who wants to see the numbers.
 #[tactic(auto, using(crate::proofs::Examples::computed))]
 pub fn an_example_of_exec()
-    ensures lines { TellsAll reversing three_items 1000 0 true (flat_meaning lists 0 three_items 1000 0)
+    ensures lines { ReportsAll reversing three_items 1000 0 true (flat_meaning lists 0 three_items 1000 0)
         (Ok four_lines) }
-    ensures enough { TellsAll reversing three_items 4 0 true (flat_meaning lists 0 three_items 4 0) (Ok four_lines) }
-    ensures out { TellsAll reversing three_items 3 0 true (flat_meaning lists 0 three_items 3 0)
+    ensures enough { ReportsAll reversing three_items 4 0 true (flat_meaning lists 0 three_items 4 0) (Ok four_lines) }
+    ensures out { ReportsAll reversing three_items 3 0 true (flat_meaning lists 0 three_items 3 0)
         (Err (F.OutOfCalls 3)) }
-    ensures fbip { TellsAll increasing (More (cons 1 nil) End) 1000 10 true
+    ensures fbip { ReportsAll increasing (More (cons 1 nil) End) 1000 10 true
         (flat_meaning lists 1 (More (cons 1 nil) End) 1000 10) (Ok increased_lines) }
-    ensures deep { TellsAll increasing (More (cons 1 nil) End) 1000 0 true
+    ensures deep { ReportsAll increasing (More (cons 1 nil) End) 1000 0 true
         (flat_meaning lists 1 (More (cons 1 nil) End) 1000 0) (Err (F.OutOfFrames 0)) }
     ensures credits { highest_of (2 ∷ []) (More (cons 5 nil) End) 2 ≡ 2 }
     ensures lent { lowest_of (record { ty = 2; lent = true } ∷ an_owned ∷ []) (More (cons 5 nil) (More nil End))
@@ -114,17 +114,17 @@ pub fn an_example_of_weakening()
     ensures twice { IsLean weakened_twice → ⊥ }
 {}
 
-/// A code of a program has a file, so it is unspelt only where that is too long. For who is told E61.
+/// A code of a program has a file, so it is unspelt only where that is too long. For who is reported E61.
 pub fn only_a_long_code_is_unspelt()
-    ensures law { (p : Program) (code : PlainCode) → IsCodeOf p code → IsUnspelt code →
+    ensures theorem { (p : Program) (code : PlainCode) → IsCodeOf p code → IsUnspelt code →
         (file : List ℕ) × CodeText file Second code × (MOST_FILE_BYTES < length file) }
 {}
 
 /// The file of a code of a program, whatever made it, has no more bytes than the program's places, names and types allow. So
 /// a code has no file that isn't too long only where the source's program allows more than 16,777,216 bytes, whatever the
-/// code is padded with. For who asks which sources may be told E61.
+/// code is padded with. For who asks which sources may be reported E61.
 pub fn a_code_is_no_longer_than_its_program_allows()
-    ensures law { (p : Program) (code : PlainCode) (file : List ℕ) → IsCodeOf p code → CodeText file Second code →
+    ensures theorem { (p : Program) (code : PlainCode) (file : List ℕ) → IsCodeOf p code → CodeText file Second code →
         length file ≤ most_bytes p }
     ensures refused { (source : List ℕ) (p : Program) → HasLongCode source → IsAccepted source p →
         MOST_FILE_BYTES < most_bytes p }
@@ -148,14 +148,14 @@ pub fn a_code_holds_what_its_program_does()
 /// The code that is made of a source, and each that is made so, is a code of its program, whatever the compiler does: it
 /// has a file, which may be too long, and its runs end as the program means, with its peak. For who replaces a compiler.
 pub fn a_code_of_a_source_is_one_of_its_program()
-    ensures law { (source : List ℕ) (code : PlainCode) → (h : IsCodeOfSource source code) → IsCodeOf h.program code }
+    ensures theorem { (source : List ℕ) (code : PlainCode) → (h : IsCodeOfSource source code) → IsCodeOf h.program code }
 {}
 
-/// `run` on the file of a code of a source's program tells what `exec` tells of the source, with the same entry, input and
+/// `run` on the file of a code of a source's program reports what `exec` reports of the source, with the same entry, input and
 /// options, gauge lines included, whatever code it is. It rests on what is asked of a code alone. For who ships a code
 /// file in place of its source, or writes another compiler.
 pub fn a_file_of_a_code_runs_as_its_source()
-    ensures law { (source file name input : List ℕ) (room : Room) (gauge : Bool) (p : Program) (code : PlainCode)
+    ensures theorem { (source file name input : List ℕ) (room : Room) (gauge : Bool) (p : Program) (code : PlainCode)
         (d e : an_end) → IsAccepted source p → IsCodeOf p code → IsSoundFile file code →
         Execs source name input room gauge d → RunsCode file name input room gauge e → d ≡ e }
 {}

@@ -24,7 +24,7 @@ in_first [] ys i x l h = absurd (omega arith)
 in_first (z ∷ xs) ys zero x l h = h
 in_first (z ∷ xs) ys (suc i) x l h = in_first xs ys i x (omega arith) h
 
--- an element of two lists behind each other
+-- an element of two lists after each other
 pub at_append : {A : Type 0} (xs ys : List A) (i : ℕ) (x : A) → slice_get (xs ++ ys) i ≡ Some x → (slice_get xs i ≡ Some x) ⊎ ((j : ℕ) × (i ≡ length xs + j) × (slice_get ys j ≡ Some x))
 at_append [] ys i x h = inr (i, omega arith, h)
 at_append (z ∷ xs) ys zero x h = inl h

@@ -73,7 +73,7 @@ step_met rs old mid new f p callee next c k pk vk m =
     (m.standings ∙ (ap (λ ss. set ss callee (OnPath (length mid.path.items))) k.standings ∙ ap (λ l. set old.standings.items callee (OnPath l)) n))
     (m.path ∙ ap (λ l. l ++ callee ∷ []) k.path)
     (m.pieces ∙ (ap (λ l. l ++ length mid.path.items ∷ []) pk ∙ ap (λ l. old.pieces.items ++ l ∷ []) n))
-    (m.visits ∙ (ap (λ l. l ++ visit callee (length mid.path.items) 0 ∷ []) (vk ∙ ap (λ j. old.visits.items ++ visit f p j ∷ []) c.behind)
+    (m.visits ∙ (ap (λ l. l ++ visit callee (length mid.path.items) 0 ∷ []) (vk ∙ ap (λ j. old.visits.items ++ visit f p j ∷ []) c.following)
     ∙ ap (λ l. (old.visits.items ++ visit f p (c.at + 1) ∷ []) ++ visit callee l 0 ∷ []) n))
     (m.order ∙ k.order)
     (whole_met rs old.standings.items old.path.items old.pieces.items old.visits.items old.order.items f p c.at callee c.waits c.sound c.call_at c.is_new)

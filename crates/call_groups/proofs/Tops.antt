@@ -10,7 +10,7 @@ use Rattle.call_groups.specs.declared.search.Standing.{Standing}
 use Rattle.call_groups.specs.declared.search.Visit.{Visit}
 use Rattle.call_groups.proofs.Lists.{same_or_not, at_more, at_end, at_push, in_push, in_end, in_more}
 
--- no visit is behind the last one
+-- no visit is after the last one
 pub last_place :
     (rs : List (List Call)) (ss : List Standing) (path pieces : List ℕ) (vs : List Visit) (v : Visit) →
     Stands rs ss path pieces (vs ++ v ∷ []) → (w : Visit) → In w vs → w.place < v.place

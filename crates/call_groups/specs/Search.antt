@@ -57,7 +57,7 @@ abbrev pub Keeps : List ℕ → ℕ → ℕ → Type 0
 Keeps pieces p q = (s : ℕ) → In s pieces → s ≤ p → s ≤ q
 
 -- What is known of a callee whose call was followed from place p of the path: it isn't new, and where it stands on the
--- path, no piece begins behind it and up to p.
+-- path, no piece begins after it and up to p.
 abbrev pub Settles : List ℕ → ℕ → Option Standing → Type 0
 Settles pieces p None = Unit {0}
 Settles pieces p (Some New) = ⊥
@@ -109,7 +109,7 @@ pub record Joined (old new : List ℕ) (q : ℕ) : Type 0 where
   pub low : (s : ℕ) → In s new → s ≤ q
   pub rise : Rises old → Rises new
 
--- a place in the pieces: those before it begin at or before q, the others behind q
+-- a place in the pieces: those before it begin at or before q, the others after q
 pub record Cuts (pieces : List ℕ) (q n : ℕ) : Type 0 where
   pub within : n ≤ length pieces
   pub low : (i s : ℕ) → i < n → slice_get pieces i ≡ Some s → s ≤ q
@@ -172,7 +172,7 @@ pub record IsCalling (rs : List (List Call)) (s : Search) (f p callee next : ℕ
   pub at : ℕ
   pub waits : Bool
   pub call_at : slice_get (calls_of rs f) at ≡ Some (call callee waits)
-  pub behind : next ≡ at + 1
+  pub following : next ≡ at + 1
   pub sound : IsSound rs s (s.visits.items ++ visit f p at ∷ [])
   pub is_new : IsNew s.standings.items callee
 

@@ -96,7 +96,7 @@ struct Search {
     order: Vec<usize>,
 }
 
-// A call of a new function: the function, and the number of the call behind it.
+// A call of a new function: the function, and the number of the call after it.
 #[derive(Clone, Copy)]
 struct Step {
     callee: usize,

@@ -51,7 +51,7 @@ fuel b i (I.Tail g ss) r = (0, r)
 fuel b i (I.Ret rs) r = (0, r)
 fuel b i (I.Jump target) r = (r.1.0, (r.0, r.1.1))
 
--- an instruction in range with safe ones behind it
+-- an instruction in range with safe ones after it
 pub safe_from : (b : Body) (i : ℕ) (x : Instr) → slice_get b.instrs i ≡ Some x → Row b i (IsSafe b) x → IsSafe b i
 safe_from b i x e r = let k = fuel b i x r in (suc k.0, (x, e, k.1))
 

@@ -29,7 +29,7 @@ impl Registers {
         }
     }
 
-    /// Puts a register behind the others; an error where no memory is left.
+    /// Puts a register after the others; an error where no memory is left.
     pub fn push(&mut self, register: u16) -> Result<(), NoMemory>
         ensures added { OnOk result (self.new ≡ self.old ++ register ∷ []) }
     {

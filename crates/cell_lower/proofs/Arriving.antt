@@ -260,16 +260,16 @@ arrives_on tb k l m xs ys apart p q = record {
   next = q.next ∙ p.next;
   many = q.many ∙ p.many;
   others = λ z n. q.others z (λ a. n (among_right z xs ys a)) ∙ p.others z (λ a. n (among_left z xs ys a));
-  accounts = λ ready a. q.accounts (behind ready) (p.accounts (λ z b. ready z (among_left z xs ys b)) a);
-  named = λ ready a. q.named (behind ready) (p.named (λ z b. ready z (among_left z xs ys b)) a);
+  accounts = λ ready a. q.accounts (following ready) (p.accounts (λ z b. ready z (among_left z xs ys b)) a);
+  named = λ ready a. q.named (following ready) (p.named (λ z b. ready z (among_left z xs ys b)) a);
   bares = λ r t d e. elim (q.bares r t d e) as (λ v. (slice_get k.held r ≡ Some (H.Bare t d)) ⊎ (d < count tb t)) [
     | inl x ↦ p.bares r t d x
     | inr x ↦ inr x
   ];
 }
   where
-    behind : Ready k (xs ++ ys) → Ready l ys
-    behind ready = ready_on tb k l xs ys apart p (λ z b. ready z (among_right z xs ys b))
+    following : Ready k (xs ++ ys) → Ready l ys
+    following ready = ready_on tb k l xs ys apart p (λ z b. ready z (among_right z xs ys b))
 
 -- a variable
 

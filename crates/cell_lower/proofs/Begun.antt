@@ -1,4 +1,4 @@
--- How a match begins: what is known where its tests begin, and what is told there.
+-- How a match begins: what is known where its tests begin, and what is reported there.
 use Rattle.std.proofs.Common.{◌≡◌, ◌⊎◌, inl, inr, refl, sym, ap, ◌∙◌, subst, arith, true≢false, ℕ, zero, suc, ◌<◌, ◌≤◌, Bool, true, false, List, [], ◌∷◌, length, map, Option, Some, None, slice_get}
 use Rattle.std.specs.Prelude.{not, ◌&&◌}
 use Rattle.std.proofs.lemmas.Bool.{cases_eq}
@@ -22,15 +22,15 @@ use Rattle.lower_frame.specs.lowering_relation.Landing.{IsScene}
 use Rattle.lower_frame.proofs.lowering_relation.Choices.{patterns_in}
 use Rattle.lower_frame.proofs.lowering_relation.Placing.{extends_on, back, has_all}
 use Rattle.lower_frame.specs.lowering_relation.Describing.{held_at, kinds_of}
-use Rattle.lower_frame.specs.lowering_relation.Labels.{Tells}
+use Rattle.lower_frame.specs.lowering_relation.Labels.{Reports}
 use Rattle.lower_frame.specs.lowering_relation.Joins.{BaresEnd}
 use Rattle.lower_frame.specs.lowering_relation.Matches.{variable_of}
 use Rattle.lower_frame.specs.Credits.{Accounted, AllSolid}
-use Rattle.lower_frame.specs.Frames.{kinds_told}
+use Rattle.lower_frame.specs.Frames.{kinds_reported}
 use Rattle.lower_frame.specs.Labels.{Rising}
 use Rattle.lower_frame.specs.Positions.{reaching, spot_of}
 use Rattle.lower_frame.specs.Registers.{registers}
-use Rattle.lower_frame.proofs.Labels.{rising_higher, rising_told}
+use Rattle.lower_frame.proofs.Labels.{rising_higher, rising_reported}
 use Rattle.cell_lower.specs.declared.matches.Matching.{Matching}
 use Rattle.cell_lower.specs.Scenes.{scene, patterns_of, HasRows}
 use Rattle.cell_lower.specs.Writing.{Computes, Named}
@@ -41,7 +41,7 @@ use Rattle.cell_lower.specs.Matches.{BeginsLaid}
 use Rattle.cell_lower.proofs.Lessening.{Less, less_same, less_on, less_wide, less_reaching, less_bares, solid_less, named_less, waits_less, not_yet, wide_wide}
 use Rattle.cell_lower.proofs.Matching.{typed_in}
 use Rattle.cell_lower.proofs.Parted.{none_past}
-use Rattle.cell_lower.proofs.Shown.{shown_told}
+use Rattle.cell_lower.proofs.Shown.{shown_reported}
 use Rattle.fip_language.proofs.Facts.{and_not_false as both_right, none_some, same_some}
 
 -- a scrutinee is a variable: nothing is written for it
@@ -97,20 +97,20 @@ forgot_by tb r k v l w (inr e) = subst (Forgot k) (sym e.0) (record { less = les
 
 forgot_rising : (tb : Table) (r : ℕ) (k : Known) (v : Written) (l : Known) (w : Written) → ForgetsLaid tb r k v l w → Rising (size v) 0 v.maps → Rising (size v) 0 w.maps
 forgot_rising tb r k v l w (inl e) h = subst (Rising (size v) 0) (sym e.1) h
-forgot_rising tb r k v l w (inr e) h = subst (Rising (size v) 0) (sym e.1) (rising_told (size v) (kinds_told tb l.held) v.maps h)
+forgot_rising tb r k v l w (inr e) h = subst (Rising (size v) 0) (sym e.1) (rising_reported (size v) (kinds_reported tb l.held) v.maps h)
 
--- what is told where the tests begin
-shown_begun : (tb : Table) (r : ℕ) (k0 k l : Known) (v0 v w : Written) → ForgetsLaid tb r k v l w → size w ≡ size v → v.maps ≡ v0.maps → size v0 ≤ size v → (size v ≡ size v0 → k ≡ k0) → Underway tb k0 v0 → registers k ≡ registers k0 → (map : List Kind) → label_at w.maps (size w) ≡ Some map → Tells (registers l) map (kinds_of tb (held_at l.held))
+-- what is reported where the tests begin
+shown_begun : (tb : Table) (r : ℕ) (k0 k l : Known) (v0 v w : Written) → ForgetsLaid tb r k v l w → size w ≡ size v → v.maps ≡ v0.maps → size v0 ≤ size v → (size v ≡ size v0 → k ≡ k0) → Underway tb k0 v0 → registers k ≡ registers k0 → (map : List Kind) → label_at w.maps (size w) ≡ Some map → Reports (registers l) map (kinds_of tb (held_at l.held))
 shown_begun tb r k0 k l v0 v w (inl e) long same grows still under many map there = by (cases_eq (size v) (size v0))
   where
     here : label_at v0.maps (size v) ≡ Some map
     here = sym (ap (λ ms. label_at ms (size v)) same) ∙ sym (ap (λ ms. label_at ms (size v)) e.1) ∙ ap (λ n. label_at w.maps n) (sym long) ∙ there
 
-    by : (size v ≡ size v0) ⊎ (size v ≡ size v0 → ⊥) → Tells (registers l) map (kinds_of tb (held_at l.held))
-    by (inl x) = subst (λ (y : Known). Tells (registers y) map (kinds_of tb (held_at y.held))) (sym (e.0 ∙ still x)) (under.shown map (sym (ap (label_at v0.maps) x) ∙ here))
+    by : (size v ≡ size v0) ⊎ (size v ≡ size v0 → ⊥) → Reports (registers l) map (kinds_of tb (held_at l.held))
+    by (inl x) = subst (λ (y : Known). Reports (registers y) map (kinds_of tb (held_at y.held))) (sym (e.0 ∙ still x)) (under.shown map (sym (ap (label_at v0.maps) x) ∙ here))
     by (inr x) = absurd (none_some map (sym (none_past (size v0) 0 v0.maps (size v) under.rising (omega (arith, grows, x))) ∙ here))
 shown_begun tb r k0 k l v0 v w (inr e) long same grows still under many map there =
-    shown_told tb l v w (wide_wide k l e.0) e.1 long (subst (Rising (size v) 0) (sym same) (rising_higher (size v0) (size v) 0 v0.maps grows under.rising)) map there
+    shown_reported tb l v w (wide_wide k l e.0) e.1 long (subst (Rising (size v) 0) (sym same) (rising_higher (size v0) (size v) 0 v0.maps grows under.rising)) map there
 
 -- what is so of a match of which the tests are being written: registers below `low` were used before, of n ones
 
@@ -142,9 +142,9 @@ pub record Begun (s : Setting) (k : Known) (v : Written) (a : Argument) (g : Mat
   pub maps : given_up.maps ≡ v.maps
   pub extends : Extends v given_up
   pub forgets : Less before forgot
-  pub told : Written
-  pub told_on : Extends told w
-  pub forgotten : ForgetsLaid s.types (S.register (spot_of g.choice.root)) before given_up forgot told
+  pub reported : Written
+  pub reported_on : Extends reported w
+  pub forgotten : ForgetsLaid s.types (S.register (spot_of g.choice.root)) before given_up forgot reported
   pub next : forgot.next ≡ before.next
   pub names : forgot.names ≡ before.names
   pub entry : g.entry ≡ reaching forgot g.entry.next
@@ -152,7 +152,7 @@ pub record Begun (s : Setting) (k : Known) (v : Written) (a : Argument) (g : Mat
   pub onward : Extends given_up w
   pub long : size w ≡ size given_up
   pub rising : Rising (size w) 0 w.maps
-  pub shown : (map : List Kind) → label_at w.maps (size w) ≡ Some map → Tells (registers k) map (kinds_of s.types (held_at g.entry.held))
+  pub shown : (map : List Kind) → label_at w.maps (size w) ≡ Some map → Reports (registers k) map (kinds_of s.types (held_at g.entry.held))
   pub facts : Facts s g forgot.next (registers k)
   pub idle : (d : ℕ) → Waits k d → Idle g forgot.next d
 
@@ -168,7 +168,7 @@ module _ (s : Setting) (fip : Bool) (ns : List Need) (k : Known) (v : Written) (
   bare = bared target h.computed h.valued h.before h.given_up h.given_many h.bares
 
   forgets : Forgot h.before h.forgot
-  forgets = forgot_by s.types h.register h.before h.given_up h.forgot h.told h.forgets
+  forgets = forgot_by s.types h.register h.before h.given_up h.forgot h.reported h.forgets
 
   less_before : Less k h.before
   less_before = subst (λ y. Less y h.before) value.known bare.less
@@ -257,18 +257,18 @@ module _ (s : Setting) (fip : Bool) (ns : List Need) (k : Known) (v : Written) (
       by (Some z) y = waits.unnamed z (y ∙ ap Some (sym h.positions.root ∙ sym e))
 
   long : size w ≡ size h.given_up
-  long = h.as_long ∙ h.told_long
+  long = h.as_long ∙ h.reported_long
 
   rising : Rising (size w) 0 w.maps
   rising = subst (λ n. Rising n 0 w.maps) (sym long) (subst (Rising (size h.given_up) 0) (sym h.maps)
-      (forgot_rising s.types h.register h.before h.given_up h.forgot h.told h.forgets
+      (forgot_rising s.types h.register h.before h.given_up h.forgot h.reported h.forgets
       (subst (Rising (size h.given_up) 0) (sym maps_before) (rising_higher (size v) (size h.given_up) 0 v.maps to_given.grows under.rising))))
 
-  shown : (map : List Kind) → label_at w.maps (size w) ≡ Some map → Tells (registers k) map (kinds_of s.types (held_at g.entry.held))
-  shown map e = subst (λ n. Tells n map (kinds_of s.types (held_at g.entry.held))) less_forgot.many
-      (subst (λ (y : Known). Tells (registers h.forgot) map (kinds_of s.types (held_at y.held))) (sym h.entry)
-      (shown_begun s.types h.register k h.before h.forgot v h.given_up h.told h.forgets h.told_long maps_before to_given.grows still_before under less_before.many map
-      (sym (ap (λ ms. label_at ms (size h.told)) h.maps) ∙ ap (λ n. label_at w.maps n) (sym h.as_long) ∙ e)))
+  shown : (map : List Kind) → label_at w.maps (size w) ≡ Some map → Reports (registers k) map (kinds_of s.types (held_at g.entry.held))
+  shown map e = subst (λ n. Reports n map (kinds_of s.types (held_at g.entry.held))) less_forgot.many
+      (subst (λ (y : Known). Reports (registers h.forgot) map (kinds_of s.types (held_at y.held))) (sym h.entry)
+      (shown_begun s.types h.register k h.before h.forgot v h.given_up h.reported h.forgets h.reported_long maps_before to_given.grows still_before under less_before.many map
+      (sym (ap (λ ms. label_at ms (size h.reported)) h.maps) ∙ ap (λ n. label_at w.maps n) (sym h.as_long) ∙ e)))
 
   pub begun : Begun s k v a g h.before h.given_up h.forgot w
   begun = record {
@@ -280,14 +280,14 @@ module _ (s : Setting) (fip : Bool) (ns : List Need) (k : Known) (v : Written) (
     maps = maps_before;
     extends = to_given;
     forgets = forgets.less;
-    told = h.told;
-    told_on = h.extends;
-    forgotten = subst (λ r. ForgetsLaid s.types r h.before h.given_up h.forgot h.told) (sym h.positions.root) h.forgets;
+    reported = h.reported;
+    reported_on = h.extends;
+    forgotten = subst (λ r. ForgetsLaid s.types r h.before h.given_up h.forgot h.reported) (sym h.positions.root) h.forgets;
     next = forgets.next;
     names = forgets.names;
     entry = h.entry;
     more = more;
-    onward = extends_on h.given_up h.told w h.told_extends h.extends;
+    onward = extends_on h.given_up h.reported w h.reported_extends h.extends;
     long = long;
     rising = rising;
     shown = shown;

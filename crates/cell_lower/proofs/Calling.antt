@@ -134,7 +134,7 @@ pub ruleset numbering = (instance_there)
 takes_more : (k m l : Known) (n : ℕ) (ns before rs qs : List ℕ) → TakesOne k n before rs m → TakesAll m ns rs qs l → TakesAll k (n ∷ ns) before qs l
 takes_more k m l n ns before rs qs a b = record {
   credits = a.credit ∷ b.credits;
-  behind = b.behind ∙ ap (λ x. x ++ b.credits) a.behind ∙ sym (append_one before a.credit b.credits);
+  following = b.following ∙ ap (λ x. x ++ b.credits) a.following ∙ sym (append_one before a.credit b.credits);
   taken = (a.taken.rest, a.taken.taken, subst (λ x. AreTaken x ns b.credits l) a.taken.known b.taken);
   kept = λ x. let y = b.kept (taken_accounted k m n a.credit a.taken x) in (y.0, last_on k.credits m.credits l.credits (taken_last k m n a.credit a.taken x) y.1);
   names = b.names ∙ ap (λ (x : Known). x.names) a.taken.known;
@@ -150,10 +150,10 @@ takes_step k0 ns0 before0 k m ns before rs i n e f a = record {
 }
 
 pub takes_end : (k0 : Known) (ns0 before0 : List ℕ) (k : Known) (before : List ℕ) → FollowCredits k0 ns0 before0 k [] before → TakesAll k0 ns0 before0 before k
-takes_end k0 ns0 before0 k before f = f.by before k (record { credits = []; behind = sym (append_none before); taken = refl; kept = λ a. (a, last_same k.credits); names = refl; next = refl })
+takes_end k0 ns0 before0 k before f = f.by before k (record { credits = []; following = sym (append_none before); taken = refl; kept = λ a. (a, last_same k.credits); names = refl; next = refl })
 
 pub takes_one : (k m : Known) (n r : ℕ) (before rs : List ℕ) → Takes k n r m → rs ≡ before ++ r ∷ [] → TakesOne k n before rs m
-takes_one k m n r before rs t e = record { credit = r; behind = e; taken = t }
+takes_one k m n r before rs t e = record { credit = r; following = e; taken = t }
 
 pub takes_done : (k0 : Known) (ns0 before0 : List ℕ) (k : Known) (ns before : List ℕ) (i : ℕ) → length ns ≤ i → FollowCredits k0 ns0 before0 k (drop i ns) before → TakesAll k0 ns0 before0 before k
 takes_done k0 ns0 before0 k ns before i e f = takes_end k0 ns0 before0 k before (subst (λ x. FollowCredits k0 ns0 before0 k x before) (drop_done ns i e) f)
@@ -214,7 +214,7 @@ calls_at s k m1 m l v w g f d rs qs target a b e t c = record {
     numbered = a;
     there = b;
     taken = subst (λ x. AreTaken x d.credits t.credits m) e t.taken;
-    ends = subst (λ x. EndsSo s code (size v) m f x d.results target (size w) l) t.behind (c.code to code h);
+    ends = subst (λ x. EndsSo s code (size v) m f x d.results target (size w) l) t.following (c.code to code h);
   };
   stay = stay_on target k m l many c.stay;
   few = adds_less (suc (registers m)) 0 (suc (registers k)) 0 v w (omega (arith, many)) (omega arith) c.few;

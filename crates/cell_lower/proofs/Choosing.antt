@@ -40,7 +40,7 @@ use Rattle.lower_frame.specs.Labels.{labels}
 use Rattle.cell_lower.specs.Growth.{IsRoom, left, Spends, sides_cost, sides_left, way_cost, way_left}
 use Rattle.cell_lower.proofs.Paying.{live_split, left_last, left_branch, reading_pays, naming_pays, pays_last, pays_test, pays_taken, pays_named, pays_side, spends_on, spends_none, spends_less, spends_one}
 use Rattle.lower_frame.specs.Positions.{spot_of}
-use Rattle.cell_lower.specs.Testing.{TellsSide}
+use Rattle.cell_lower.specs.Testing.{ReportsSide}
 use Rattle.cell_lower.proofs.Trying.{last_laid, test_laid, chosen_laid, steps_laid_on, follows_laid}
 use Rattle.cell_lower.specs.Scenes.{pattern_at, patterns_of, scene, HasRows, side_of, sides_of, first_side, HasLabel, Labelled, Ready, NotFirst, reading_of, IsFirstOf, SettlesBy, Settles, Tests, Then, Advances, Asks, PlacesSide, FollowsIn, Follows, ChoosesIf}
 use Rattle.fip_language.proofs.Facts.{less_or_same, same_some}
@@ -147,7 +147,7 @@ label_before v w i e f g = record {
   grows = let p = ap (λ x. length (x ++ i ∷ [])) f in omega (arith, p);
   same = λ p j h. ap (λ x. slice_get (x ++ i ∷ []) p) f ∙ h;
   placed = λ l p h. e.placed l p h;
-  told = λ p h. ap (λ x. label_at x p) g;
+  reported = λ p h. ap (λ x. label_at x p) g;
 }
 
 pub tested : (p : M.Pattern) (k : Known) (root : S.Spot) (x y : Reading) (w z : Written) (read : List ℕ) (a : Rattle.lower_frame.specs.lowering_relation.Reading.Asked) (l : ℕ) (d : Side) → Rattle.lower_frame.specs.lowering_relation.Reading.asked p k root ≡ Some a → y ≡ reading p k root x → Extends y.written w → w.instrs ≡ y.written.instrs → w.maps ≡ y.written.maps → z ≡ added w (test_of a.register a.head l) → read ≡ y.read → d.known ≡ side false p k → d.read ≡ y.read → d.label ≡ Some l → labels w ≡ suc (labels y.written) → Tests p k root x z read d
@@ -201,7 +201,7 @@ pub asks_last : (tb : Table) (c : Choice) (p : M.Pattern) (v : Written) (k l : K
 asks_last tb c p v k l read ds last e = record {
   by = λ low i q is there same asks. record {
     new = [];
-    behind = sym (every_none ds);
+    following = sym (every_none ds);
     labelled = tt;
     extends = same_extends v;
     by = λ to code h good none.
@@ -216,7 +216,7 @@ pub asks_test : (tb : Table) (c : Choice) (p : M.Pattern) (v w : Written) (k l :
 asks_test tb c p v w k l read read_on ds es d unsettled t e f = record {
   by = λ low i q is there same asks. record {
     new = d ∷ [];
-    behind = e;
+    following = e;
     labelled = (subst HasLabel (sym t.label) tt, tt);
     extends = extends_on v (added y.written test) w (extends_on v y.written (added y.written test) (reading_extends p k (spot_of c.root) x) (added_extends y.written test)) t.extends;
     by = λ to code h good others. by_row low i q is there same asks to code h good others;
@@ -263,7 +263,7 @@ pub advances_chosen : (tb : Table) (c : Choice) (v w : Written) (k : Known) (rea
 advances_chosen tb c v w k read read_on ds i f t = record {
   by = λ low is has. record {
     new = [];
-    behind = sym (every_none ds);
+    following = sym (every_none ds);
     labelled = tt;
     extends = settled_extends c.takes t.by;
     by = λ to code h leads none. by_takes low is has to code h leads c.takes refl t.by;
@@ -316,7 +316,7 @@ advances_on : (tb : Table) (c : Choice) (v w z : Written) (k l m : Known) (ra rb
 advances_on tb c v w z k l m ra rb rc ds es fs o a b = record {
   by = λ low is has. let p = a.by low is has in let q = b.by low is has in record {
     new = p.new ++ q.new;
-    behind = q.behind ∙ ap (λ x. x ++ q.new) p.behind ∙ append_again ds p.new q.new;
+    following = q.following ∙ ap (λ x. x ++ q.new) p.following ∙ append_again ds p.new q.new;
     labelled = every_append Labelled p.new q.new p.labelled q.labelled;
     extends = extends_on v w z p.extends q.extends;
     by = λ to code h next good.
@@ -337,14 +337,14 @@ pub follows_to : (tb : Table) (kinds : List Kind) (c : Choice) (v u w : Written)
 follows_to tb kinds c v u w d k l ra rb ds es i o p e f g a = record {
   by = λ low is has. let q = a.by low is has in record {
     new = q.new;
-    behind = q.behind;
+    following = q.following;
     labelled = q.labelled;
     extends = extends_on v u w (side_extends d.label p) q.extends;
     by = λ to code h leads good.
         at_label low to code d.label p (front (size v) u w to code q.extends h)
         (subst (λ z. Good (scene tb low c) to code (size u) d.known z) g (subst (λ z. Good (scene tb low c) to code (size u) z ra) f
         (q.by to code (back (size v) (size u) w to code (side_extends d.label p).grows h) (subst (Then (scene tb low c) to code w l rb) (sym e) leads) good)));
-    laid = follows_laid (scene tb low c) is v u w d k l ra rb q.new i o (side_long d.label p) (side_extends d.label p) e f g q.laid kinds (side_tells q.extends q.laid.maps d.label p);
+    laid = follows_laid (scene tb low c) is v u w d k l ra rb q.new i o (side_long d.label p) (side_extends d.label p) e f g q.laid kinds (side_reports q.extends q.laid.maps d.label p);
   };
   few = λ n room. pays_side n tb (rows c.rows.items) d k ra ds es (way_cost n tb (rows c.rows.items) o l rb es) (way_left n tb (rows c.rows.items) o l es) v u w f (side_long d.label p) (side_labels d.label p)
       (ap (λ z. way_cost n tb (rows c.rows.items) z l rb es) e) (ap (λ z. way_left n tb (rows c.rows.items) z l es) e) (a.few n room);
@@ -362,9 +362,9 @@ follows_to tb kinds c v u w d k l ra rb ds es i o p e f g a = record {
     side_labels None x = ap labels x
     side_labels (Some n) x = x.3
 
-    side_tells : Extends u w → w.maps ≡ u.maps → (o' : Option ℕ) → PlacesSide v o' kinds u → TellsSide v o' kinds w
-    side_tells more same None x = same ∙ ap (λ (y : Written). y.maps) x
-    side_tells more same (Some n) x = (more.placed n (size v) x.2, same ∙ x.4)
+    side_reports : Extends u w → w.maps ≡ u.maps → (o' : Option ℕ) → PlacesSide v o' kinds u → ReportsSide v o' kinds w
+    side_reports more same None x = same ∙ ap (λ (y : Written). y.maps) x
+    side_reports more same (Some n) x = (more.placed n (size v) x.2, same ∙ x.4)
 
     at_label : (low : ℕ) (to : ℕ → ℕ) (code : List Instr) (o' : Option ℕ) → PlacesSide v o' kinds u → HasFrom (size v) u to code → Good (scene tb low c) to code (size u) d.known d.read → Good (scene tb low c) to code (place_of_side to (size v) o') d.known d.read
     at_label low to code None x h good = subst (λ z. Good (scene tb low c) to code (size z) d.known d.read) x good
@@ -395,13 +395,13 @@ module _ (tb : Table) (c : Choice) where
     taken_labelled v ds d (inr b) = let two = unlabelled ds d b.0 in (subst (Every Labelled) (sym two.0) tt, inl b.1)
 
     pub turned : (kinds : List Kind) (v w : Written) (ds : List Side) (d : Side) (es : List Side) (i : ℕ) → Ready start v (ds ++ d ∷ []) → FollowsIn s kinds v d ds w es i → Every Labelled es × ((to : ℕ → ℕ) (code : List Instr) → HasFrom (size v) w to code → LeadsTo s to code (size w) i → AllGood s to code start es → AllGood s to code start (ds ++ d ∷ []))
-    turned kinds v w ds d es i ready f = (labelled, λ to code h leads good. whole to code h leads (subst (AllGood s to code start) f.behind good))
+    turned kinds v w ds d es i ready f = (labelled, λ to code h leads good. whole to code h leads (subst (AllGood s to code start) f.following good))
       where
         before : Every Labelled ds × ((start ≡ size v) ⊎ HasLabel d.label)
         before = taken_labelled v ds d ready
 
         labelled : Every Labelled es
-        labelled = subst (Every Labelled) (sym f.behind) (every_append Labelled ds f.new before.0 f.labelled)
+        labelled = subst (Every Labelled) (sym f.following) (every_append Labelled ds f.new before.0 f.labelled)
 
         same_place : (to : ℕ → ℕ) (o : Option ℕ) → (start ≡ size v) ⊎ HasLabel o → place_of_side to (size v) o ≡ place_of_side to start o
         same_place to None (inl e) = sym e

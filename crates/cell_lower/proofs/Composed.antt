@@ -22,7 +22,7 @@ use Rattle.lower_frame.specs.lowering_relation.Spots as S
 use Rattle.lower_frame.proofs.lowering_relation.Choices.{patterns_in}
 use Rattle.lower_frame.proofs.lowering_relation.Placing.{same_extends, extends_on, front}
 use Rattle.lower_frame.specs.lowering_relation.Describing.{held_at, kinds_of}
-use Rattle.lower_frame.specs.lowering_relation.Labels.{told, Takes, Tells}
+use Rattle.lower_frame.specs.lowering_relation.Labels.{reported, Takes, Reports}
 use Rattle.lower_frame.specs.lowering_relation.Tests.{Choice, ChunkLaid, SidesLaid}
 use Rattle.lower_frame.specs.lowering_relation.Matches.{BuiltRight, Forgets, MatchBegins, MatchLaid, clause_patterns, wide, wide_at, widened}
 use Rattle.lower_frame.specs.lowering_relation.Joins.{ClauseEnds, Meets}
@@ -46,7 +46,7 @@ use Rattle.cell_lower.proofs.Seeing.{start_seen}
 use Rattle.cell_lower.proofs.Sided.{widened_again, front_part, back_part}
 use Rattle.cell_lower.proofs.Sighting.{get_held}
 use Rattle.cell_lower.proofs.Lessening.{Less, IsWide, less_on, less_reaching, built_less, built_later, wide_held, wide_itself, plain_wide, waits_less, solid_less, named_less, wide_on}
-use Rattle.cell_lower.proofs.Shown.{some_there, under_told, tells_takes, takes_same, takes_narrow, catches_by}
+use Rattle.cell_lower.proofs.Shown.{some_there, under_reported, reports_takes, takes_same, takes_narrow, catches_by}
 use Rattle.cell_lower.proofs.Begun.{Facts, Idle, Begun, begun, begun_return, begun_bares}
 use Rattle.cell_lower.proofs.Trying.{all_caught_less}
 use Rattle.cell_lower.proofs.Composing.{rising_less, sc, From, Before, IdleAt, ClauseOut, FirstLaid, ReturnOut, ReturnLaid, IntoOut, IntoLaid, OneInto, lays_out, first_laid, before_next, return_out, into_out, one_into, to_end, over_all, next_before, next_all, ends_laid}
@@ -79,11 +79,11 @@ module _ (s : Setting) (k : Known) (v : Written) (a : Argument) (g : Matching) (
     abbrev root : ℕ
     root = S.register (spot_of g.choice.root)
 
-    same_told : (r : ℕ) → told c g.entry r ≡ told c forgot r
-    same_told r = ap (λ (x : Known). told c x r) start.entry
+    same_reported : (r : ℕ) → reported c g.entry r ≡ reported c forgot r
+    same_reported r = ap (λ (x : Known). reported c x r) start.entry
 
     takes_forgot : LabelTakes c f (size given_up) forgot
-    takes_forgot map e = takes_same f.registers map (told c g.entry) (told c forgot) same_told (takes map (ap (label_at f.labels) start.long ∙ e))
+    takes_forgot map e = takes_same f.registers map (reported c g.entry) (reported c forgot) same_reported (takes map (ap (label_at f.labels) start.long ∙ e))
 
     built_before : BuiltWell s.types (size v) before
     built_before = built_less s.types (size v) k before start.less built
@@ -94,7 +94,7 @@ module _ (s : Setting) (k : Known) (v : Written) (a : Argument) (g : Matching) (
     not_built : (h : Held) (t d : ℕ) → is_built h ≡ false → h ≡ H.Owned t (Some d) → ⊥
     not_built h t d e x = true≢false (sym (ap is_built x) ∙ e)
 
-    forgets : ForgetsLaid s.types root before given_up forgot start.told → Forgets c f (size given_up) before root forgot
+    forgets : ForgetsLaid s.types root before given_up forgot start.reported → Forgets c f (size given_up) before root forgot
     forgets (inl e) = inl (e.0, λ t d x. not_built (held_at before.held root) t d (ap is_built (sym (get_held before.held root)) ∙ e.2) x)
     forgets (inr e) = by (cases_eq (size given_up) 0)
       where
@@ -105,7 +105,7 @@ module _ (s : Setting) (k : Known) (v : Written) (a : Argument) (g : Matching) (
               e.0 ∙ ap (λ xs. record before { held = xs }) (wide_itself before.held (λ r. plain_wide (held_at before.held r) ((built_before r).later first).0)),
               λ t d x. not_built (held_at before.held root) t d ((built_before root).later first).0 x,
             )
-        by (inr later) = inr (e.0, catches_by c f (size given_up) forgot (has.labels e.2.label (size given_up) (after.placed e.2.label (size given_up) (start.told_on.placed e.2.label (size given_up) e.2.placed)) (omega (arith, later))) takes_forgot)
+        by (inr later) = inr (e.0, catches_by c f (size given_up) forgot (has.labels e.2.label (size given_up) (after.placed e.2.label (size given_up) (start.reported_on.placed e.2.label (size given_up) e.2.placed)) (omega (arith, later))) takes_forgot)
 
     begins : MatchBegins c f (size given_up) before start.variable g.choice.ty choice g.entry
     begins = record {
@@ -124,7 +124,7 @@ module _ (s : Setting) (k : Known) (v : Written) (a : Argument) (g : Matching) (
       typed = λ i q e. subst (λ x. IsPattern x g.choice.ty (row_of q)) (sym types) (start.facts.is.typed i q e);
     }
 
-    pub match_laid : (d : Bool) (t : ℕ) (q : Pattern) (cs : Clauses) (mid more end : ℕ) → g.choice.ty ≡ t → g.choice.takes ≡ (d && not (is_scalar s t)) → patterns_of g.choice ≡ q ∷ patterns_in cs → ChunkLaid c f (held_at g.entry.held) choice (size w) (Open []) [] (told c g.entry) mid → SidesLaid c f (wide_at (held_at g.entry.held)) choice more mid end → MatchLaid c s f (size given_up) before d t a q cs choice g.entry end
+    pub match_laid : (d : Bool) (t : ℕ) (q : Pattern) (cs : Clauses) (mid more end : ℕ) → g.choice.ty ≡ t → g.choice.takes ≡ (d && not (is_scalar s t)) → patterns_of g.choice ≡ q ∷ patterns_in cs → ChunkLaid c f (held_at g.entry.held) choice (size w) (Open []) [] (reported c g.entry) mid → SidesLaid c f (wide_at (held_at g.entry.held)) choice more mid end → MatchLaid c s f (size given_up) before d t a q cs choice g.entry end
     match_laid d t q cs mid more end type took patterns first sides = record {
       variable = start.variable;
       is_variable = start.is;
@@ -133,7 +133,7 @@ module _ (s : Setting) (k : Known) (v : Written) (a : Argument) (g : Matching) (
       patterns = patterns ∙ ap (λ x. q ∷ x) (same_patterns cs);
       mid = mid;
       more = more;
-      first = subst (λ x. ChunkLaid c f (held_at g.entry.held) choice x (Open []) [] (told c g.entry) mid) start.long first;
+      first = subst (λ x. ChunkLaid c f (held_at g.entry.held) choice x (Open []) [] (reported c g.entry) mid) start.long first;
       sides = sides;
     }
 
@@ -144,23 +144,23 @@ module _ (s : Setting) (k : Known) (v : Written) (a : Argument) (g : Matching) (
         right_k : (r : ℕ) → BuiltRight c.types (held_at k.held r)
         right_k r = subst (λ x. BuiltRight x (held_at k.held r)) (sym types) (built r).built
 
-        here : size given_up ≡ size v → (forgot ≡ before) ⊎ (forgot ≡ wide before) → Takes f.registers map (told c forgot) → Takes f.registers map (told c k)
-        here same (inl x) h = subst (λ (y : Known). Takes f.registers map (told c y)) (x ∙ start.still same) h
+        here : size given_up ≡ size v → (forgot ≡ before) ⊎ (forgot ≡ wide before) → Takes f.registers map (reported c forgot) → Takes f.registers map (reported c k)
+        here same (inl x) h = subst (λ (y : Known). Takes f.registers map (reported c y)) (x ∙ start.still same) h
         here same (inr x) h = takes_narrow f.registers c.types map (held_at forgot.held) (held_at k.held) right_k (λ r. ap widened (is r) ∙ widened_again (held_at k.held r)) (λ r. ap widened (is r) ∙ widened_again (held_at k.held r) ∙ sym (is r)) h
           where
             is : (r : ℕ) → held_at forgot.held r ≡ widened (held_at k.held r)
             is r = ap (λ (y : Known). held_at y.held r) x ∙ wide_held before.held r ∙ ap (λ (y : Known). widened (held_at y.held r)) (start.still same)
 
-        which : ForgetsLaid s.types root before given_up forgot start.told → (forgot ≡ before) ⊎ (forgot ≡ wide before)
+        which : ForgetsLaid s.types root before given_up forgot start.reported → (forgot ≡ before) ⊎ (forgot ≡ wide before)
         which (inl x) = inl x.0
         which (inr x) = inr x.0
 
-        by : (size given_up ≡ size v) ⊎ (size given_up ≡ size v → ⊥) → Takes f.registers map (told c k)
+        by : (size given_up ≡ size v) ⊎ (size given_up ≡ size v → ⊥) → Takes f.registers map (reported c k)
         by (inl same) = here same (which start.forgotten) (takes_forgot map (ap (label_at f.labels) same ∙ e))
         by (inr ne) =
             let lt : size v < size given_up = (let x = start.extends.grows in omega (arith, x, ne)) in
-            let there : label_at v.maps (size v) ≡ Some map = sym (has.told (size v) (omega arith) (let x = start.long in omega (arith, lt, x, longer)) ∙ (extends_on given_up w z start.onward after).told (size v) lt ∙ ap (λ ms. label_at ms (size v)) start.maps) ∙ e in
-            tells_takes f.registers map (told c k) (subst (λ x. Tells x map (told c k)) (sym many) (subst (λ x. Tells (registers k) map (kinds_of x (held_at k.held))) (sym types) (under.shown map there)))
+            let there : label_at v.maps (size v) ≡ Some map = sym (has.reported (size v) (omega arith) (let x = start.long in omega (arith, lt, x, longer)) ∙ (extends_on given_up w z start.onward after).reported (size v) lt ∙ ap (λ ms. label_at ms (size v)) start.maps) ∙ e in
+            reports_takes f.registers map (reported c k) (subst (λ x. Reports x map (reported c k)) (sym many) (subst (λ x. Reports (registers k) map (kinds_of x (held_at k.held))) (sym types) (under.shown map there)))
 
 -- the first clause
 
@@ -222,7 +222,7 @@ module _ (s : Setting) (fip : Bool) (ns : List Need) (k : Known) (v : Written) (
         (before_next s fip g h.forgot.next (registers k) start.facts q b Return p0.clause k0 w0 (sides_of p0.sides.items) first.known first.begun first.last first.ended (sides_of p1.sides.items) out zeroth p1.clause k1 first.ended first.next
         (let x = first.room in let y = out.body.room in let m = out.enters.many in let e = start.facts.many in omega (arith, x, y, m, e)) (omega arith) (rising_less (size first.ended) 0 first.ended.maps out.body.onward))
 
-    -- no clause tells what is known at its end
+    -- no clause reports what is known at its end
     pub none_joined : p2.joined ≡ None
     none_joined = rest.joined ∙ first.ends.1 ∙ unjoined
 
@@ -245,13 +245,13 @@ module _ (s : Setting) (fip : Bool) (ns : List Need) (k : Known) (v : Written) (
       has_start : HasPart (size w0) w2 to f
       has_start = back_part to f v w0 w2 to_start has
 
-      behind : ReturnLaid s fip g h.forgot.next (registers k) start.facts c to f types many cs p1.clause first.ended w2 (sides_of p1.sides.items)
-      behind = rest.laid c to f types many w2 (same_extends w2) (back_part to f w0 first.ended w2 to_ended has_start) (size w0) (built_entry s k v a g h.before h.given_up h.forgot w0 start under built)
+      following : ReturnLaid s fip g h.forgot.next (registers k) start.facts c to f types many cs p1.clause first.ended w2 (sides_of p1.sides.items)
+      following = rest.laid c to f types many w2 (same_extends w2) (back_part to f w0 first.ended w2 to_ended has_start) (size w0) (built_entry s k v a g h.before h.given_up h.forgot w0 start under built)
           (let x = to_ended.grows in let y = out.body.longer in let u = out.starts.as_long in let z = out.tests.extends.grows in omega (arith, y, u, z))
 
       first_out : FirstLaid s fip g h.forgot.next (registers k) start.facts c to f types many q b Return w0 first.known first.begun first.last first.ended
       first_out = first_laid s fip g h.forgot.next (registers k) start.facts c to f types many q b Return p0.clause k0 w0 (sides_of p0.sides.items) first.known first.begun first.last first.ended (sides_of p1.sides.items) out zeroth w2 rest.extends has_start
-          at_start none start.shown (built_entry s k v a g h.before h.given_up h.forgot w0 start under built) behind.caught (subst (λ i. From s fip g h.forgot.next (registers k) start.facts c to f types many i (size first.ended)) first.next behind.from)
+          at_start none start.shown (built_entry s k v a g h.before h.given_up h.forgot w0 start under built) following.caught (subst (λ i. From s fip g h.forgot.next (registers k) start.facts c to f types many i (size first.ended)) first.next following.from)
 
       laid : ExpressionLaid c s fip f (size v) k whole Return (size w2) k2
       laid = (
@@ -266,7 +266,7 @@ module _ (s : Setting) (fip : Bool) (ns : List Need) (k : Known) (v : Written) (
             (match_laid s k v a g h.before h.given_up h.forgot w0 start under c to f types many built w2 from_start has first_out.takes d t q cs first_out.mid first_out.more (size first.begun) h.positions.type h.takes h.patterns first_out.first first_out.sides)),
         first_out.entry,
         first_out.body,
-        subst (λ i. ClausesLaid c s fip f (choice_at to (sc s false g h.forgot.next (registers k) start.facts)) g.entry i cs (size first.ended) (size w2)) (first.next ∙ ap suc none) behind.clauses,
+        subst (λ i. ClausesLaid c s fip f (choice_at to (sc s false g h.forgot.next (registers k) start.facts)) g.entry i cs (size first.ended) (size w2)) (first.next ∙ ap suc none) following.clauses,
       )
 
       in_return : LaidIn s k v Return k2 w2 (ExpressionLaid c s fip f (size v) k whole Return (size w2) k2) c f
@@ -313,37 +313,37 @@ module _ (s : Setting) (fip : Bool) (ns : List Need) (k : Known) (v : Written) (
     meets : MeetsLaid s g joins.met k2 w2 l w
     meets = subst (λ o. EndsMatchLaid s g o k2 w2 l w) joins.is ended
 
-    -- what is known behind it
+    -- what is known after it
 
     wide_met : IsWide joins.met
     wide_met = wide_on one.gone joins.met joins.less one.end.wide
 
-    known_behind : l ≡ reaching joins.met l.next
-    known_behind = meets.known ∙ ap (λ xs. record (reaching joins.met l.next) { held = xs }) (wide_itself joins.met.held wide_met)
+    known_after : l ≡ reaching joins.met l.next
+    known_after = meets.known ∙ ap (λ xs. record (reaching joins.met l.next) { held = xs }) (wide_itself joins.met.held wide_met)
 
-    more_behind : joins.met.next ≤ l.next
-    more_behind = let x = meets.next in omega (arith, x)
+    more_after : joins.met.next ≤ l.next
+    more_after = let x = meets.next in omega (arith, x)
 
-    less_behind : Less first.last l
-    less_behind = less_on first.last one.gone l one.end.less (less_on one.gone joins.met l joins.less (subst (Less joins.met) (sym known_behind) (less_reaching joins.met l.next more_behind)))
+    less_after : Less first.last l
+    less_after = less_on first.last one.gone l one.end.less (less_on one.gone joins.met l joins.less (subst (Less joins.met) (sym known_after) (less_reaching joins.met l.next more_after)))
 
-    wide_behind : IsWide l
-    wide_behind = subst IsWide (sym known_behind) wide_met
+    wide_after : IsWide l
+    wide_after = subst IsWide (sym known_after) wide_met
 
-    many_behind : registers l ≡ registers k
-    many_behind = less_behind.many ∙ one.out.body.stay ∙ one.out.enters.many ∙ begins_facts.many
+    many_after : registers l ≡ registers k
+    many_after = less_after.many ∙ one.out.body.stay ∙ one.out.enters.many ∙ begins_facts.many
 
-    room_behind : l.next ≤ registers k
-    room_behind = let x = meets.next in let y = joins.room in let z = joins.next in let u = one.end.next in let r = one.out.body.room in let m = one.out.enters.many in let e = begins_facts.many in omega (arith, x, y, z, u, r, m, e)
+    room_after : l.next ≤ registers k
+    room_after = let x = meets.next in let y = joins.room in let z = joins.next in let u = one.end.next in let r = one.out.body.room in let m = one.out.enters.many in let e = begins_facts.many in omega (arith, x, y, z, u, r, m, e)
 
-    accounts_behind : Accounted l
-    accounts_behind = less_behind.accounts one.out.body.onward.0.accounts
+    accounts_after : Accounted l
+    accounts_after = less_after.accounts one.out.body.onward.0.accounts
 
-    under_behind : Underway s.types l w
-    under_behind = under_told s.types l w2 w wide_behind accounts_behind (named_less first.last l less_behind one.out.body.onward.0.named) (omega (arith, room_behind, many_behind)) meets.maps meets.as_long joins.rising
+    under_after : Underway s.types l w
+    under_after = under_reported s.types l w2 w wide_after accounts_after (named_less first.last l less_after one.out.body.onward.0.named) (omega (arith, room_after, many_after)) meets.maps meets.as_long joins.rising
 
-    still_behind : (x : ℕ) → Waits k x → (Among x rs → ⊥) → Waits l x
-    still_behind x wait apart = let i = begins_into.idle x wait in waits_less first.last l x less_behind accounts_behind (one.out.body.onward.2 x (one.out.enters.waits x i.waits i.below i.apart) apart)
+    still_after : (x : ℕ) → Waits k x → (Among x rs → ⊥) → Waits l x
+    still_after x wait apart = let i = begins_into.idle x wait in waits_less first.last l x less_after accounts_after (one.out.body.onward.2 x (one.out.enters.waits x i.waits i.below i.apart) apart)
 
     -- what is written
 
@@ -395,7 +395,7 @@ module _ (s : Setting) (fip : Bool) (ns : List Need) (k : Known) (v : Written) (
       end_laid = ends_laid s fip g h.forgot.next (registers k) begins_facts whole rs q b p0 k0 w0 first.known first.begun first.last first.ended p1 k1 w1 one before_first cs (size w2) others_follow c to f types many w others_on has_first at_end joins.ends one_laid.built
 
       meet_laid : Meets f joins.met (size w2) l
-      meet_laid = let x = some_there (label_at f.labels (size w2)) (has.labels g.end (size w2) meets.placed end_later) in record { next = l.next; more = more_behind; known = known_behind; map = x.0; label = x.1 }
+      meet_laid = let x = some_there (label_at f.labels (size w2)) (has.labels g.end (size w2) meets.placed end_later) in record { next = l.next; more = more_after; known = known_after; map = x.0; label = x.1 }
 
       laid_into : ExpressionLaid c s fip f (size v) k whole (Into rs) (size w2) l
       laid_into = (
@@ -424,17 +424,17 @@ module _ (s : Setting) (fip : Bool) (ns : List Need) (k : Known) (v : Written) (
       in_into = record {
         laid = subst (λ x. ExpressionLaid c s fip f (size v) k whole (Into rs) x l) (sym meets.as_long) laid_into;
         first = first_takes s k v a g h.before h.given_up h.forgot w0 begins_into under c to f types many built w written_on has one_laid.takes whole_longer;
-        built = built_later s.types (size first.ended) (size w) l (omega (arith, whole_longer)) (built_less s.types (size first.ended) first.last l less_behind one_laid.built);
+        built = built_later s.types (size first.ended) (size w) l (omega (arith, whole_longer)) (built_less s.types (size first.ended) first.last l less_after one_laid.built);
       }
 
     pub match_into : LaysIn s k v (Into rs) l w (λ c f. ExpressionLaid c s fip f (size v) k whole (Into rs) (size w) l)
     match_into = record {
       extends = extends_on v w0 w to_first written_on;
       longer = let x = to_first.grows in omega (arith, x, whole_longer);
-      room = room_behind;
-      stay = many_behind;
+      room = room_after;
+      stay = many_after;
       laid = λ c to f types many has built. in_into c to f types many has built;
-      onward = (under_behind, solid_less first.last l rs less_behind one.out.body.onward.1, still_behind);
+      onward = (under_after, solid_less first.last l rs less_after one.out.body.onward.1, still_after);
     }
 
 -- a match, from what its parts have laid out

@@ -1,5 +1,5 @@
 -- Matches: from what the parts of the lowering of a match have laid out, the whole. Each clause's tests and body are
--- laid out where those of the clauses behind it are, since a test that fails leads there.
+-- laid out where those of the clauses after it are, since a test that fails leads there.
 use Rattle.std.proofs.Common.{◌≡◌, ◌⊎◌, inl, inr, refl, sym, ap, ◌∙◌, subst, arith, ℕ, zero, suc, ◌<◌, ◌≤◌, Bool, true, List, [], ◌∷◌, length, map, drop, Option, Some, None, slice_get}
 use Rattle.std.specs.Prelude.{is_some, option_map}
 use Rattle.std.proofs.lemmas.Bool.{cases_eq}
@@ -25,7 +25,7 @@ use Rattle.lower_frame.specs.lowering_relation.Entering.{entering_root}
 use Rattle.lower_frame.proofs.lowering_relation.Choices.{patterns_in}
 use Rattle.lower_frame.proofs.lowering_relation.Placing.{same_extends, extends_on, added_extends, one_longer, front, back, stands, has_all}
 use Rattle.lower_frame.specs.lowering_relation.Describing.{held_at, kinds_of}
-use Rattle.lower_frame.specs.lowering_relation.Labels.{told, Takes, Tells}
+use Rattle.lower_frame.specs.lowering_relation.Labels.{reported, Takes, Reports}
 use Rattle.lower_frame.specs.lowering_relation.Standing.{AreRising}
 use Rattle.lower_frame.specs.lowering_relation.Tests.{Choice, ChunkLaid, SidesLaid}
 use Rattle.lower_frame.specs.lowering_relation.Matches.{BuiltRight, widened, wide_at, entered, EntryLaid}
@@ -42,8 +42,8 @@ use Rattle.cell_lower.specs.Laying.{HasPart, Underway}
 use Rattle.cell_lower.specs.Scenes.{scene, patterns_of, sides_of, first_side, Labelled, Ready}
 use Rattle.cell_lower.specs.Testing.{Alike, choice_at, Caught, SeenSide}
 use Rattle.cell_lower.specs.Chosen.{RuledSide, LaterSide, Enters, Premises, LaidSides, LaidFirst, ChoosesLaidIn}
-use Rattle.cell_lower.specs.Bodies.{RightAt, BuiltWell, WaitsAt, LabelTakes, BuiltBehind, LaidIn, LaysIn, LaysBlock}
-use Rattle.cell_lower.specs.Leaving.{CanLeave, ClauseLeavesLaid, LeftBehind}
+use Rattle.cell_lower.specs.Bodies.{RightAt, BuiltWell, WaitsAt, LabelTakes, BuiltAfter, LaidIn, LaysIn, LaysBlock}
+use Rattle.cell_lower.specs.Leaving.{CanLeave, ClauseLeavesLaid, LeftAfter}
 use Rattle.cell_lower.specs.Matches.{StartsLaid, JoinsLaid, GoesLaid, ClauseLays, ClausesLay}
 use Rattle.cell_lower.proofs.Arriving.{EntersWell, enters_well}
 use Rattle.cell_lower.proofs.Entries.{chunk_end, first_straight, straight_to, straight_held, plain_right, entry_later, entry_start}
@@ -53,7 +53,7 @@ use Rattle.cell_lower.proofs.Overlaying.{missing}
 use Rattle.cell_lower.proofs.Sided.{widened_again, front_part, back_part}
 use Rattle.cell_lower.proofs.Trying.{all_caught_less}
 use Rattle.cell_lower.proofs.Lessening.{Less, IsWide, less_same, less_on, less_left, less_met, wide_held, wide_wide, built_later}
-use Rattle.cell_lower.proofs.Shown.{under_told, tells_takes, takes_narrow}
+use Rattle.cell_lower.proofs.Shown.{under_reported, reports_takes, takes_narrow}
 use Rattle.cell_lower.proofs.Begun.{Facts, Idle}
 use Rattle.fip_language.proofs.Facts.{none_some, same_some}
 
@@ -89,7 +89,7 @@ module _ (s : Setting) (fip : Bool) (g : Matching) (low n : ℕ) (facts : Facts 
   abbrev pub hs : List Held
   hs = g.entry.held
 
-  -- where clause i is to be written, behind v
+  -- where clause i is to be written, after v
   pub record Before (i : ℕ) (k : Known) (v : Written) (ds : List Side) : Type 0 where
     pub room : k.next ≤ n
     pub rising : Rising (size v) 0 v.maps
@@ -140,7 +140,7 @@ module _ (s : Setting) (fip : Bool) (g : Matching) (low n : ℕ) (facts : Facts 
       wide_known = wide_wide (entering_root s g.choice.takes q spot (reaching g.entry known.next)) known starts.known
 
       under : Underway s.types known begun
-      under = under_told s.types known starts.chosen begun wide_known enters.accounts enters.named (let x = enters.many in let m = facts.many in omega (arith, most, x, m)) starts.maps starts.as_long (tests.rising before.rising)
+      under = under_reported s.types known starts.chosen begun wide_known enters.accounts enters.named (let x = enters.many in let m = facts.many in omega (arith, most, x, m)) starts.maps starts.as_long (tests.rising before.rising)
 
   -- the next one
   pub before_next : (q : Pattern) (b : Block) (target : Target) (i : ℕ) (k : Known) (v : Written) (ds : List Side) (known : Known) (begun : Written) (last : Known) (ended : Written) (es : List Side) → ClauseOut q b target i k v ds known begun last ended es → Before i k v ds → (o : ℕ) (l : Known) (u : Written) → o ≡ suc i → l.next ≤ n → size ended ≤ size u → Rising (size u) 0 u.maps → Before o l u es
@@ -164,20 +164,20 @@ module _ (s : Setting) (fip : Bool) (g : Matching) (low n : ℕ) (facts : Facts 
     abbrev pub ch : Choice
     ch = choice_at to sc
 
-    -- the bodies of clauses from i on begin at p or behind
+    -- the bodies of clauses from i on begin at p or after
     abbrev pub From : ℕ → ℕ → Type 0
     From i p = (j label : ℕ) → i ≤ j → slice_get g.choice.entries.items j ≡ Some label → p ≤ to label
 
     abbrev pub AllCaught : ℕ → List Side → Type 0
     AllCaught p ds = Every (Caught c f hs ch to p) ds
 
-    -- a clause behind another
+    -- a clause after another
     pub record LaterLaid (q : Pattern) (b : Block) (target : Target) (i : ℕ) (v : Written) (ds : List Side) (known : Known) (begun : Written) (last : Known) (ended : Written) : Type 0 where
       pub more : ℕ
       pub sides : SidesLaid c f (wide_at (held_at hs)) ch more (size v) (size begun)
       pub entry : EntryLaid c s f ch g.entry i q (size begun) known.next
       pub body : BlockLaid c s fip f (size begun) (entered s ch q g.entry known.next) b target (size ended) last
-      pub built : BuiltBehind s.types target (size ended) last
+      pub built : BuiltAfter s.types target (size ended) last
       pub caught : AllCaught (size v) ds
       pub from : From i (size v)
 
@@ -185,11 +185,11 @@ module _ (s : Setting) (fip : Bool) (g : Matching) (low n : ℕ) (facts : Facts 
     pub record FirstLaid (q : Pattern) (b : Block) (target : Target) (v : Written) (known : Known) (begun : Written) (last : Known) (ended : Written) : Type 0 where
       pub mid : ℕ
       pub more : ℕ
-      pub first : ChunkLaid c f (held_at hs) ch (size v) (Open []) [] (told c g.entry) mid
+      pub first : ChunkLaid c f (held_at hs) ch (size v) (Open []) [] (reported c g.entry) mid
       pub sides : SidesLaid c f (wide_at (held_at hs)) ch more mid (size begun)
       pub entry : EntryLaid c s f ch g.entry 0 q (size begun) known.next
       pub body : BlockLaid c s fip f (size begun) (entered s ch q g.entry known.next) b target (size ended) last
-      pub built : BuiltBehind s.types target (size ended) last
+      pub built : BuiltAfter s.types target (size ended) last
       pub takes : LabelTakes c f (size v) g.entry
 
     -- the clauses from number i on, whose values are the function's
@@ -244,7 +244,7 @@ module _ (s : Setting) (fip : Bool) (g : Matching) (low n : ℕ) (facts : Facts 
         label = out.starts.label;
         there = out.starts.entry;
         place = placed ∙ out.starts.as_long;
-        told = λ lt. subst (λ x. is_some (label_at f.labels x) ≡ true) out.starts.as_long (labelled (let e = out.starts.as_long in omega (arith, lt, e)));
+        reported = λ lt. subst (λ x. is_some (label_at f.labels x) ≡ true) out.starts.as_long (labelled (let e = out.starts.as_long in omega (arith, lt, e)));
       }
 
       onward : From (suc i) (size ended) → From i (size chosen)
@@ -275,8 +275,8 @@ module _ (s : Setting) (fip : Bool) (g : Matching) (low n : ℕ) (facts : Facts 
         enters = λ e. enters_at;
       }
 
-      caught_behind : AllCaught (size ended) es → AllCaught (size chosen) es
-      caught_behind h = all_caught_less c f hs ch to (size chosen) (size ended) (let x = out.starts.as_long in let y = out.body.longer in omega (arith, x, y)) es h
+      caught_after : AllCaught (size ended) es → AllCaught (size chosen) es
+      caught_after h = all_caught_less c f hs ch to (size chosen) (size ended) (let x = out.starts.as_long in let y = out.body.longer in omega (arith, x, y)) es h
 
       body_in : BuiltWell s.types (size begun) known → LaidIn s known begun target last ended (BlockLaid c s fip f (size begun) known b target (size ended) last) c f
       body_in built = out.body.laid c to f types (many ∙ sym facts.many ∙ sym out.enters.many) part_body built
@@ -302,12 +302,12 @@ module _ (s : Setting) (fip : Bool) (g : Matching) (low n : ℕ) (facts : Facts 
           begun_later = let x = to_begun.grows in omega (arith, lt, x)
 
           sides : LaidSides hs sc v ds chosen c to f
-          sides = out.tests.sides all c to f (premises (caught_behind caught) from)
+          sides = out.tests.sides all c to f (premises (caught_after caught) from)
 
           body : LaidIn s known begun target last ended (BlockLaid c s fip f (size begun) known b target (size ended) last) c f
           body = body_in (out.enters.right (size begun) begun_later (built_later s.types at (size begun) g.entry begun_later built))
 
-      pub first_laid : ds ≡ first_side ∷ [] → i ≡ 0 → ((map : List Kind) → label_at v.maps (size v) ≡ Some map → Tells n map (kinds_of s.types (held_at hs))) → BuiltWell s.types (size v) g.entry → AllCaught (size ended) es → From (suc i) (size ended) → FirstLaid q b target v known begun last ended
+      pub first_laid : ds ≡ first_side ∷ [] → i ≡ 0 → ((map : List Kind) → label_at v.maps (size v) ≡ Some map → Reports n map (kinds_of s.types (held_at hs))) → BuiltWell s.types (size v) g.entry → AllCaught (size ended) es → From (suc i) (size ended) → FirstLaid q b target v known begun last ended
       first_laid at_start zeroth shown built caught from = record {
         mid = first.0;
         more = first.1;
@@ -319,14 +319,14 @@ module _ (s : Setting) (fip : Bool) (g : Matching) (low n : ℕ) (facts : Facts 
         takes = takes;
       }
         where
-          tells : (map : List Kind) → label_at v.maps (size v) ≡ Some map → Tells f.registers map (told c g.entry)
-          tells map e = subst (λ x. Tells x map (told c g.entry)) (sym many) (subst (λ x. Tells n map (kinds_of x (held_at hs))) (sym types) (shown map e))
+          reports : (map : List Kind) → label_at v.maps (size v) ≡ Some map → Reports f.registers map (reported c g.entry)
+          reports map e = subst (λ x. Reports x map (reported c g.entry)) (sym many) (subst (λ x. Reports n map (kinds_of x (held_at hs))) (sym types) (shown map e))
 
           alike : Alike c.types hs (held_at hs)
           alike = record { held = λ r. refl; built = λ r. subst (λ x. BuiltRight x (held_at hs r)) (sym types) (built r).built }
 
-          first : LaidFirst hs sc v chosen c to f (told c g.entry)
-          first = out.tests.first at_start c to f (told c g.entry) (premises (caught_behind caught) from) alike tells
+          first : LaidFirst hs sc v chosen c to f (reported c g.entry)
+          first = out.tests.first at_start c to f (reported c g.entry) (premises (caught_after caught) from) alike reports
 
           -- no other body begins where its own does
           only : (j label : ℕ) → slice_get g.choice.entries.items j ≡ Some label → to label ≡ size begun → j ≡ i
@@ -338,7 +338,7 @@ module _ (s : Setting) (fip : Bool) (g : Matching) (low n : ℕ) (facts : Facts 
 
           plain : size begun ≡ size v → (r : ℕ) → held_at (entering_root s g.choice.takes q spot (reaching g.entry known.next)).held r ≡ held_at hs r
           plain e = straight_held s g q i c to f low facts.scalars types facts.takes facts.is out.there (held_at hs) (size v)
-              (first_straight c to f s.types low g v chosen (told c g.entry) (sym out.starts.as_long ∙ e) first) (λ j label x y. only j label x (y ∙ sym e)) known.next
+              (first_straight c to f s.types low g v chosen (reported c g.entry) (sym out.starts.as_long ∙ e) first) (λ j label x y. only j label x (y ∙ sym e)) known.next
 
           known_plain : size begun ≡ size v → (r : ℕ) → held_at known.held r ≡ widened (held_at hs r)
           known_plain e r = ap (λ (x : Known). held_at x.held r) out.starts.known ∙ wide_held (entering_root s g.choice.takes q spot (reaching g.entry known.next)).held r ∙ ap widened (plain e r)
@@ -371,7 +371,7 @@ module _ (s : Setting) (fip : Bool) (g : Matching) (low n : ℕ) (facts : Facts 
             where
               straight : first.0 ≡ size v → size begun ≡ size v
               straight x =
-                  let h = straight_to c f (held_at hs) (wide_at (held_at hs)) ch (size v) (told c g.entry) first.0 0 first.2 (sym x) in
+                  let h = straight_to c f (held_at hs) (wide_at (held_at hs)) ch (size v) (reported c g.entry) first.0 0 first.2 (sym x) in
                   goes h.clause h.entry
                 where
                   goes : (j : ℕ) → slice_get ch.entries j ≡ Some (size v) → size begun ≡ size v
@@ -386,15 +386,15 @@ module _ (s : Setting) (fip : Bool) (g : Matching) (low n : ℕ) (facts : Facts 
                           let w = out.starts.as_long in
                           omega (arith, here, le, up, w)
 
-              by : (size begun ≡ size v) ⊎ (size begun ≡ size v → ⊥) → Takes f.registers map (told c g.entry)
+              by : (size begun ≡ size v) ⊎ (size begun ≡ size v → ⊥) → Takes f.registers map (reported c g.entry)
               by (inl same) = takes_narrow f.registers c.types map (held_at known.held) (held_at hs) (λ r. alike.built r)
                   (λ r. ap widened (known_plain same r) ∙ widened_again (held_at hs r)) (λ r. ap widened (known_plain same r) ∙ widened_again (held_at hs r) ∙ sym (known_plain same r))
                   (body.first map (ap (label_at f.labels) same ∙ e))
-              by (inr ne) = tells_takes f.registers map (told c g.entry) (first.2.quiet.first (by_mid (cases_eq first.0 (size v))) map e)
+              by (inr ne) = reports_takes f.registers map (reported c g.entry) (first.2.quiet.first (by_mid (cases_eq first.0 (size v))) map e)
                 where
                   by_mid : (first.0 ≡ size v) ⊎ (first.0 ≡ size v → ⊥) → size v < first.0
                   by_mid (inl x) = absurd (ne (straight x))
-                  by_mid (inr x) = let y = chunk_end c f (held_at hs) ch (size v) (Open []) [] (told c g.entry) first.0 first.2 in omega (arith, x, y)
+                  by_mid (inr x) = let y = chunk_end c f (held_at hs) ch (size v) (Open []) [] (reported c g.entry) first.0 first.2 in omega (arith, x, y)
 
   -- a clause as its parts have laid it out
   pub lays_out : (q : Pattern) (b : Block) (target : Target) (p : Progress) (k : Known) (v : Written) (r : Progress) (m : Known) (u : Written) (h : ClauseLays s fip g (record { pattern = q; body = b }) target p k v r m u) (start : ℕ) → slice_get (patterns_of g.choice) p.clause ≡ Some q → Ready start v (sides_of p.sides.items) → Before p.clause k v (sides_of p.sides.items) → IdleAt target → ClauseOut q b target p.clause k v (sides_of p.sides.items) h.known h.begun h.last h.ended (sides_of r.sides.items)
@@ -429,11 +429,11 @@ module _ (s : Setting) (fip : Bool) (g : Matching) (low n : ℕ) (facts : Facts 
     room = rest.room;
     rising = λ h. rest.rising out.body.onward;
     laid = λ c to f types many z later has at built lt.
-        let behind = rest.laid c to f types many z later (back_part to f v ended z to_ended has) at built (let x = to_ended.grows in omega (arith, lt, x)) in
-        let here = later_laid c to f types many q b Return p.clause k v (sides_of p.sides.items) known begun last ended (sides_of r.sides.items) out before z (extends_on ended w z rest.extends later) has labelled lt at built behind.caught
-        (subst (λ i. From c to f types many i (size ended)) next behind.from) in
+        let following = rest.laid c to f types many z later (back_part to f v ended z to_ended has) at built (let x = to_ended.grows in omega (arith, lt, x)) in
+        let here = later_laid c to f types many q b Return p.clause k v (sides_of p.sides.items) known begun last ended (sides_of r.sides.items) out before z (extends_on ended w z rest.extends later) has labelled lt at built following.caught
+        (subst (λ i. From c to f types many i (size ended)) next following.from) in
         record {
-          clauses = (here.more, size begun, known.next, size ended, last, here.sides, here.entry, here.body, subst (λ i. ClausesLaid c s fip f (ch c to f types many) g.entry i cs (size ended) (size w)) next behind.clauses);
+          clauses = (here.more, size begun, known.next, size ended, last, here.sides, here.entry, here.body, subst (λ i. ClausesLaid c s fip f (ch c to f types many) g.entry i cs (size ended) (size w)) next following.clauses);
           caught = here.caught;
           from = here.from;
         };
@@ -485,15 +485,15 @@ module _ (s : Setting) (fip : Bool) (g : Matching) (low n : ℕ) (facts : Facts 
     pub less : Less last known
     pub next : known.next ≡ last.next
     pub wide : IsWide known
-    pub by : (c : PlainCode) (to : ℕ → ℕ) (f : PlainFunction) → HasFrom (size ended) left to f.instrs → LeftBehind c s fip f g.entry e rs (size ended) last (size left) known
+    pub by : (c : PlainCode) (to : ℕ → ℕ) (f : PlainFunction) → HasFrom (size ended) left to f.instrs → LeftAfter c s fip f g.entry e rs (size ended) last (size left) known
 
   pub end_out : (rs : List ℕ) (e : Expression) (last : Known) (ended : Written) (known : Known) (left : Written) → ClauseLeavesLaid s fip last ended g.entry g.used.items g.need rs known left → Extends ended left → registers known ≡ registers last → Accounted last → CanLeave s fip g.entry e g.used.items g.need → EndOut rs e last ended known left
   end_out rs e last ended known left leaves extends many accounts can = record {
     extends = extends;
     maps = leaves.maps;
-    less = less_left s fip some_code some_function last ended g.entry g.used.items g.need rs known left e (size ended) (size left) many leaves some_behind;
+    less = less_left s fip some_code some_function last ended g.entry g.used.items g.need rs known left e (size ended) (size left) many leaves some_after;
     next = leaves.next;
-    wide = wide_wide some_behind.left known some_behind.known;
+    wide = wide_wide some_after.left known some_after.known;
     by = leaves.by accounts e can;
   }
     where
@@ -513,8 +513,8 @@ module _ (s : Setting) (fip : Bool) (g : Matching) (low n : ℕ) (facts : Facts 
         labels = [];
       }
 
-      some_behind : LeftBehind some_code s fip some_function g.entry e rs (size ended) last (size left) known
-      some_behind = leaves.by accounts e can some_code (place_of left.places) some_function
+      some_after : LeftAfter some_code s fip some_function g.entry e rs (size ended) last (size left) known
+      some_after = leaves.by accounts e can some_code (place_of left.places) some_function
           (back 0 (size ended) left (place_of left.places) (map (settled (place_of left.places)) left.instrs) (omega arith) (has_all left (map (settled (place_of left.places)) left.instrs) refl))
 
   right_left : (tb : Table) (at : ℕ) (h x : Held) → (x ≡ h) ⊎ (x ≡ H.Nothing) → RightAt tb at h → BuiltRight tb x
@@ -523,20 +523,20 @@ module _ (s : Setting) (fip : Bool) (g : Matching) (low n : ℕ) (facts : Facts 
 
   pub clause_ends : (rs : List ℕ) (e : Expression) (last : Known) (ended : Written) (known : Known) (left : Written) → EndOut rs e last ended known left → (cs : Clauses) (i : ℕ) (u : Written) (end : ℕ) → patterns_in cs ≡ drop i (patterns_of g.choice) → GoesLaid g i left u → Underway s.types last ended → (c : PlainCode) (to : ℕ → ℕ) (f : PlainFunction) → c.types ≡ s.types → f.registers ≡ registers last → HasPart (size ended) u to f → to g.end ≡ end → EndsAt cs (size u) end → BuiltWell s.types (size ended) last → ClauseEnds c s fip f g.entry e rs cs (size ended) last end (size u) known
   clause_ends rs e last ended known left out cs i u end follow goes under c to f types many has at ends built = record {
-    mid = behind.mid;
-    bare = behind.bare;
-    bares = behind.bares;
+    mid = following.mid;
+    bare = following.bare;
+    bares = following.bares;
     stop = size left;
-    left = behind.left;
-    over = behind.over;
-    built = λ r. subst (λ x. BuiltRight x (held_at behind.left.held r)) (sym types) (right_left s.types (size ended) (held_at last.held r) (held_at behind.left.held r) (behind.held r) (built r));
-    known = behind.known;
+    left = following.left;
+    over = following.over;
+    built = λ r. subst (λ x. BuiltRight x (held_at following.left.held r)) (sym types) (right_left s.types (size ended) (held_at last.held r) (held_at following.left.held r) (following.held r) (built r));
+    known = following.known;
     goes = goes_on f to (size ended) cs i left u end follow goes out.extends.grows has.code at ends;
     quiet = quiet_part s.types last ended u (goes_maps i left u goes ∙ out.maps) under c to f types many has;
   }
     where
-      behind : LeftBehind c s fip f g.entry e rs (size ended) last (size left) known
-      behind = out.by c to f (front (size ended) left u to f.instrs (goes_extends i left u goes) has.code)
+      following : LeftAfter c s fip f g.entry e rs (size ended) last (size left) known
+      following = out.by c to f (front (size ended) left u to f.instrs (goes_extends i left u goes) has.code)
 
   -- clauses whose values go to registers; j is known where those before meet
 
@@ -635,11 +635,11 @@ module _ (s : Setting) (fip : Bool) (g : Matching) (low n : ℕ) (facts : Facts 
     less = less_on j both rest.met (less_met j one.gone both meets accounts) rest.less;
     next = rest.next ∙ meets.next;
     laid = λ c to f types many z later has end at built lt.
-        let behind = rest.laid c to f types many z later (back_part to f v u z all has) end at built (let x = all.grows in omega (arith, lt, x)) in
+        let following = rest.laid c to f types many z later (back_part to f v u z all has) end at built (let x = all.grows in omega (arith, lt, x)) in
         let here = later_laid c to f types many q b (Into rs) p.clause k v (sides_of p.sides.items) known begun last ended (sides_of r.sides.items) one.out before z
         (extends_on ended u z stop (extends_on u w z rest.extends later)) has labelled lt at built
-        (all_caught_less c f hs (ch c to f types many) to (size ended) (size u) stop.grows (sides_of r.sides.items) behind.caught)
-        (λ x label le y. let y' = subst (λ i. From c to f types many i (size u)) one.next behind.from x label le y in let up = stop.grows in omega (arith, y', up)) in
+        (all_caught_less c f hs (ch c to f types many) to (size ended) (size u) stop.grows (sides_of r.sides.items) following.caught)
+        (λ x label le y. let y' = subst (λ i. From c to f types many i (size u)) one.next following.from x label le y in let up = stop.grows in omega (arith, y', up)) in
         record {
           clauses = (
             here.more,
@@ -655,7 +655,7 @@ module _ (s : Setting) (fip : Bool) (g : Matching) (low n : ℕ) (facts : Facts 
             here.body,
             ends_laid e rs q b p k v known begun last ended r m u one before cs (size w) follow c to f types many z (extends_on u w z rest.extends later) has end rest.ends here.built,
             meets,
-            subst (λ i. ClausesMeet c s fip f (ch c to f types many) g.entry e i cs rs (size w) both (size u) rest.met) one.next behind.clauses,
+            subst (λ i. ClausesMeet c s fip f (ch c to f types many) g.entry e i cs rs (size w) both (size u) rest.met) one.next following.clauses,
           );
           caught = here.caught;
           from = here.from;

@@ -27,7 +27,7 @@ use Rattle.lower_frame.specs.lowering_relation.Opening.{names_any, any_named, Ro
 use Rattle.lower_frame.specs.lowering_relation.Entering.{unnaming, variable_held, entering, entering_all, root_of, entering_root}
 use Rattle.lower_frame.specs.lowering_relation.Written.{Written, size, Extends, IsAt}
 use Rattle.lower_frame.specs.lowering_relation.Describing.{Holding, held_at, kind_of}
-use Rattle.lower_frame.specs.lowering_relation.Labels.{Catches, told}
+use Rattle.lower_frame.specs.lowering_relation.Labels.{Catches, reported}
 use Rattle.lower_frame.specs.lowering_relation.Matches.{widened, wide, wide_at, EntryLaid}
 use Rattle.lower_frame.specs.lowering_relation.Tests.{Choice, NamesLaid, NameAll, TakesLaid, ChosenLaid, ChosenAtOnce, TestsLaid, ChunkLaid, SideLaid, SidesLaid}
 use Rattle.lower_frame.proofs.lowering_relation.Growing.{names_end, name_all_end, take_all_end, tests_end, at_once}
@@ -188,7 +188,7 @@ sides_end : (c : PlainCode) (f : PlainFunction) (g : Holding) (ch : Choice) (n a
 sides_end c f g ch zero at end h = omega (arith, h)
 sides_end c f g ch (suc n) at end h =
     let side : SideLaid c f g ch at h.0 = h.1 in
-    let a = chunk_end c f g ch at side.known side.read side.told h.0 side.chunk in
+    let a = chunk_end c f g ch at side.known side.read side.reported h.0 side.chunk in
     let b = sides_end c f g ch n h.0 end h.2 in
     omega (arith, a, b)
 
@@ -220,11 +220,11 @@ straight_to c f g h ch at m mid n chunk sides = by chunk.goes
           entry = chunk.entry ∙ ap Some (x.0 ∙ here);
         }
 
--- ---- what is told there
+-- ---- what is reported there
 
--- Where registers hold what they held, the same is told, whichever constructors were built.
-pub plain_told : (c : PlainCode) (k l : Known) → ((r : ℕ) → held_at l.held r ≡ held_at k.held r) → (r : ℕ) → told c (wide l) r ≡ told c (wide k) r
-plain_told c k l plain r =
+-- Where registers hold what they held, the same is reported, whichever constructors were built.
+pub plain_reported : (c : PlainCode) (k l : Known) → ((r : ℕ) → held_at l.held r ≡ held_at k.held r) → (r : ℕ) → reported c (wide l) r ≡ reported c (wide k) r
+plain_reported c k l plain r =
     ap (kind_of c.types) (wide_held l.held r) ∙ (ap (λ h. kind_of c.types (widened h)) (plain r) ∙ ap (kind_of c.types) (sym (wide_held k.held r)))
 
 -- at the start of a function nothing was built
@@ -272,12 +272,12 @@ module _ (s : Setting) (g : Matching) (q : Pattern) (i : ℕ) (k : Known) (v : W
     entry_more : g.entry.next ≤ l.next
     entry_more = let e = starts.next in omega (arith, e)
 
-    -- behind an instruction
+    -- after an instruction
     pub entry_later : 0 < size w → is_some (label_at f.labels (size w)) ≡ true → LabelTakes c f (size w) l → EntryLaid c s f (choice_at to (scene s.types low g.choice)) g.entry i q (size w) l.next
     entry_later lt label takes = record {
       place = entry_place;
       more = entry_more;
-      enters = inl (lt, subst (λ x. Catches f (size w) (told c x)) starts.known (catches_by c f (size w) l label takes));
+      enters = inl (lt, subst (λ x. Catches f (size w) (reported c x)) starts.known (catches_by c f (size w) l label takes));
     }
 
     -- at the start of a function
@@ -289,6 +289,6 @@ module _ (s : Setting) (g : Matching) (q : Pattern) (i : ℕ) (k : Known) (v : W
         z,
         λ r.
             ap (kind_of c.types) (sym (plain_wide (held_at g.entry.held r) ((built r).later refl).0))
-            ∙ (ap (kind_of c.types) (sym (wide_held g.entry.held r)) ∙ sym (plain_told c g.entry (entering_root s g.choice.takes q (spot_of g.choice.root) (reaching g.entry l.next)) plain r)),
+            ∙ (ap (kind_of c.types) (sym (wide_held g.entry.held r)) ∙ sym (plain_reported c g.entry (entering_root s g.choice.takes q (spot_of g.choice.root) (reaching g.entry l.next)) plain r)),
       );
     }

@@ -24,7 +24,7 @@ use Rattle.lower_frame.proofs.lowering_relation.LoweredLists.{fewer_same}
 use Rattle.lower_frame.specs.lowering_relation.Written.{Written, size, Extends, HasFrom, settled, place_of}
 use Rattle.lower_frame.proofs.lowering_relation.Placing.{extends_on, back, has_all}
 use Rattle.lower_frame.specs.lowering_relation.Describing.{held_at}
-use Rattle.lower_frame.specs.lowering_relation.Labels.{told, Takes, Tells}
+use Rattle.lower_frame.specs.lowering_relation.Labels.{reported, Takes, Reports}
 use Rattle.lower_frame.specs.lowering_relation.LaidBodies.{ExpressionLaid, BlockLaid, BoundLaid, NamedLaid}
 use Rattle.lower_frame.specs.lowering_relation.Standing.{AreRising}
 use Rattle.lower_frame.specs.Credits.{Accounted, AllSolid, one_if, counted, is_credit, is_credit_of}
@@ -34,7 +34,7 @@ use Rattle.lower_frame.proofs.Accounts.{of_none}
 use Rattle.cell_lower.specs.Growth.{Stay}
 use Rattle.cell_lower.specs.Laying.{IntoAt, HasPart, InFunction, Underway, GivesValuesLaid, AppliesLaid, AppliedLaid}
 use Rattle.cell_lower.specs.Writing.{Named, Computes, ComputesAll, Writes, GivesValues, AppliesTo}
-use Rattle.cell_lower.specs.Bodies.{Founded, FoundedAll, Waits, WaitsAt, StillWait, Onward, LabelTakes, BuiltWell, BuiltBehind, LaidIn, LaysIn, Lays, LaysBlock, LaysLet}
+use Rattle.cell_lower.specs.Bodies.{Founded, FoundedAll, Waits, WaitsAt, StillWait, Onward, LabelTakes, BuiltWell, BuiltAfter, LaidIn, LaysIn, Lays, LaysBlock, LaysLet}
 use Rattle.cell_lower.proofs.Calling.{stay_on}
 use Rattle.cell_lower.proofs.Parted.{quiet_part, under_values, values_laid, computes_one}
 use Rattle.cell_lower.proofs.Sighting.{fits_same}
@@ -43,11 +43,11 @@ use Rattle.cell_lower.proofs.Building.{AllRight, Spends, arguments_right, argume
 use Rattle.fip_language.proofs.Facts.{and_false as and_none, unequal_false as not_equal}
 use Rattle.lower_frame.proofs.Accounts.{nothing_or as nothing_of}
 
--- what is so behind instructions that tell nothing
+-- what is so after instructions that tell nothing
 
 pub record Goes (tb : Table) (at : ℕ) (k : Known) (target : Target) (end : ℕ) (l : Known) : Type 0 where
   pub longer : WaitsAt target k → at < end
-  pub right : AllRight tb at k.held → BuiltBehind tb target end l
+  pub right : AllRight tb at k.held → BuiltAfter tb target end l
   pub waits : IntoAt target (λ ds. StillWait ds k l)
   pub fixed : IntoAt target (λ ds. (d : ℕ) → Waits k d → Fixed l d)
 
@@ -133,11 +133,11 @@ call_goes s code at k as' rs mid m g (Into ds) end l founded h i = record {
 
 -- what labels take
 
-pub tells_takes : (n : ℕ) (ks : List Kind) (m : ℕ → Kind) → Tells n ks m → Takes n ks m
-tells_takes n ks m t = record { wide = t.wide; each = λ r. fits_same (kind_at ks r) (m r) (sym (t.each r)) }
+pub reports_takes : (n : ℕ) (ks : List Kind) (m : ℕ → Kind) → Reports n ks m → Takes n ks m
+reports_takes n ks m t = record { wide = t.wide; each = λ r. fits_same (kind_at ks r) (m r) (sym (t.each r)) }
 
 first_takes : (tb : Table) (k : Known) (v w : Written) → w.maps ≡ v.maps → size v < size w → Underway tb k v → (c : PlainCode) (to : ℕ → ℕ) (f : PlainFunction) → c.types ≡ tb → f.registers ≡ registers k → HasPart (size v) w to f → LabelTakes c f (size v) k
-first_takes tb k v w same lt under c to f types many has = λ ks e. tells_takes f.registers ks (told c k) ((quiet_part tb k v w same under c to f types many has).first lt ks e)
+first_takes tb k v w same lt under c to f types many has = λ ks e. reports_takes f.registers ks (reported c k) ((quiet_part tb k v w same under c to f types many has).first lt ks e)
 
 pub rising_below : (n m low : ℕ) (ms : List LabelMap) → n < m → Rising n low ms → AreRising m low ms
 rising_below n m low [] lt r = tt
@@ -346,7 +346,7 @@ lets_values s fip k m v u bs e as' rs founded p bound = record { by = λ rest ta
             later = more.laid c to f types (many ∙ sym p.as_many) (back_part to f v u z p.extends has)
                 (arguments_right s f.instrs (size v) k as' rs (size u) m founded built (p.code to f.instrs before.code))
 
-            by_order : (ks : List Kind) → label_at f.labels (size v) ≡ Some ks → (size u ≡ size v) ⊎ (size u ≡ size v → ⊥) → Takes f.registers ks (told c k)
+            by_order : (ks : List Kind) → label_at f.labels (size v) ≡ Some ks → (size u ≡ size v) ⊎ (size u ≡ size v → ⊥) → Takes f.registers ks (reported c k)
             by_order ks i (inl same) =
                 let t = later.first ks (ap (label_at f.labels) same ∙ i) in
                 record { wide = t.wide; each = λ r. ap (fits (kind_at ks r)) (sym (p.still same c.types r)) ∙ t.each r }

@@ -34,15 +34,15 @@ pub record IsOfInstance (ds : List Instance) (n : ℕ) (h : Header) : Type 0 whe
 here : (d : Instance) (ds : List Instance) (r : ℕ) (h : Header) → has_function d.kind ≡ true → Some (header_of r d) ≡ Some h → IsOfInstance (d ∷ ds) 0 h
 here d ds r h k e = record { place = 0; instance = d; there = refl; function = ap if_function k; registers = r; is = sym (same_Some (header_of r d) h e) }
 
-behind : (d : Instance) (ds : List Instance) (n m : ℕ) (h : Header) (b : Bool) → has_function d.kind ≡ b → one_more b (Some n) ≡ Some m → IsOfInstance ds n h → IsOfInstance (d ∷ ds) m h
-behind d ds n m h b k e x = record { place = suc x.place; instance = x.instance; there = x.there; function = ap₂ one_more k x.function ∙ e; registers = x.registers; is = x.is }
+following : (d : Instance) (ds : List Instance) (n m : ℕ) (h : Header) (b : Bool) → has_function d.kind ≡ b → one_more b (Some n) ≡ Some m → IsOfInstance ds n h → IsOfInstance (d ∷ ds) m h
+following d ds n m h b k e x = record { place = suc x.place; instance = x.instance; there = x.there; function = ap₂ one_more k x.function ∙ e; registers = x.registers; is = x.is }
 
 one_step : (d : Instance) (ds : List Instance) (r : ℕ) (hs : List Header) (n : ℕ) (h : Header) → ((m : ℕ) → slice_get hs m ≡ Some h → IsOfInstance ds m h) → (k : FunKind) → d.kind ≡ k → slice_get (and_if (is_ruled k) (header_of r d) hs) n ≡ Some h → IsOfInstance (d ∷ ds) n h
 one_step d ds r hs zero h rest Fip k e = here d ds r h (ap has_function k) e
-one_step d ds r hs (suc n) h rest Fip k e = behind d ds n (suc n) h true (ap has_function k) refl (rest n e)
+one_step d ds r hs (suc n) h rest Fip k e = following d ds n (suc n) h true (ap has_function k) refl (rest n e)
 one_step d ds r hs zero h rest Fbip k e = here d ds r h (ap has_function k) e
-one_step d ds r hs (suc n) h rest Fbip k e = behind d ds n (suc n) h true (ap has_function k) refl (rest n e)
-one_step d ds r hs n h rest Fun k e = behind d ds n n h false (ap has_function k) refl (rest n e)
+one_step d ds r hs (suc n) h rest Fbip k e = following d ds n (suc n) h true (ap has_function k) refl (rest n e)
+one_step d ds r hs n h rest Fun k e = following d ds n n h false (ap has_function k) refl (rest n e)
 
 pub instance_there : (ms : List Member) (i : ℕ) (ds : List Instance) (n : ℕ) (h : Header) → slice_get (headers_from ms i ds) n ≡ Some h → IsOfInstance ds n h
 instance_there ms i [] n h e = absurd (none-some h e)

@@ -421,7 +421,7 @@ calls_laid s fip k m1 m l v w g f d rs qs target a b e t c = record {
         there = b;
         taken = subst (λ y. AreTaken y d.credits t.credits m) e t.taken;
         last = subst (λ (y : Known). LastGone y.credits m.credits) e kept.1;
-        ends = subst (λ y. EndsCallLaid s fip x (size v) m f y d.results target (size w) l) t.behind (c.by (at_end target m kept.0) to x h);
+        ends = subst (λ y. EndsCallLaid s fip x (size v) m f y d.results target (size w) l) t.following (c.by (at_end target m kept.0) to x h);
       };
   into = called s target k m1 m l v w d rs qs e t c.into;
 }

@@ -23,7 +23,7 @@ use Rattle.lower_frame.specs.Registers.{registers}
 use Rattle.cell_lower.specs.Writing.{Named}
 use Rattle.cell_lower.specs.Laying.{is_built}
 use Rattle.cell_lower.specs.Bodies.{RightAt, BuiltWell, Waits}
-use Rattle.cell_lower.specs.Leaving.{EndsBaresLaid, ClauseLeavesLaid, LeftBehind}
+use Rattle.cell_lower.specs.Leaving.{EndsBaresLaid, ClauseLeavesLaid, LeftAfter}
 use Rattle.cell_lower.proofs.Arriving.{wide_accounted}
 use Rattle.cell_lower.proofs.Building.{right_nothing}
 use Rattle.cell_lower.proofs.Sided.{widened_again, never_built}
@@ -201,7 +201,7 @@ less_by k l names next many accounts held = record {
 pub less_bares : (k : Known) (v : Written) (l : Known) (w : Written) → registers l ≡ registers k → EndsBaresLaid k v l w → Less k l
 less_bares k v l w many e = less_by k l e.names e.next many e.accounts (λ r. elim (e.held r) [ inl x ↦ inl x | inr x ↦ inr (inr x) ])
 
-pub less_left : (s : Setting) (fip : Bool) (c : PlainCode) (f : PlainFunction) (k : Known) (v : Written) (o : Known) (ms : List Bool) (need given : List ℕ) (l : Known) (w : Written) (e : Expression) (at stop : ℕ) → registers l ≡ registers k → ClauseLeavesLaid s fip k v o ms need given l w → LeftBehind c s fip f o e given at k stop l → Less k l
+pub less_left : (s : Setting) (fip : Bool) (c : PlainCode) (f : PlainFunction) (k : Known) (v : Written) (o : Known) (ms : List Bool) (need given : List ℕ) (l : Known) (w : Written) (e : Expression) (at stop : ℕ) → registers l ≡ registers k → ClauseLeavesLaid s fip k v o ms need given l w → LeftAfter c s fip f o e given at k stop l → Less k l
 less_left s fip c f k v o ms need given l w e at stop many a b = less_by k l a.names a.next many a.accounts (λ r. by r (b.held r))
   where
     by : (r : ℕ) → (held_at b.left.held r ≡ held_at k.held r) ⊎ (held_at b.left.held r ≡ H.Nothing) → IsLess (held_at k.held r) (held_at l.held r)
@@ -247,7 +247,7 @@ waits_less k l d h a w = record {
 pub built_less : (tb : Table) (at : ℕ) (k l : Known) → Less k l → BuiltWell tb at k → BuiltWell tb at l
 built_less tb at k l h b r = right_less tb at (held_at k.held r) (held_at l.held r) (h.held r) (b r)
 
--- behind the first instruction
+-- after the first instruction
 pub built_later : (tb : Table) (at stop : ℕ) (k : Known) → 0 < stop → BuiltWell tb at k → BuiltWell tb stop k
 built_later tb at stop k lt b r = let x = b r in record { built = x.built; bare = x.bare; later = λ z. absurd (omega (arith, lt, z)) }
 

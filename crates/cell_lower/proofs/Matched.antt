@@ -15,7 +15,7 @@ use Rattle.lower_frame.specs.lowering_relation.Spots.{Spot, At, Spots, NoSpots, 
 use Rattle.lower_frame.specs.lowering_relation.Entering.{unnaming, variable_held, with_variable, with_cell, entering, entering_all, root_of, spent_if, entering_root}
 use Rattle.lower_frame.specs.lowering_relation.Joins.{Met}
 use Rattle.lower_frame.specs.lowering_relation.Matches.{wide}
-use Rattle.lower_frame.specs.Frames.{kinds_told}
+use Rattle.lower_frame.specs.Frames.{kinds_reported}
 use Rattle.lower_frame.specs.Labels.{telling}
 use Rattle.lower_frame.specs.Positions.{reaching, spot_of}
 use Rattle.lower_frame.proofs.Meeting.{met_accounted, met_fewer}
@@ -79,7 +79,7 @@ next_of k l e = ap (λ (x : Known). x.next) e
 
 -- the tests of a clause, and its body's label
 
-pub starts_laid : (s s' : Setting) (tb : Table) (g : Matching) (q q' : Pattern) (i label : ℕ) (k : Known) (v chosen shown w : Written) (ds es : List Side) (copied resumed tested opened l : Known) → s' ≡ s → tb ≡ s.types → q ≡ q' → ChoosesLaid s resumed.held g.choice i v ds chosen es true → (length g.choice.rows.items ≤ suc i → es ≡ []) → copied ≡ g.entry → resumed ≡ reaching copied resumed.next → resumed.next ≡ max k.next copied.next → tested ≡ resumed → opened ≡ entering_root s' g.choice.takes q' (spot_of g.choice.root) tested → shown ≡ chosen → l ≡ wide opened → slice_get g.choice.entries.items i ≡ Some label → Extends shown w → w.instrs ≡ shown.instrs → IsAt w label (size shown) → w.maps ≡ telling (size shown) (kinds_told tb l.held) shown.maps → StartsLaid s g q i k v ds l w es
+pub starts_laid : (s s' : Setting) (tb : Table) (g : Matching) (q q' : Pattern) (i label : ℕ) (k : Known) (v chosen shown w : Written) (ds es : List Side) (copied resumed tested opened l : Known) → s' ≡ s → tb ≡ s.types → q ≡ q' → ChoosesLaid s resumed.held g.choice i v ds chosen es true → (length g.choice.rows.items ≤ suc i → es ≡ []) → copied ≡ g.entry → resumed ≡ reaching copied resumed.next → resumed.next ≡ max k.next copied.next → tested ≡ resumed → opened ≡ entering_root s' g.choice.takes q' (spot_of g.choice.root) tested → shown ≡ chosen → l ≡ wide opened → slice_get g.choice.entries.items i ≡ Some label → Extends shown w → w.instrs ≡ shown.instrs → IsAt w label (size shown) → w.maps ≡ telling (size shown) (kinds_reported tb l.held) shown.maps → StartsLaid s g q i k v ds l w es
 starts_laid s s' tb g q q' i label k v chosen shown w ds es copied resumed tested opened l same types qs choose all cp whole more test enters show known there ext instrs at maps = record {
   chosen = chosen;
   chooses = subst (λ hs. ChoosesLaid s hs g.choice i v ds chosen es true) (ap (λ (x : Known). x.held) (whole ∙ ap (λ x. reaching x resumed.next) cp)) choose;
@@ -91,7 +91,7 @@ starts_laid s s' tb g q q' i label k v chosen shown w ds es copied resumed teste
   extends = subst (λ x. Extends x w) show ext;
   as_long = ap length instrs ∙ ap size show;
   placed = subst (λ x. IsAt w label (size x)) show at;
-  maps = maps ∙ ap (λ (x : Written). telling (size x) (kinds_told tb l.held) x.maps) show ∙ ap (λ x. telling (size chosen) (kinds_told x l.held) chosen.maps) types;
+  maps = maps ∙ ap (λ (x : Written). telling (size x) (kinds_reported tb l.held) x.maps) show ∙ ap (λ x. telling (size chosen) (kinds_reported x l.held) chosen.maps) types;
 }
   where
     is : opened ≡ entering_root s g.choice.takes q (spot_of g.choice.root) (reaching g.entry resumed.next)
@@ -113,12 +113,12 @@ pub ruleset joining_laid = (joins_first, joins_met)
 
 -- where clauses meet
 
-pub meets_laid : (s : Setting) (tb : Table) (g : Matching) (m k resumed l : Known) (v w : Written) → tb ≡ s.types → resumed ≡ reaching m resumed.next → resumed.next ≡ max k.next m.next → l ≡ wide resumed → Extends v w → w.instrs ≡ v.instrs → IsAt w g.end (size v) → w.maps ≡ telling (size v) (kinds_told tb l.held) v.maps → MeetsLaid s g m k v l w
+pub meets_laid : (s : Setting) (tb : Table) (g : Matching) (m k resumed l : Known) (v w : Written) → tb ≡ s.types → resumed ≡ reaching m resumed.next → resumed.next ≡ max k.next m.next → l ≡ wide resumed → Extends v w → w.instrs ≡ v.instrs → IsAt w g.end (size v) → w.maps ≡ telling (size v) (kinds_reported tb l.held) v.maps → MeetsLaid s g m k v l w
 meets_laid s tb g m k resumed l v w types whole more known ext instrs at maps = record {
   next = next_of l (wide resumed) known ∙ more;
   known = known ∙ ap wide (whole ∙ ap (reaching m) (sym (next_of l (wide resumed) known)));
   extends = ext;
   as_long = ap length instrs;
   placed = at;
-  maps = maps ∙ ap (λ x. telling (size v) (kinds_told x l.held) v.maps) types;
+  maps = maps ∙ ap (λ x. telling (size v) (kinds_reported x l.held) v.maps) types;
 }

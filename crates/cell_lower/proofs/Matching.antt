@@ -371,7 +371,7 @@ met_extends : (g : Matching) (target : B.Target) (j : Option Known) (v : Written
 met_extends g B.Return j v l w h = h
 met_extends g (B.Into ds) j v l w h = (h.0, h.1)
 
--- the first clause tells what is known at its end
+-- the first clause reports what is known at its end
 ends_some : (g : Matching) (target : B.Target) (n : ℕ) (k : Known) (v : Written) (j : Option Known) (u : Written) (jl : Option Known) → EndsIn g target n k v j u jl → (ds : List ℕ) → target ≡ B.Into ds → (l : Known) × (jl ≡ Some l)
 ends_some g B.Return n k v j u jl e ds f = absurd (cc)
 ends_some g (B.Into es) n k v j u jl e ds f = (e.joins.joined, e.joins.is)

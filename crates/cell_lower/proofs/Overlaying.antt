@@ -1,4 +1,4 @@
--- What is told of the registers where a test failed, position by position.
+-- What is reported of the registers where a test failed, position by position.
 use Rattle.std.proofs.Common.{◌≡◌, refl, sym, ap, ◌∙◌, arith, ℕ, zero, suc, ◌≤◌, Bool, true, false, List, [], ◌∷◌, ◌++◌, length, drop, Option, Some, None, slice_get, slice_set}
 use Rattle.std.specs.Prelude.{if◌then◌else◌}
 use Rattle.std.specs.declared.vec.Vec.{Vec}
@@ -20,7 +20,7 @@ use Rattle.lower_frame.specs.lowering_relation.Sights.{kept, left}
 use Rattle.lower_frame.specs.declared.spots.Spot.{Spot, out-Spot}
 use Rattle.lower_frame.specs.Positions.{spot_of, spots_of, spot_at, past}
 use Rattle.lower_frame.proofs.Counting.{numbers_next}
-use Rattle.cell_lower.specs.Overlays.{may_be, part_told, overlaid, overlaid_all, field_overlaid}
+use Rattle.cell_lower.specs.Overlays.{may_be, part_reported, overlaid, overlaid_all, field_overlaid}
 use Rattle.cell_lower.proofs.Folding.{fields_are, if_false, if_true}
 use Rattle.fip_language.proofs.Facts.{append_none as none_more, drop_at_number as drop_at, same_some}
 pub use Rattle.fip_language.proofs.Facts.{get_none as missing}
@@ -126,9 +126,9 @@ module _ (s : Setting) (root : Option ℕ) (read : List ℕ) (t : ℕ) (k : Know
   field_none kinds e = sym (ap (λ z. field_overlaid s root read t k z r i kinds) e)
 
   pub field_skipped : (p : S.Spot) (kinds : List Kind) → o ≡ Some p → contains (S.register p) read ≡ false → kinds ≡ field_overlaid s root read t k o r i kinds
-  field_skipped p kinds e f = sym (ap (λ z. field_overlaid s root read t k z r i kinds) e ∙ if_false (contains (S.register p) read) (overlaid s root read t k p (slice_set kinds (S.register p) (part_told s root t k r i))) kinds f)
+  field_skipped p kinds e f = sym (ap (λ z. field_overlaid s root read t k z r i kinds) e ∙ if_false (contains (S.register p) read) (overlaid s root read t k p (slice_set kinds (S.register p) (part_reported s root t k r i))) kinds f)
 
-  pub field_told : (p : S.Spot) (kinds more last : List Kind) → o ≡ Some p → contains (S.register p) read ≡ true → more ≡ slice_set kinds (S.register p) (part_told s root t k r i) → last ≡ overlaid s root read t k p more → last ≡ field_overlaid s root read t k o r i kinds
-  field_told p kinds more last e f g h =
+  pub field_reported : (p : S.Spot) (kinds more last : List Kind) → o ≡ Some p → contains (S.register p) read ≡ true → more ≡ slice_set kinds (S.register p) (part_reported s root t k r i) → last ≡ overlaid s root read t k p more → last ≡ field_overlaid s root read t k o r i kinds
+  field_reported p kinds more last e f g h =
       h ∙ ap (overlaid s root read t k p) g
-      ∙ sym (ap (λ z. field_overlaid s root read t k z r i kinds) e ∙ if_true (contains (S.register p) read) (overlaid s root read t k p (slice_set kinds (S.register p) (part_told s root t k r i))) kinds f)
+      ∙ sym (ap (λ z. field_overlaid s root read t k z r i kinds) e ∙ if_true (contains (S.register p) read) (overlaid s root read t k p (slice_set kinds (S.register p) (part_reported s root t k r i))) kinds f)

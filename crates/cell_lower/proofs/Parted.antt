@@ -16,7 +16,7 @@ use Rattle.lower_frame.specs.lowering_relation.Written.{Written, size, Extends, 
 use Rattle.lower_frame.proofs.lowering_relation.Placing.{front, back}
 use Rattle.lower_frame.specs.lowering_relation.Credits.{LastGone}
 use Rattle.lower_frame.specs.lowering_relation.Describing.{held_at, kind_of, kinds_of}
-use Rattle.lower_frame.specs.lowering_relation.Labels.{told, Tells, Quiet}
+use Rattle.lower_frame.specs.lowering_relation.Labels.{reported, Reports, Quiet}
 use Rattle.lower_frame.specs.lowering_relation.LaidBodies.{ValuesLaid}
 use Rattle.lower_frame.specs.Credits.{Accounted, AllSolid}
 use Rattle.lower_frame.specs.Labels.{Rising}
@@ -36,15 +36,15 @@ pub none_past : (high low : ℕ) (ms : List LabelMap) (p : ℕ) → Rising high 
 none_past high low [] p r lt = refl
 none_past high low (m ∷ ms) p r lt = ap (λ b. if b then Some m.kinds else label_at ms p) (unequal_is m.at p (λ e. absurd (omega (arith, e, lt, r.1)))) ∙ none_past high m.at ms p r.2 lt
 
--- what is told in a part that tells nothing itself
-pub quiet_part : (tb : Table) (k : Known) (v w : Written) → w.maps ≡ v.maps → Underway tb k v → (c : PlainCode) (to : ℕ → ℕ) (f : PlainFunction) → c.types ≡ tb → f.registers ≡ registers k → HasPart (size v) w to f → Quiet f (size v) (size w) (told c k)
+-- what is reported in a part that reports nothing itself
+pub quiet_part : (tb : Table) (k : Known) (v w : Written) → w.maps ≡ v.maps → Underway tb k v → (c : PlainCode) (to : ℕ → ℕ) (f : PlainFunction) → c.types ≡ tb → f.registers ≡ registers k → HasPart (size v) w to f → Quiet f (size v) (size w) (reported c k)
 quiet_part tb k v w same under c to f types many has = record {
-  first = λ lt map e. tells map (under.shown map (sym (has.told (size v) (omega arith) lt ∙ ap (λ ms. label_at ms (size v)) same) ∙ e));
-  others = λ p low high. has.told p (omega (arith, low)) high ∙ ap (λ ms. label_at ms p) same ∙ none_past (size v) 0 v.maps p under.rising low;
+  first = λ lt map e. reports map (under.shown map (sym (has.reported (size v) (omega arith) lt ∙ ap (λ ms. label_at ms (size v)) same) ∙ e));
+  others = λ p low high. has.reported p (omega (arith, low)) high ∙ ap (λ ms. label_at ms p) same ∙ none_past (size v) 0 v.maps p under.rising low;
 }
   where
-    tells : (map : List Kind) → Tells (registers k) map (kinds_of tb (held_at k.held)) → Tells f.registers map (told c k)
-    tells map t = subst (λ n. Tells n map (kinds_of c.types (held_at k.held))) (sym many) (subst (λ x. Tells (registers k) map (kinds_of x (held_at k.held))) (sym types) t)
+    reports : (map : List Kind) → Reports (registers k) map (kinds_of tb (held_at k.held)) → Reports f.registers map (reported c k)
+    reports map t = subst (λ n. Reports n map (kinds_of c.types (held_at k.held))) (sym many) (subst (λ x. Reports (registers k) map (kinds_of x (held_at k.held))) (sym types) t)
 
 -- where lowering goes on
 
@@ -64,10 +64,10 @@ under_on tb m l u w same le still many a room named under = record {
     split : (a b : ℕ) → (a ≡ b) ⊎ (a ≡ b → ⊥)
     split a b = cases_eq a b
 
-    here : (map : List Kind) → label_at w.maps (size w) ≡ Some map → (size w ≡ size u) → Tells (registers m) map (kinds_of tb (held_at m.held))
+    here : (map : List Kind) → label_at w.maps (size w) ≡ Some map → (size w ≡ size u) → Reports (registers m) map (kinds_of tb (held_at m.held))
     here map e z = under.shown map (sym (ap (λ ms. label_at ms (size u)) same) ∙ ap (λ n. label_at w.maps n) (sym z) ∙ e)
 
-    by : (map : List Kind) → label_at w.maps (size w) ≡ Some map → (size w ≡ size u) ⊎ (size w ≡ size u → ⊥) → Tells (registers l) map (kinds_of tb (held_at l.held))
+    by : (map : List Kind) → label_at w.maps (size w) ≡ Some map → (size w ≡ size u) ⊎ (size w ≡ size u → ⊥) → Reports (registers l) map (kinds_of tb (held_at l.held))
     by map e (inl z) = let t = here map e z in record { wide = t.wide ∙ sym many; each = λ r. t.each r ∙ sym (still z tb r) }
     by map e (inr z) = absurd (none_some (sym (ap (λ ms. label_at ms (size w)) same ∙ none_past (size u) 0 u.maps (size w) under.rising (omega (arith, le, z))) ∙ e))
       where

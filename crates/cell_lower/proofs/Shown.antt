@@ -1,4 +1,4 @@
--- What a label tells that just got its place, and what it takes.
+-- What a label reports that just got its place, and what it takes.
 use Rattle.std.proofs.Common.{◌≡◌, ◌⊎◌, inl, inr, refl, sym, ap, ◌∙◌, subst, arith, true≢false, ℕ, ◌<◌, ◌≤◌, Bool, true, false, List, [], ◌∷◌, Option, Some, None}
 use Rattle.std.specs.Prelude.{◌==◌, ◌&&◌, ◌||◌, is_some}
 use Rattle.std.proofs.lemmas.Bool.{cases_eq, eqb-true}
@@ -14,21 +14,21 @@ use Rattle.lower_frame.specs.lowering_relation.declared.held.Held.TheVariants as
 use Rattle.lower_frame.specs.lowering_relation.Known.{Known}
 use Rattle.lower_frame.specs.lowering_relation.Written.{Written, size}
 use Rattle.lower_frame.specs.lowering_relation.Describing.{held_at, kind_of, kinds_of}
-use Rattle.lower_frame.specs.lowering_relation.Labels.{told, Takes, Catches, Tells}
+use Rattle.lower_frame.specs.lowering_relation.Labels.{reported, Takes, Catches, Reports}
 use Rattle.lower_frame.specs.lowering_relation.Matches.{widened, BuiltRight}
 use Rattle.lower_frame.specs.Credits.{Accounted}
-use Rattle.lower_frame.specs.Frames.{kinds_told}
+use Rattle.lower_frame.specs.Frames.{kinds_reported}
 use Rattle.lower_frame.specs.Labels.{Rising, telling}
 use Rattle.lower_frame.specs.Registers.{registers}
-use Rattle.lower_frame.proofs.Labels.{rising_told}
+use Rattle.lower_frame.proofs.Labels.{rising_reported}
 use Rattle.cell_lower.specs.Laying.{Underway}
 use Rattle.cell_lower.specs.Writing.{Named}
 use Rattle.cell_lower.specs.Bodies.{LabelTakes}
 use Rattle.cell_lower.proofs.Lessening.{IsWide}
-use Rattle.cell_lower.proofs.Sighting.{fits_self, numbers_has, told_kind, told_long}
-use Rattle.cell_lower.proofs.Sided.{refused, told_here}
+use Rattle.cell_lower.proofs.Sighting.{fits_self, numbers_has, reported_kind, reported_long}
+use Rattle.cell_lower.proofs.Sided.{refused, reported_here}
 use Rattle.fip_language.proofs.Facts.{both_left, both_right, none_some, same_some}
-pub use Rattle.cell_lower.proofs.Going.{tells_takes}
+pub use Rattle.cell_lower.proofs.Going.{reports_takes}
 
 -- no label stands at the start of a function
 
@@ -39,33 +39,33 @@ none_up high low (m ∷ ms) p r le = refused m.at p m.kinds (label_at ms p) (λ 
 pub none_first : (high : ℕ) (ms : List LabelMap) → Rising high 0 ms → label_at ms 0 ≡ None
 none_first high ms r = none_up high 0 ms 0 r (omega arith)
 
--- what is told here is what is known, where this doesn't say which constructors were built
+-- what is reported here is what is known, where this doesn't say which constructors were built
 
-tells_told : (tb : Table) (k : Known) → IsWide k → Tells (registers k) (kinds_told tb k.held) (kinds_of tb (held_at k.held))
-tells_told tb k wide = record { wide = told_long tb k.held; each = λ r. told_kind tb k.held r ∙ ap (kind_of tb) (wide r) }
+reports_reported : (tb : Table) (k : Known) → IsWide k → Reports (registers k) (kinds_reported tb k.held) (kinds_of tb (held_at k.held))
+reports_reported tb k wide = record { wide = reported_long tb k.held; each = λ r. reported_kind tb k.held r ∙ ap (kind_of tb) (wide r) }
 
-pub shown_told : (tb : Table) (k : Known) (v w : Written) → IsWide k → w.maps ≡ telling (size v) (kinds_told tb k.held) v.maps → size w ≡ size v → Rising (size v) 0 v.maps → (map : List Kind) → label_at w.maps (size w) ≡ Some map → Tells (registers k) map (kinds_of tb (held_at k.held))
-shown_told tb k v w wide told long rising map e = by (cases_eq (size v) 0)
+pub shown_reported : (tb : Table) (k : Known) (v w : Written) → IsWide k → w.maps ≡ telling (size v) (kinds_reported tb k.held) v.maps → size w ≡ size v → Rising (size v) 0 v.maps → (map : List Kind) → label_at w.maps (size w) ≡ Some map → Reports (registers k) map (kinds_of tb (held_at k.held))
+shown_reported tb k v w wide reported long rising map e = by (cases_eq (size v) 0)
   where
-    here : label_at (telling (size v) (kinds_told tb k.held) v.maps) (size v) ≡ Some map
-    here = sym (ap (λ ms. label_at ms (size v)) told) ∙ ap (λ n. label_at w.maps n) (sym long) ∙ e
+    here : label_at (telling (size v) (kinds_reported tb k.held) v.maps) (size v) ≡ Some map
+    here = sym (ap (λ ms. label_at ms (size v)) reported) ∙ ap (λ n. label_at w.maps n) (sym long) ∙ e
 
-    by : (size v ≡ 0) ⊎ (size v ≡ 0 → ⊥) → Tells (registers k) map (kinds_of tb (held_at k.held))
-    by (inl z) = absurd (none_some map (sym (none_first (size v) (telling (size v) (kinds_told tb k.held) v.maps) (rising_told (size v) (kinds_told tb k.held) v.maps rising)) ∙ ap (λ n. label_at (telling (size v) (kinds_told tb k.held) v.maps) n) (sym z) ∙ here))
-    by (inr z) = subst (λ ks. Tells (registers k) ks (kinds_of tb (held_at k.held)))
-        (same_some (kinds_told tb k.held) map (sym (told_here (size v) (kinds_told tb k.held) v.maps (omega (arith, z)) rising) ∙ here)) (tells_told tb k wide)
+    by : (size v ≡ 0) ⊎ (size v ≡ 0 → ⊥) → Reports (registers k) map (kinds_of tb (held_at k.held))
+    by (inl z) = absurd (none_some map (sym (none_first (size v) (telling (size v) (kinds_reported tb k.held) v.maps) (rising_reported (size v) (kinds_reported tb k.held) v.maps rising)) ∙ ap (λ n. label_at (telling (size v) (kinds_reported tb k.held) v.maps) n) (sym z) ∙ here))
+    by (inr z) = subst (λ ks. Reports (registers k) ks (kinds_of tb (held_at k.held)))
+        (same_some (kinds_reported tb k.held) map (sym (reported_here (size v) (kinds_reported tb k.held) v.maps (omega (arith, z)) rising) ∙ here)) (reports_reported tb k wide)
 
--- the map of a label that was put behind what was written
-pub there_told : (tb : Table) (k : Known) (v w : Written) → w.maps ≡ telling (size v) (kinds_told tb k.held) v.maps → size w ≡ size v → Rising (size v) 0 v.maps → 0 < size v → label_at w.maps (size w) ≡ Some (kinds_told tb k.held)
-there_told tb k v w told long rising later = ap (λ n. label_at w.maps n) long ∙ ap (λ ms. label_at ms (size v)) told ∙ told_here (size v) (kinds_told tb k.held) v.maps later rising
+-- the map of a label that was put after what was written
+pub there_reported : (tb : Table) (k : Known) (v w : Written) → w.maps ≡ telling (size v) (kinds_reported tb k.held) v.maps → size w ≡ size v → Rising (size v) 0 v.maps → 0 < size v → label_at w.maps (size w) ≡ Some (kinds_reported tb k.held)
+there_reported tb k v w reported long rising later = ap (λ n. label_at w.maps n) long ∙ ap (λ ms. label_at ms (size v)) reported ∙ reported_here (size v) (kinds_reported tb k.held) v.maps later rising
 
-pub under_told : (tb : Table) (k : Known) (v w : Written) → IsWide k → Accounted k → Named k → k.next ≤ registers k → w.maps ≡ telling (size v) (kinds_told tb k.held) v.maps → size w ≡ size v → Rising (size v) 0 v.maps → Underway tb k w
-under_told tb k v w wide accounts named room told long rising = record {
+pub under_reported : (tb : Table) (k : Known) (v w : Written) → IsWide k → Accounted k → Named k → k.next ≤ registers k → w.maps ≡ telling (size v) (kinds_reported tb k.held) v.maps → size w ≡ size v → Rising (size v) 0 v.maps → Underway tb k w
+under_reported tb k v w wide accounts named room reported long rising = record {
   accounts = accounts;
   named = named;
   room = room;
-  rising = subst (λ n. Rising n 0 w.maps) (sym long) (subst (Rising (size v) 0) (sym told) (rising_told (size v) (kinds_told tb k.held) v.maps rising));
-  shown = shown_told tb k v w wide told long rising;
+  rising = subst (λ n. Rising n 0 w.maps) (sym long) (subst (Rising (size v) 0) (sym reported) (rising_reported (size v) (kinds_reported tb k.held) v.maps rising));
+  shown = shown_reported tb k v w wide reported long rising;
 }
 
 -- a map that takes a tree whose constructor isn't known takes the one that was built
@@ -115,6 +115,6 @@ pub some_there : (o : Option (List Kind)) → is_some o ≡ true → (map : List
 some_there None e = absurd (true≢false (sym e))
 some_there (Some map) e = (map, refl)
 
--- a label that is there and takes what is told
-pub catches_by : (c : PlainCode) (f : PlainFunction) (p : ℕ) (k : Known) → is_some (label_at f.labels p) ≡ true → LabelTakes c f p k → Catches f p (told c k)
+-- a label that is there and takes what is reported
+pub catches_by : (c : PlainCode) (f : PlainFunction) (p : ℕ) (k : Known) → is_some (label_at f.labels p) ≡ true → LabelTakes c f p k → Catches f p (reported c k)
 catches_by c f p k there takes = let x = some_there (label_at f.labels p) there in record { map = x.0; there = x.1; takes = takes x.0 x.1 }

@@ -1,4 +1,4 @@
--- The tests that choose the next clause, laid out one side behind another.
+-- The tests that choose the next clause, laid out one side after another.
 use Rattle.std.proofs.Common.{◌≡◌, ◌⊎◌, inl, inr, refl, sym, ap, ◌∙◌, subst, arith, ℕ, zero, suc, ◌<◌, ◌≤◌, Bool, true, false, List, [], ◌∷◌, ◌++◌, Option, Some, None, slice_get}
 use Rattle.std.specs.Prelude.{◌==◌, if◌then◌else◌, is_some, option_map}
 use Rattle.std.proofs.lemmas.Bool.{eq-eqb, eqb-true}
@@ -23,18 +23,18 @@ use Rattle.lower_frame.specs.lowering_relation.declared.held.Held.{Held}
 use Rattle.lower_frame.specs.lowering_relation.declared.held.Held.TheVariants as H
 use Rattle.lower_frame.specs.lowering_relation.Values.{Setting}
 use Rattle.lower_frame.specs.lowering_relation.Describing.{Holding, held_at}
-use Rattle.lower_frame.specs.lowering_relation.Labels.{Tells, Quiet}
+use Rattle.lower_frame.specs.lowering_relation.Labels.{Reports, Quiet}
 use Rattle.lower_frame.specs.lowering_relation.Matches.{wide_at, widened}
 use Rattle.lower_frame.specs.lowering_relation.Tests.{BeginsBody, ChunkLaid, SideLaid, SidesLaid}
 use Rattle.lower_frame.proofs.lowering_relation.Growing.{at_once}
 use Rattle.lower_frame.specs.Labels.{Rising, telling, untold}
-use Rattle.lower_frame.proofs.Labels.{rising_higher, rising_told}
+use Rattle.lower_frame.proofs.Labels.{rising_higher, rising_reported}
 use Rattle.lower_frame.specs.Positions.{spot_of}
 use Rattle.cell_lower.specs.declared.choices.Choice.{Choice}
 use Rattle.cell_lower.specs.Laying.{HasPart}
-use Rattle.cell_lower.specs.Overlays.{failed_told}
+use Rattle.cell_lower.specs.Overlays.{failed_reported}
 use Rattle.cell_lower.specs.Scenes.{patterns_of, scene, HasRows, first_side, HasLabel, Labelled, Ready, NotFirst, FollowsIn, Follows}
-use Rattle.cell_lower.specs.Testing.{Alike, choice_at, CaughtAt, CaughtBy, Caught, Tried, SeenSide, Misses, AreMissed, TellsSide}
+use Rattle.cell_lower.specs.Testing.{Alike, choice_at, CaughtAt, CaughtBy, Caught, Tried, SeenSide, Misses, AreMissed, ReportsSide}
 use Rattle.cell_lower.specs.Chosen.{RuledSide, LaterSide, Sighted, Premises, LaidSides, LaidFirst, ChoosesLaidIn, ChoosesLaid}
 use Rattle.cell_lower.proofs.Trying.{all_caught_less}
 use Rattle.cell_lower.proofs.Sighting.{sighted}
@@ -43,7 +43,7 @@ use Rattle.fip_language.proofs.Facts.{less_or_same, same_some, true_or_false as 
 use Rattle.cell_lower.proofs.Choosing.{unlabelled}
 use Rattle.cell_lower.proofs.Parted.{none_past}
 
--- what is told at a place
+-- what is reported at a place
 
 pub refused : (m p : ℕ) (k : List Kind) (o : Option (List Kind)) → (m ≡ p → ⊥) → (if m == p then Some k else o) ≡ o
 refused m p k o ne = elim (or_not (m == p)) as (λ b. (if m == p then Some k else o) ≡ o) [
@@ -55,14 +55,14 @@ last_above : (n low : ℕ) (ms : List LabelMap) (ks : List Kind) → Rising n lo
 last_above n low [] ks r = r.0
 last_above n low (m ∷ ms) ks r = let h = last_above n m.at ms ks r.2 in omega (arith, h, r.0)
 
-told_last : (n low : ℕ) (ms : List LabelMap) (ks : List Kind) → Rising n low (ms ++ record { at = n; kinds = ks } ∷ []) → label_at (ms ++ record { at = n; kinds = ks } ∷ []) n ≡ Some ks
-told_last n low [] ks r = ap (λ b. if b then Some ks else None) (eq-eqb n n refl)
-told_last n low (m ∷ ms) ks r = let h = last_above n m.at ms ks r.2 in
-    refused m.at n m.kinds (label_at (ms ++ record { at = n; kinds = ks } ∷ []) n) (λ e. absurd (omega (arith, h, e))) ∙ told_last n m.at ms ks r.2
+reported_last : (n low : ℕ) (ms : List LabelMap) (ks : List Kind) → Rising n low (ms ++ record { at = n; kinds = ks } ∷ []) → label_at (ms ++ record { at = n; kinds = ks } ∷ []) n ≡ Some ks
+reported_last n low [] ks r = ap (λ b. if b then Some ks else None) (eq-eqb n n refl)
+reported_last n low (m ∷ ms) ks r = let h = last_above n m.at ms ks r.2 in
+    refused m.at n m.kinds (label_at (ms ++ record { at = n; kinds = ks } ∷ []) n) (λ e. absurd (omega (arith, h, e))) ∙ reported_last n m.at ms ks r.2
 
-pub told_here : (n : ℕ) (ks : List Kind) (ms : List LabelMap) → 0 < n → Rising n 0 ms → label_at (telling n ks ms) n ≡ Some ks
-told_here zero ks ms lt r = absurd (omega (arith, lt))
-told_here (suc n) ks ms lt r = told_last (suc n) 0 (untold (suc n) ms) ks (rising_told (suc n) ks ms r)
+pub reported_here : (n : ℕ) (ks : List Kind) (ms : List LabelMap) → 0 < n → Rising n 0 ms → label_at (telling n ks ms) n ≡ Some ks
+reported_here zero ks ms lt r = absurd (omega (arith, lt))
+reported_here (suc n) ks ms lt r = reported_last (suc n) 0 (untold (suc n) ms) ks (rising_reported (suc n) ks ms r)
 
 -- what registers hold
 
@@ -91,14 +91,14 @@ module _ (to : ℕ → ℕ) (f : PlainFunction) where
   pub front_part : (v w z : Written) → Extends w z → HasPart (size v) z to f → HasPart (size v) w to f
   front_part v w z e h = record {
     code = front (size v) w z to f.instrs e h.code;
-    told = λ p low high. h.told p low (let g = e.grows in omega (arith, g, high)) ∙ e.told p high;
+    reported = λ p low high. h.reported p low (let g = e.grows in omega (arith, g, high)) ∙ e.reported p high;
     labels = λ label p at. h.labels label p (e.placed label p at);
   }
 
   pub back_part : (v w z : Written) → Extends v w → HasPart (size v) z to f → HasPart (size w) z to f
   back_part v w z e h = record {
     code = back (size v) (size w) z to f.instrs e.grows h.code;
-    told = λ p low high. h.told p (let g = e.grows in omega (arith, g, low)) high;
+    reported = λ p low high. h.reported p (let g = e.grows in omega (arith, g, low)) high;
     labels = h.labels;
   }
 
@@ -109,7 +109,7 @@ sides_more c f g ch (suc m) n a b e x y = let r = sides_more c f g ch m n x.0 b 
 -- one side, from v up to z; clause i is chosen where w was written
 module _ (st : Setting) (hs : List Held) (s : Scene) (v w z : Written) (d : Side) (new : List Side) (i : ℕ) (c : PlainCode) (to : ℕ → ℕ) (f : PlainFunction) where
   abbrev kinds : List Kind
-  kinds = failed_told st hs s.type s.root d.known d.read
+  kinds = failed_reported st hs s.type s.root d.known d.read
 
   -- how the code goes on to the body of the clause
   abbrev Goes : ℕ → Type 0
@@ -127,14 +127,14 @@ module _ (st : Setting) (hs : List Held) (s : Scene) (v w z : Written) (d : Side
     quiet = quiet;
   }
 
-  module _ (told : z.maps ≡ telling (size v) kinds v.maps) (rising : Rising (size v) 0 v.maps) (later : 0 < size v) (has : HasPart (size v) z to f) (sighted : Sighted c f hs s d.known d.read kinds) where
-    told_at : size v < size z → label_at f.labels (size v) ≡ Some kinds
-    told_at lt = has.told (size v) (omega arith) lt ∙ ap (λ ms. label_at ms (size v)) told ∙ told_here (size v) kinds v.maps later rising
+  module _ (reported : z.maps ≡ telling (size v) kinds v.maps) (rising : Rising (size v) 0 v.maps) (later : 0 < size v) (has : HasPart (size v) z to f) (sighted : Sighted c f hs s d.known d.read kinds) where
+    reported_at : size v < size z → label_at f.labels (size v) ≡ Some kinds
+    reported_at lt = has.reported (size v) (omega arith) lt ∙ ap (λ ms. label_at ms (size v)) reported ∙ reported_here (size v) kinds v.maps later rising
 
     side_quiet : Quiet f (size v) (size z) (at kinds)
     side_quiet = record {
-      first = λ lt map e. subst (λ ks. Tells f.registers ks (at kinds)) (same_some kinds map (sym (told_at lt) ∙ e)) (record { wide = sighted.wide; each = λ r. refl });
-      others = λ p low high. has.told p (omega (arith, low)) high ∙ ap (λ ms. label_at ms p) told ∙ none_past (size v) 0 (telling (size v) kinds v.maps) p (rising_told (size v) kinds v.maps rising) low;
+      first = λ lt map e. subst (λ ks. Reports f.registers ks (at kinds)) (same_some kinds map (sym (reported_at lt) ∙ e)) (record { wide = sighted.wide; each = λ r. refl });
+      others = λ p low high. has.reported p (omega (arith, low)) high ∙ ap (λ ms. label_at ms p) reported ∙ none_past (size v) 0 (telling (size v) kinds v.maps) p (rising_reported (size v) kinds v.maps rising) low;
     }
 
     side_laid : (label : ℕ) → Tried c f (wide_at (held_at hs)) (choice_at to s) (size v) d.known d.read i (size w) → slice_get s.entries i ≡ Some label → Goes (to label) → SideLaid c f (wide_at (held_at hs)) (choice_at to s) (size v) (size z)
@@ -142,12 +142,12 @@ module _ (st : Setting) (hs : List Held) (s : Scene) (v w z : Written) (d : Side
       later = later;
       known = d.known;
       read = d.read;
-      told = at kinds;
+      reported = at kinds;
       sight = sighted.sight;
       chunk = chunk_laid (wide_at (held_at hs)) (at kinds) label tried there goes side_quiet;
     }
 
-    -- its label takes what is told there, or the body of clause i begins there
+    -- its label takes what is reported there, or the body of clause i begins there
     side_caught : (label entry : ℕ) → to label ≡ size v → ((g : Holding) → Alike c.types hs g → Tried c f g (choice_at to s) (size v) d.known d.read i (size w)) → slice_get s.entries i ≡ Some entry → Goes (to entry) → size v ≤ size w → (size z ≤ size v → is_some (label_at f.labels (size v)) ≡ true) → CaughtAt c f hs (choice_at to s) (size v) d.known d.read (to label)
     side_caught label entry place tried there goes grows empty = subst (CaughtAt c f hs (choice_at to s) (size v) d.known d.read) (sym place) (by (le_or_less (size z) (size v)))
       where
@@ -164,11 +164,11 @@ module _ (st : Setting) (hs : List Held) (s : Scene) (v w z : Written) (d : Side
             }
 
         by : (size z ≤ size v) ⊎ (size v < size z) → CaughtAt c f hs (choice_at to s) (size v) d.known d.read (size v)
-        by (inl le) = record { behind = omega arith; label = empty le; takes = λ g alike. inr (begins g (tried g alike) le goes) }
+        by (inl le) = record { following = omega arith; label = empty le; takes = λ g alike. inr (begins g (tried g alike) le goes) }
         by (inr lt) = record {
-          behind = omega arith;
-          label = ap is_some (told_at lt);
-          takes = λ g alike. inl (λ m sight. record { map = kinds; there = told_at lt; takes = record { wide = sighted.wide; each = sighted.takes g alike m sight } });
+          following = omega arith;
+          label = ap is_some (reported_at lt);
+          takes = λ g alike. inl (λ m sight. record { map = kinds; there = reported_at lt; takes = record { wide = sighted.wide; each = sighted.takes g alike m sight } });
         }
 
 -- turns
@@ -196,34 +196,34 @@ module _ (tb : Table) (low : ℕ) (c : Choice) (has : HasRows c) where
       ]
 
 module _ (st : Setting) (hs : List Held) (ch : Choice) where
-  abbrev pub told_of : Side → List Kind
-  told_of d = failed_told st hs ch.ty (spot_of ch.root) d.known d.read
+  abbrev pub reported_of : Side → List Kind
+  reported_of d = failed_reported st hs ch.ty (spot_of ch.root) d.known d.read
 
   module _ (low start : ℕ) (is : IsScene (scene st.types low ch)) (has : HasRows ch) where
     abbrev s : Scene
     s = scene st.types low ch
 
-    -- how the code goes on behind the tests of a side
+    -- how the code goes on after the tests of a side
     record Went (v w z : Written) (d : Side) (new : List Side) (j : ℕ) (c : PlainCode) (to : ℕ → ℕ) (f : PlainFunction) : Type 0 where
       label : ℕ
       there : slice_get s.entries j ≡ Some label
       goes : Goes st hs s v w z d new j c to f (to label)
       empty : 0 < size v → size z ≤ size v → is_some (label_at f.labels (size v)) ≡ true
 
-    turn_laid : (last : Bool) (i j : ℕ) (v w z : Written) (ds ds0 : List Side) (d : Side) (es : List Side) → ds0 ≡ ds ++ d ∷ [] → Ready start v ds0 → (g : FollowsIn s (told_of d) v d ds w es j) → Extends w z → z.maps ≡ w.maps →
+    turn_laid : (last : Bool) (i j : ℕ) (v w z : Written) (ds ds0 : List Side) (d : Side) (es : List Side) → ds0 ≡ ds ++ d ∷ [] → Ready start v ds0 → (g : FollowsIn s (reported_of d) v d ds w es j) → Extends w z → z.maps ≡ w.maps →
         ((c : PlainCode) (to : ℕ → ℕ) (f : PlainFunction) → Premises st hs s i v ds0 z es last c to f → Went v w z d g.new j c to f) → (last ≡ true → Every (RuledSide s i) es → Every (RuledSide s (suc i)) es) → ChoosesLaidIn st hs s i v ds0 z es last
     turn_laid last i j v w z ds ds0 d es e ready g longer same went written = record {
-      labelled = (turned st.types ch low start is has (told_of d) v w ds d es j (subst (Ready start v) e ready) g).0;
+      labelled = (turned st.types ch low start is has (reported_of d) v w ds d es j (subst (Ready start v) e ready) g).0;
       extends = extends_on v w z g.extends longer;
       seen = λ h. let two = every_split (SeenSide s) ds (d ∷ []) (subst (Every (SeenSide s)) e h) in
-          subst (Every (SeenSide s)) (sym g.behind) (every_append (SeenSide s) ds g.new two.0 (g.laid.seen two.1.0));
+          subst (Every (SeenSide s)) (sym g.following) (every_append (SeenSide s) ds g.new two.0 (g.laid.seen two.1.0));
       ruled = λ h. let two = every_split (RuledSide s i) ds (d ∷ []) (subst (Every (RuledSide s i)) e h) in
-          subst (Every (RuledSide s i)) (sym g.behind) (every_append (RuledSide s i) ds g.new two.0 (ruled_all s i d.known g.new g.laid.missed two.1.0));
+          subst (Every (RuledSide s i)) (sym g.following) (every_append (RuledSide s i) ds g.new two.0 (ruled_all s i d.known g.new g.laid.missed two.1.0));
       written = written;
       later = λ h. let two = every_split (LaterSide (size v)) ds (d ∷ []) (subst (Every (LaterSide (size v))) e h) in
-          subst (Every (LaterSide (size z))) (sym g.behind) (every_append (LaterSide (size z)) ds g.new (later_more (size v) (size z) ds all two.0)
+          subst (Every (LaterSide (size z))) (sym g.following) (every_append (LaterSide (size z)) ds g.new (later_more (size v) (size z) ds all two.0)
           (later_all (size z) g.new (every_so (λ (x : Side). 0 < size w) (λ (x : Side). 0 < size z) (λ x y. let b = longer.grows in omega (arith, b, y)) g.new g.laid.later)));
-      rising = λ r. subst (Rising (size z) 0) (sym same) (rises d.label g.laid.tells r);
+      rising = λ r. subst (Rising (size z) 0) (sym same) (rises d.label g.laid.reports r);
       sides = λ labelled c to f p. by_label c to f p (went c to f p) (every_split Labelled ds (d ∷ []) (subst (Every Labelled) e labelled)).1.0 d.label refl;
       first = λ first c to f m p alike shown. at_first c to f m p (went c to f p) alike shown (unlabelled ds d (sym e ∙ first)).1;
     }
@@ -231,41 +231,41 @@ module _ (st : Setting) (hs : List Held) (ch : Choice) where
         all : size v ≤ size z
         all = let a = g.extends.grows in let b = longer.grows in omega (arith, a, b)
 
-        rises : (o : Option ℕ) → TellsSide v o (told_of d) w → Rising (size v) 0 v.maps → Rising (size z) 0 w.maps
+        rises : (o : Option ℕ) → ReportsSide v o (reported_of d) w → Rising (size v) 0 v.maps → Rising (size z) 0 w.maps
         rises None t r = subst (Rising (size z) 0) (sym t) (rising_higher (size v) (size z) 0 v.maps all r)
-        rises (Some l) t r = subst (Rising (size z) 0) (sym t.1) (rising_higher (size v) (size z) 0 (telling (size v) (told_of d) v.maps) all (rising_told (size v) (told_of d) v.maps r))
+        rises (Some l) t r = subst (Rising (size z) 0) (sym t.1) (rising_higher (size v) (size z) 0 (telling (size v) (reported_of d) v.maps) all (rising_reported (size v) (reported_of d) v.maps r))
 
         tried : (c : PlainCode) (to : ℕ → ℕ) (f : PlainFunction) → Premises st hs s i v ds0 z es last c to f → (h : Holding) → Alike c.types hs h → Tried c f h (choice_at to s) (size v) d.known d.read j (size w)
         tried c to f p h alike = g.laid.by c to f hs h alike p.types (front (size v) w z to f.instrs longer p.part.code)
-            (all_caught_less c f hs (choice_at to s) to (size w) (size z) longer.grows g.new (every_split (Caught c f hs (choice_at to s) to (size z)) ds g.new (subst (Every (Caught c f hs (choice_at to s) to (size z))) g.behind p.caught)).1)
+            (all_caught_less c f hs (choice_at to s) to (size w) (size z) longer.grows g.new (every_split (Caught c f hs (choice_at to s) to (size z)) ds g.new (subst (Every (Caught c f hs (choice_at to s) to (size z))) g.following p.caught)).1)
 
         by_label : (c : PlainCode) (to : ℕ → ℕ) (f : PlainFunction) → Premises st hs s i v ds0 z es last c to f → Went v w z d g.new j c to f → Labelled d → (o : Option ℕ) → d.label ≡ o → LaidSides hs s v ds0 z c to f
         by_label c to f p on labelled None x = absurd (subst HasLabel x labelled)
         by_label c to f p on labelled (Some l) x =
-            let tells = subst (λ o. TellsSide v o (told_of d) w) x g.laid.tells in
-            let told : z.maps ≡ telling (size v) (told_of d) v.maps = same ∙ tells.1 in
+            let reports = subst (λ o. ReportsSide v o (reported_of d) w) x g.laid.reports in
+            let reported : z.maps ≡ telling (size v) (reported_of d) v.maps = same ∙ reports.1 in
             let seen = (every_split (SeenSide s) ds (d ∷ []) (subst (Every (SeenSide s)) e p.seen)).1.0 in
             let later = (every_split (LaterSide (size v)) ds (d ∷ []) (subst (Every (LaterSide (size v))) e p.later)).1.0 labelled in
             let sighted = sighted c f st hs s p.types p.scalars is p.long p.inside p.fresh d.known d.read seen in
-            let caught = (every_split (Caught c f hs (choice_at to s) to (size z)) ds g.new (subst (Every (Caught c f hs (choice_at to s) to (size z))) g.behind p.caught)).0 in
-            let one = side_caught st hs s v w z d g.new j c to f told p.rising later p.part sighted l on.label (p.part.code.at l (size v) (longer.placed l (size v) tells.0)) (tried c to f p) on.there on.goes g.extends.grows (on.empty later) in (
+            let caught = (every_split (Caught c f hs (choice_at to s) to (size z)) ds g.new (subst (Every (Caught c f hs (choice_at to s) to (size z))) g.following p.caught)).0 in
+            let one = side_caught st hs s v w z d g.new j c to f reported p.rising later p.part sighted l on.label (p.part.code.at l (size v) (longer.placed l (size v) reports.0)) (tried c to f p) on.there on.goes g.extends.grows (on.empty later) in (
               1,
-              (size z, side_laid st hs s v w z d g.new j c to f told p.rising later p.part sighted on.label (tried c to f p (wide_at (held_at hs)) (wide_alike c.types hs)) on.there on.goes, refl),
+              (size z, side_laid st hs s v w z d g.new j c to f reported p.rising later p.part sighted on.label (tried c to f p (wide_at (held_at hs)) (wide_alike c.types hs)) on.there on.goes, refl),
               subst (Every (Caught c f hs (choice_at to s) to (size v))) (sym e) (every_append (Caught c f hs (choice_at to s) to (size v)) ds (d ∷ [])
                   (all_caught_less c f hs (choice_at to s) to (size v) (size z) all ds caught) (subst (CaughtBy c f hs (choice_at to s) to (size v) d.known d.read) (sym x) one, tt)),
             )
 
         at_first : (c : PlainCode) (to : ℕ → ℕ) (f : PlainFunction) (m : ℕ → Kind) → Premises st hs s i v ds0 z es last c to f → Went v w z d g.new j c to f → Alike c.types hs (held_at hs) →
-            ((map : List Kind) → label_at v.maps (size v) ≡ Some map → Tells f.registers map m) → d ≡ first_side → LaidFirst hs s v z c to f m
+            ((map : List Kind) → label_at v.maps (size v) ≡ Some map → Reports f.registers map m) → d ≡ first_side → LaidFirst hs s v z c to f m
         at_first c to f m p on alike shown x =
-            let tells = subst (λ o. TellsSide v o (told_of d) w) (ap (λ (y : Side). y.label) x) g.laid.tells in
-            let told : z.maps ≡ v.maps = same ∙ tells in (
+            let reports = subst (λ o. ReportsSide v o (reported_of d) w) (ap (λ (y : Side). y.label) x) g.laid.reports in
+            let reported : z.maps ≡ v.maps = same ∙ reports in (
               size z,
               0,
               subst (λ (y : Side). ChunkLaid c f (held_at hs) (choice_at to s) (size v) y.known y.read m (size z)) x
                   (chunk_laid st hs s v w z d g.new j c to f (held_at hs) m on.label (tried c to f p (held_at hs) alike) on.there on.goes (record {
-                    first = λ lt map q. shown map (sym (p.part.told (size v) (omega arith) lt ∙ ap (λ ms. label_at ms (size v)) told) ∙ q);
-                    others = λ q above below. p.part.told q (omega (arith, above)) below ∙ ap (λ ms. label_at ms q) told ∙ none_past (size v) 0 v.maps q p.rising above;
+                    first = λ lt map q. shown map (sym (p.part.reported (size v) (omega arith) lt ∙ ap (λ ms. label_at ms (size v)) reported) ∙ q);
+                    others = λ q above below. p.part.reported q (omega (arith, above)) below ∙ ap (λ ms. label_at ms q) reported ∙ none_past (size v) 0 v.maps q p.rising above;
                   })),
               refl,
             )
@@ -286,7 +286,7 @@ module _ (st : Setting) (hs : List Held) (ch : Choice) where
     };
   }
 
-  pub here_laid : (i : ℕ) (v w : Written) (ds ds0 : List Side) (d : Side) (es : List Side) → ds0 ≡ ds ++ d ∷ [] → Follows st.types (told_of d) ch v d ds w es i → AreMissed (rows ch.rows.items) i es → ChoosesLaid st hs ch i v ds0 w es true
+  pub here_laid : (i : ℕ) (v w : Written) (ds ds0 : List Side) (d : Side) (es : List Side) → ds0 ≡ ds ++ d ∷ [] → Follows st.types (reported_of d) ch v d ds w es i → AreMissed (rows ch.rows.items) i es → ChoosesLaid st hs ch i v ds0 w es true
   here_laid i v w ds ds0 d es e follows missed = record {
     by = λ low start is has ready. let g = follows.by low is has in
         turn_laid low start is has true i i v w w ds ds0 d es e ready g (same_extends w) refl
@@ -295,12 +295,12 @@ module _ (st : Setting) (hs : List Held) (ch : Choice) where
           there = x.there;
           goes = inr (x.place, refl);
           empty = λ later le. let same : size w ≡ size v = (let b = g.extends.grows in omega (arith, b, le)) in
-              subst (λ n. is_some (label_at f.labels n) ≡ true) same (x.told (omega (arith, later, same)));
+              subst (λ n. is_some (label_at f.labels n) ≡ true) same (x.reported (omega (arith, later, same)));
         })
         (λ t h. ruled_next st.types low ch has i es missed h);
   }
 
-  pub on_laid : (i j label : ℕ) (v w z : Written) (ds ds0 : List Side) (d : Side) (es : List Side) → ds0 ≡ ds ++ d ∷ [] → Follows st.types (told_of d) ch v d ds w es j → slice_get ch.entries.items j ≡ Some label → z ≡ added w (I.Jump label) → ChoosesLaid st hs ch i v ds0 z es false
+  pub on_laid : (i j label : ℕ) (v w z : Written) (ds ds0 : List Side) (d : Side) (es : List Side) → ds0 ≡ ds ++ d ∷ [] → Follows st.types (reported_of d) ch v d ds w es j → slice_get ch.entries.items j ≡ Some label → z ≡ added w (I.Jump label) → ChoosesLaid st hs ch i v ds0 z es false
   on_laid i j label v w z ds ds0 d es e follows there jumped = record {
     by = λ low start is has ready. let g = follows.by low is has in
         turn_laid low start is has false i j v w z ds ds0 d es e ready g (subst (Extends w) (sym jumped) (added_extends w (I.Jump label))) (ap (λ (y : Written). y.maps) jumped)

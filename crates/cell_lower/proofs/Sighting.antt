@@ -1,4 +1,4 @@
--- What is told where a test failed is what is known there of each register, and takes each such knowledge.
+-- What is reported where a test failed is what is known there of each register, and takes each such knowledge.
 use Rattle.std.proofs.Common.{◌≡◌, ◌⊎◌, inl, inr, refl, sym, ap, ◌∙◌, subst, true≢false, arith, ℕ, zero, suc, ◌+◌, ◌<◌, ◌≤◌, Bool, true, false, ◌||◌, ◌&&◌, List, [], ◌∷◌, length, Option, Some, None, slice_set, get_or}
 use Rattle.std.specs.Prelude.{if◌then◌else◌, ◌==◌}
 use Rattle.std.proofs.lemmas.Bool.{eqb-true, eqb-false, eq-eqb}
@@ -24,9 +24,9 @@ use Rattle.lower_frame.specs.lowering_relation.Values.{Setting, is_scalar}
 use Rattle.lower_frame.specs.lowering_relation.Describing.{Holding, held_at, kind_of}
 use Rattle.lower_frame.specs.lowering_relation.Matches.{BuiltRight, wide_at, widened}
 use Rattle.lower_frame.specs.lowering_relation.Sights.{left, part_kind, Unread, Fresh, Below, AllBelow, seen_kind, Sight}
-use Rattle.lower_frame.specs.Frames.{kinds_told}
+use Rattle.lower_frame.specs.Frames.{kinds_reported}
 use Rattle.cell_lower.specs.Chosen.{Sighted}
-use Rattle.cell_lower.specs.Overlays.{with_root, part_told, overlaid, overlaid_all, failed_told}
+use Rattle.cell_lower.specs.Overlays.{with_root, part_reported, overlaid, overlaid_all, failed_reported}
 use Rattle.cell_lower.specs.Seen.{NoneRead, Seen, AllSeen}
 use Rattle.cell_lower.specs.Testing.{Alike}
 use Rattle.cell_lower.proofs.Folding.{if_true, if_false}
@@ -52,14 +52,14 @@ as_long r k [] = refl
 as_long zero k (x ∷ ks) = refl
 as_long (suc r) k (x ∷ ks) = ap suc (as_long r k ks)
 
-pub told_kind : (w : Table) (hs : List Held) (r : ℕ) → at (kinds_told w hs) r ≡ kind_of w (widened (held_at hs r))
-told_kind w [] r = refl
-told_kind w (h ∷ hs) zero = refl
-told_kind w (h ∷ hs) (suc r) = told_kind w hs r
+pub reported_kind : (w : Table) (hs : List Held) (r : ℕ) → at (kinds_reported w hs) r ≡ kind_of w (widened (held_at hs r))
+reported_kind w [] r = refl
+reported_kind w (h ∷ hs) zero = refl
+reported_kind w (h ∷ hs) (suc r) = reported_kind w hs r
 
-pub told_long : (w : Table) (hs : List Held) → length (kinds_told w hs) ≡ length hs
-told_long w [] = refl
-told_long w (h ∷ hs) = ap suc (told_long w hs)
+pub reported_long : (w : Table) (hs : List Held) → length (kinds_reported w hs) ≡ length hs
+reported_long w [] = refl
+reported_long w (h ∷ hs) = ap suc (reported_long w hs)
 
 pub get_held : (hs : List Held) (r : ℕ) → get_or hs r H.Nothing ≡ held_at hs r
 get_held [] r = refl
@@ -68,7 +68,7 @@ get_held (h ∷ hs) (suc r) = get_held hs r
 
 -- the positions below one
 
--- the same is told of these registers
+-- the same is reported of these registers
 abbrev SameKinds : List ℕ → (ℕ → Kind) → (ℕ → Kind) → Type 0
 SameKinds zs m l = (z : ℕ) → Among z zs → l z ≡ m z
 
@@ -99,7 +99,7 @@ mutual
     all_below_on w root ts ks ss r (suc i) read m l (λ z a. same z (in_tail z s ss a)) b.1,
   )
 
--- what is told is just so
+-- what is reported is just so
 
 same_either : (zs read : List ℕ) (m l : ℕ → Kind) → Unread zs read m → Unread zs read l → SameKinds zs m l
 same_either zs read m l u v z a = (v z a).1 ∙ sym (u z a).1
@@ -130,7 +130,7 @@ mutual
   all_below_same w root (t ∷ ts) (MoreKnowns k ks) (MoreSpots s ss) r i read m l x y =
       parts_same s ss m l (one_same w root t k s r i read m l (λ a b. below_same w root t k s read m l a b) x.0 y.0) (all_below_same w root ts ks ss r (suc i) read m l x.1 y.1)
 
--- what is told below the scrutinee
+-- what is reported below the scrutinee
 
 module _ (st : Setting) (root : Option ℕ) (read : List ℕ) where
   abbrev w : Table
@@ -151,10 +151,10 @@ module _ (st : Setting) (root : Option ℕ) (read : List ℕ) where
     all_long [] (MoreKnowns k ks) ps r i kinds = refl
     all_long (t ∷ ts) (MoreKnowns k ks) NoSpots r i kinds = refl
     all_long (t ∷ ts) (MoreKnowns k ks) (MoreSpots p ps) r i kinds =
-        let deep = overlaid st root read t k p (slice_set kinds (register p) (part_told st root t k r i)) in
+        let deep = overlaid st root read t k p (slice_set kinds (register p) (part_reported st root t k r i)) in
         all_long ts ks ps r (suc i) (if contains (register p) read then deep else kinds)
         ∙ if_long (contains (register p) read) deep kinds (length kinds)
-        (overlaid_long t k p (slice_set kinds (register p) (part_told st root t k r i)) ∙ as_long (register p) (part_told st root t k r i) kinds) refl
+        (overlaid_long t k p (slice_set kinds (register p) (part_reported st root t k r i)) ∙ as_long (register p) (part_reported st root t k r i) kinds) refl
 
   if_other : (b : Bool) (xs ys : List Kind) (z : ℕ) (v : Kind) → at xs z ≡ v → at ys z ≡ v → at (if b then xs else ys) z ≡ v
   if_other true xs ys z v e f = e
@@ -171,12 +171,12 @@ module _ (st : Setting) (root : Option ℕ) (read : List ℕ) where
     all_other [] (MoreKnowns k ks) ps r i kinds z ne = refl
     all_other (t ∷ ts) (MoreKnowns k ks) NoSpots r i kinds z ne = refl
     all_other (t ∷ ts) (MoreKnowns k ks) (MoreSpots p ps) r i kinds z ne =
-        let set = slice_set kinds (register p) (part_told st root t k r i) in
+        let set = slice_set kinds (register p) (part_reported st root t k r i) in
         all_other ts ks ps r (suc i) (if contains (register p) read then overlaid st root read t k p set else kinds) z (λ a. ne (in_tail z p ps a))
         ∙ if_other (contains (register p) read) (overlaid st root read t k p set) kinds z (at kinds z)
-        (overlaid_other t k p set z (λ a. ne (in_head z p ps a)) ∙ other_kind (register p) z (part_told st root t k r i) kinds (λ e. ne (inl e))) refl
+        (overlaid_other t k p set z (λ a. ne (in_head z p ps a)) ∙ other_kind (register p) z (part_reported st root t k r i) kinds (λ e. ne (inl e))) refl
 
-  part_is : (t : ℕ) (k : Known) (r i : ℕ) → is_scalar st t ≡ is_scalar_type w t → part_told st root t k r i ≡ part_kind w root t k r i
+  part_is : (t : ℕ) (k : Known) (r i : ℕ) → is_scalar st t ≡ is_scalar_type w t → part_reported st root t k r i ≡ part_kind w root t k r i
   part_is t k r i e = ap (λ (b : Bool). if b then K.Scalar t else K.Lent t (left w t k) root (Some (record { register = r; field = i }))) e
 
   -- the scalars among the fields of the types are those of the setting
@@ -186,28 +186,28 @@ module _ (st : Setting) (root : Option ℕ) (read : List ℕ) where
 
     part_below : (t : ℕ) (ts : List ℕ) (k : Known) (ks : Knowns) (p : Spot) (ps : Spots) (r i : ℕ) (kinds : List Kind) → ((u : ℕ) → Among u (t ∷ ts) → is_scalar st u ≡ is_scalar_type w u) → AllDiffer (MoreSpots p ps) →
         (((contains (register p) read ≡ true) × Seen w t k p read) ⊎ ((contains (register p) read ≡ false) × NoneRead (below p) read × Fresh w t k)) → AllSeen w ts ks ps read → ((z : ℕ) → Among z (all_in (MoreSpots p ps)) → (z < length kinds) × (at kinds z ≡ K.Gone)) →
-        (Seen w t k p read → Below w root t k p read (at (overlaid st root read t k p (slice_set kinds (register p) (part_told st root t k r i))))) →
+        (Seen w t k p read → Below w root t k p read (at (overlaid st root read t k p (slice_set kinds (register p) (part_reported st root t k r i))))) →
         ((more : List Kind) → length more ≡ length kinds → ((z : ℕ) → Among z (all_in ps) → at more z ≡ at kinds z) → AllBelow w root ts ks ps r (suc i) read (at (overlaid_all st root read ts ks ps r (suc i) more))) →
         AllBelow w root (t ∷ ts) (MoreKnowns k ks) (MoreSpots p ps) r i read (at (overlaid_all st root read (t ∷ ts) (MoreKnowns k ks) (MoreSpots p ps) r i kinds))
     part_below t ts k ks p ps r i kinds sc d (inl h) seen in' below rest =
         subst (λ more. AllBelow w root (t ∷ ts) (MoreKnowns k ks) (MoreSpots p ps) r i read (at (overlaid_all st root read ts ks ps r (suc i) more))) (sym (if_true (contains (register p) read) deep kinds h.0)) (
           inl (
             h.0,
-            all_other ts ks ps r (suc i) deep (register p) d.1 ∙ overlaid_other t k p set (register p) d.0 ∙ same_kind (register p) (part_told st root t k r i) kinds (in' (register p) (inl refl)).0 ∙ part_is t k r i (sc t (inl refl)),
+            all_other ts ks ps r (suc i) deep (register p) d.1 ∙ overlaid_other t k p set (register p) d.0 ∙ same_kind (register p) (part_reported st root t k r i) kinds (in' (register p) (inl refl)).0 ∙ part_is t k r i (sc t (inl refl)),
             below_on w root t k p read (at deep) (at (overlaid_all st root read ts ks ps r (suc i) deep)) (λ z a. all_other ts ks ps r (suc i) deep z (λ b. d.2 z a b)) (below h.1),
           ),
-          rest deep (overlaid_long t k p set ∙ as_long (register p) (part_told st root t k r i) kinds)
-              (λ z a. overlaid_other t k p set z (λ b. d.2 z b a) ∙ other_kind (register p) z (part_told st root t k r i) kinds (λ e. d.1 (subst (λ q. Among q (all_in ps)) e a))),
+          rest deep (overlaid_long t k p set ∙ as_long (register p) (part_reported st root t k r i) kinds)
+              (λ z a. overlaid_other t k p set z (λ b. d.2 z b a) ∙ other_kind (register p) z (part_reported st root t k r i) kinds (λ e. d.1 (subst (λ q. Among q (all_in ps)) e a))),
         )
       where
         set : List Kind
-        set = slice_set kinds (register p) (part_told st root t k r i)
+        set = slice_set kinds (register p) (part_reported st root t k r i)
 
         deep : List Kind
         deep = overlaid st root read t k p set
     part_below t ts k ks p ps r i kinds sc d (inr h) seen in' below rest =
         subst (λ more. AllBelow w root (t ∷ ts) (MoreKnowns k ks) (MoreSpots p ps) r i read (at (overlaid_all st root read ts ks ps r (suc i) more)))
-        (sym (if_false (contains (register p) read) (overlaid st root read t k p (slice_set kinds (register p) (part_told st root t k r i))) kinds h.0)) (
+        (sym (if_false (contains (register p) read) (overlaid st root read t k p (slice_set kinds (register p) (part_reported st root t k r i))) kinds h.0)) (
           inr (
             h.0,
             all_other ts ks ps r (suc i) kinds (register p) d.1 ∙ (in' (register p) (inl refl)).1,
@@ -229,12 +229,12 @@ module _ (st : Setting) (root : Option ℕ) (read : List ℕ) where
       all_overlaid_below [] (MoreKnowns k ks) (MoreSpots p ps) r i kinds sc d seen in' = unread_in (all_in (MoreSpots p ps)) kinds seen (λ z a. (in' z a).1)
       all_overlaid_below (t ∷ ts) NoKnowns (MoreSpots p ps) r i kinds sc d seen in' = absurd seen
       all_overlaid_below (t ∷ ts) (MoreKnowns k ks) (MoreSpots p ps) r i kinds sc d seen in' =
-          let set = slice_set kinds (register p) (part_told st root t k r i) in
+          let set = slice_set kinds (register p) (part_reported st root t k r i) in
           let deep = overlaid st root read t k p set in
           part_below t ts k ks p ps r i kinds sc d seen.0 seen.1 in'
           (λ s. overlaid_below t k p set d.3 s (λ z a. (
-            let x = (in' z (in_head z p ps a)).0 in omega (arith, x, as_long (register p) (part_told st root t k r i) kinds),
-            other_kind (register p) z (part_told st root t k r i) kinds (λ e. d.0 (subst (λ q. Among q (below p)) e a)) ∙ (in' z (in_head z p ps a)).1,
+            let x = (in' z (in_head z p ps a)).0 in omega (arith, x, as_long (register p) (part_reported st root t k r i) kinds),
+            other_kind (register p) z (part_reported st root t k r i) kinds (λ e. d.0 (subst (λ q. Among q (below p)) e a)) ∙ (in' z (in_head z p ps a)).1,
           )))
           (λ more long same. all_overlaid_below ts ks ps r (suc i) more (λ u a. sc u (inr a)) d.4 seen.1 (λ z a.
           (let x = (in' z (in_tail z p ps a)).0 in omega (arith, x, long), same z a ∙ (in' z (in_tail z p ps a)).1)))
@@ -340,62 +340,62 @@ module _ (st : Setting) (hs : List Held) (t : ℕ) (p : Spot) (k : Known) (read 
   held = get_or hs (register p) H.Nothing
 
   abbrev kinds : List Kind
-  kinds = with_root st.types t held k (register p) (kinds_told st.types hs)
+  kinds = with_root st.types t held k (register p) (kinds_reported st.types hs)
 
-  abbrev told : List Kind
-  told = failed_told st hs t p k read
+  abbrev reported : List Kind
+  reported = failed_reported st hs t p k read
 
   kinds_long : length kinds ≡ length hs
-  kinds_long = with_long st.types t held k (register p) (kinds_told st.types hs) ∙ told_long st.types hs
+  kinds_long = with_long st.types t held k (register p) (kinds_reported st.types hs) ∙ reported_long st.types hs
 
-  failed_long : length told ≡ length hs
+  failed_long : length reported ≡ length hs
   failed_long = overlaid_long st (root_of (register p) held) read t k p kinds ∙ kinds_long
 
   at_other : (q : ℕ) → (q ≡ register p → ⊥) → at kinds q ≡ kind_of st.types (widened (held_at hs q))
-  at_other q ne = with_other st.types t held k (register p) q (kinds_told st.types hs) ne ∙ told_kind st.types hs q
+  at_other q ne = with_other st.types t held k (register p) q (kinds_reported st.types hs) ne ∙ reported_kind st.types hs q
 
   not_root : (z : ℕ) → Among z (below p) → z ≡ register p → ⊥
   not_root z a e = apart (subst (λ q. Among q (below p)) e a)
 
-  failed_sight : Sight st.types (wide_at (held_at hs)) t p k read (at told)
+  failed_sight : Sight st.types (wide_at (held_at hs)) t p k read (at reported)
   failed_sight = record {
     root = overlaid_other st (root_of (register p) held) read t k p kinds (register p) apart
-        ∙ with_here st.types t held k (register p) (kinds_told st.types hs) (let n = told_long st.types hs in omega (arith, n, inside)) (told_kind st.types hs (register p) ∙ ap (λ h. kind_of st.types (widened h)) (sym (get_held hs (register p))))
+        ∙ with_here st.types t held k (register p) (kinds_reported st.types hs) (let n = reported_long st.types hs in omega (arith, n, inside)) (reported_kind st.types hs (register p) ∙ ap (λ h. kind_of st.types (widened h)) (sym (get_held hs (register p))))
         ∙ ap (λ h. seen_kind st.types t (widened h) k) (get_held hs (register p));
-    parts = subst (λ o. Below st.types o t k p read (at told)) (sym (wide_root (register p) (held_at hs (register p)) ∙ ap (root_of (register p)) (sym (get_held hs (register p)))))
+    parts = subst (λ o. Below st.types o t k p read (at reported)) (sym (wide_root (register p) (held_at hs (register p)) ∙ ap (root_of (register p)) (sym (get_held hs (register p)))))
         (overlaid_below st (root_of (register p) held) read plain t k p kinds differ seen (λ z a.
         (let f = (fresh z a).0 in omega (arith, f, kinds_long), at_other z (not_root z a) ∙ ap (λ h. kind_of st.types (widened h)) (fresh z a).1)));
     others = λ q ne out. overlaid_other st (root_of (register p) held) read t k p kinds q out ∙ at_other q ne;
   }
 
-  failed_takes : (g : Holding) → Alike st.types hs g → (m : ℕ → Kind) → Sight st.types g t p k read m → (q : ℕ) → fits (at told q) (m q) ≡ true
+  failed_takes : (g : Holding) → Alike st.types hs g → (m : ℕ → Kind) → Sight st.types g t p k read m → (q : ℕ) → fits (at reported q) (m q) ≡ true
   failed_takes g alike m sight q = by (or_not (q == register p))
     where
       same_root_of : root_of (register p) (wide_at (held_at hs) (register p)) ≡ root_of (register p) (g (register p))
       same_root_of = ap (root_of (register p)) (sym (alike.held (register p))) ∙ wide_root (register p) (g (register p))
 
-      outside : (q ≡ register p → ⊥) → (b : Bool) → contains q (below p) ≡ b → fits (at told q) (m q) ≡ true
-      outside ne true e = fits_same (at told q) (m q)
-          (below_same st.types (root_of (register p) (g (register p))) t k p read (at told) m (subst (λ o. Below st.types o t k p read (at told)) same_root_of failed_sight.parts) sight.parts q (contains_among q (below p) e))
+      outside : (q ≡ register p → ⊥) → (b : Bool) → contains q (below p) ≡ b → fits (at reported q) (m q) ≡ true
+      outside ne true e = fits_same (at reported q) (m q)
+          (below_same st.types (root_of (register p) (g (register p))) t k p read (at reported) m (subst (λ o. Below st.types o t k p read (at reported)) same_root_of failed_sight.parts) sight.parts q (contains_among q (below p) e))
       outside ne false e =
           let out : Among q (below p) → ⊥ = λ a. true≢false (sym (among_contains q (below p) a) ∙ e) in
           ap (λ x. fits x (m q)) (failed_sight.others q ne out ∙ ap (kind_of st.types) (sym (alike.held q)))
           ∙ ap (fits (kind_of st.types (widened (g q)))) (sight.others q ne out) ∙ wide_fits st.types (g q) (alike.built q)
 
-      by : ((q == register p) ≡ true) ⊎ ((q == register p) ≡ false) → fits (at told q) (m q) ≡ true
+      by : ((q == register p) ≡ true) ⊎ ((q == register p) ≡ false) → fits (at reported q) (m q) ≡ true
       by (inl e) =
           let same : q ≡ register p = eqb-true q (register p) e in
-          subst (λ z. fits (at told z) (m z) ≡ true) (sym same)
+          subst (λ z. fits (at reported z) (m z) ≡ true) (sym same)
           (ap (λ x. fits x (m (register p))) (failed_sight.root ∙ ap (λ h. seen_kind st.types t h k) (sym (alike.held (register p))))
           ∙ ap (fits (seen_kind st.types t (widened (g (register p))) k)) sight.root ∙ seen_fits st.types t (g (register p)) k)
       by (inr e) = outside (eqb-false q (register p) e) (contains q (below p)) refl
 
--- what a label tells where a test failed
+-- what a label reports where a test failed
 pub sighted : (c : PlainCode) (f : PlainFunction) (st : Setting) (hs : List Held) (s : Scene) → c.types ≡ st.types → ((t c u : ℕ) → Among u (fields st.types t c) → is_scalar st u ≡ is_scalar_type st.types u) → IsScene s → length hs ≡ f.registers → register s.root < length hs →
-    ((z : ℕ) → Among z (below s.root) → (z < length hs) × (held_at hs z ≡ H.Nothing)) → (k : Known) (read : List ℕ) → Seen st.types s.type k s.root read → Sighted c f hs s k read (failed_told st hs s.type s.root k read)
+    ((z : ℕ) → Among z (below s.root) → (z < length hs) × (held_at hs z ≡ H.Nothing)) → (k : Known) (read : List ℕ) → Seen st.types s.type k s.root read → Sighted c f hs s k read (failed_reported st hs s.type s.root k read)
 sighted c f st hs s types plain is long inside fresh k read seen = record {
   wide = failed_long st hs s.type s.root k read plain is.differ apart inside fresh seen ∙ long;
-  sight = subst (λ w. Sight w (wide_at (held_at hs)) s.type s.root k read (at (failed_told st hs s.type s.root k read))) (sym types) (failed_sight st hs s.type s.root k read plain is.differ apart inside fresh seen);
+  sight = subst (λ w. Sight w (wide_at (held_at hs)) s.type s.root k read (at (failed_reported st hs s.type s.root k read))) (sym types) (failed_sight st hs s.type s.root k read plain is.differ apart inside fresh seen);
   takes = λ g alike m sight r. failed_takes st hs s.type s.root k read plain is.differ apart inside fresh seen g (subst (λ w. Alike w hs g) types alike) m (subst (λ w. Sight w g s.type s.root k read m) types sight) r;
 }
   where

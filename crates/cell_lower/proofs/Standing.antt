@@ -43,7 +43,7 @@ use Rattle.cell_lower.proofs.Starting.{Starts, starts, start_next}
 abbrev nothing : Written
 nothing = record { instrs = []; places = []; maps = [] }
 
--- nothing is told yet
+-- nothing is reported yet
 begun : (s : Setting) (k : Known) → Starts k → k.next ≤ registers k → Underway s.types k nothing
 begun s k h room = record {
   accounts = h.accounts;
@@ -86,7 +86,7 @@ module _ (s : Setting) (fip : Bool) (n : ℕ) (d : Instance) (l : Known) (w : Wr
   part : HasPart 0 w (place_of w.places) f
   part = record {
     code = has_all w f.instrs h.instrs;
-    told = λ p low high. ap (λ ms. label_at ms p) h.maps;
+    reported = λ p low high. ap (λ ms. label_at ms p) h.maps;
     labels = λ label p at low. h.have.by label p at low;
   }
 

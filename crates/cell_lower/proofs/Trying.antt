@@ -27,7 +27,7 @@ use Rattle.lower_frame.proofs.lowering_relation.Readings.{read_one_extends, read
 use Rattle.lower_frame.proofs.lowering_relation.Openings.{taking_extends, naming_extends}
 use Rattle.lower_frame.specs.lowering_relation.Describing.{Holding}
 use Rattle.lower_frame.specs.lowering_relation.declared.held.Held.{Held}
-use Rattle.cell_lower.specs.Testing.{Alike, choice_at, CaughtAt, CaughtBy, Caught, Tried, TriedOn, StepsLaid, FollowsLaid, TellsSide, SeenAt, SeenSide, Misses}
+use Rattle.cell_lower.specs.Testing.{Alike, choice_at, CaughtAt, CaughtBy, Caught, Tried, TriedOn, StepsLaid, FollowsLaid, ReportsSide, SeenAt, SeenSide, Misses}
 use Rattle.cell_lower.proofs.Seeing.{last_seen, side_seen}
 use Rattle.cell_lower.proofs.Missing.{side_misses}
 use Rattle.cell_lower.specs.Scenes.{reading_of, SettlesBy, Tests}
@@ -207,7 +207,7 @@ settled_test r (Number i) label to = refl
 module _ (c : PlainCode) (f : PlainFunction) (hs : List Held) (ch : Choice) (to : ℕ → ℕ) (m n : ℕ) (le : m ≤ n) where
   caught_less : (k : Known) (read : List ℕ) (o : Option ℕ) → CaughtBy c f hs ch to n k read o → CaughtBy c f hs ch to m k read o
   caught_less k read None a = a
-  caught_less k read (Some l) a = record { behind = let b = a.behind in omega (arith, le, b); label = a.label; takes = a.takes }
+  caught_less k read (Some l) a = record { following = let b = a.following in omega (arith, le, b); label = a.label; takes = a.takes }
 
   pub all_caught_less : (ds : List Side) → Every (Caught c f hs ch to n) ds → Every (Caught c f hs ch to m) ds
   all_caught_less [] a = tt
@@ -281,7 +281,7 @@ module _ (s : Scene) (is : IsScene s) where
         reads = reads_laid (size v) to f p k s.root x (omega arith) (front (size v) y.written (added y.written test) to f.instrs (added_extends y.written test) has);
         asks = t.asks;
         written = stands y.written test (size v) to f.instrs grows has ∙ ap Some (settled_test t.found.register t.found.head t.target to);
-        ahead = let b = label.behind in omega (arith, longer, b);
+        ahead = let b = label.following in omega (arith, longer, b);
         label = label.label;
         one = longer;
         fails = label.takes g ok;
@@ -339,14 +339,14 @@ module _ (s : Scene) (is : IsScene s) where
     later = every_append (λ d. 0 < size z) ds es (every_so (λ d. 0 < size w) (λ d. 0 < size z) (λ d h. let g = y.grows in omega (arith, g, h)) ds a.later) b.later;
   }
 
-  pub follows_laid : (v u w : Written) (d : Side) (k l : Known) (ra rb : List ℕ) (new : List Side) (i : ℕ) (o : Option ℕ) → size u ≡ size v → Extends v u → o ≡ Some i → k ≡ d.known → ra ≡ d.read → StepsLaid s u k ra w l rb new o → (kinds : List Kind) → TellsSide v d.label kinds w → FollowsLaid s kinds v d w new i
-  follows_laid v u w d k l ra rb new i o long x e f' g' a kinds tells = record {
+  pub follows_laid : (v u w : Written) (d : Side) (k l : Known) (ra rb : List ℕ) (new : List Side) (i : ℕ) (o : Option ℕ) → size u ≡ size v → Extends v u → o ≡ Some i → k ≡ d.known → ra ≡ d.read → StepsLaid s u k ra w l rb new o → (kinds : List Kind) → ReportsSide v d.label kinds w → FollowsLaid s kinds v d w new i
+  follows_laid v u w d k l ra rb new i o long x e f' g' a kinds reports = record {
     by = λ c to f hs g ok types h caught.
         subst (λ z. Tried c f g (choice_at to s) (size v) d.known z i (size w)) g'
         (subst (λ z. Tried c f g (choice_at to s) (size v) z ra i (size w)) f'
         (subst (λ z. Tried c f g (choice_at to s) z k ra i (size w)) long
         (a.by c to f hs g ok types (back (size v) (size u) w to f.instrs x.grows h) caught i (size w) (subst (λ z. TriedOn c f g (choice_at to s) (size w) l rb z i (size w)) (sym e) (refl, refl)))));
-    tells = tells;
+    reports = reports;
     later = a.later;
     seen = λ h. (a.seen (subst (λ z. SeenAt s z ra) (sym f') (subst (λ z. SeenAt s d.known z) (sym g') h))).1;
     missed = λ p h. (a.missed p (ap (compare p) f' ∙ h)).1;

@@ -24,7 +24,7 @@ use Rattle.lower_frame.specs.lowering_relation.Tidy.{NotIn}
 use Rattle.lower_frame.specs.lowering_relation.WellMatched.{WellMatched, WellMatchedBlock, WellMatchedClauses}
 use Rattle.lower_frame.specs.lowering_relation.Written.{Written, size, Extends}
 use Rattle.lower_frame.specs.lowering_relation.Describing.{held_at}
-use Rattle.lower_frame.specs.lowering_relation.Labels.{told, Takes}
+use Rattle.lower_frame.specs.lowering_relation.Labels.{reported, Takes}
 use Rattle.lower_frame.specs.lowering_relation.Matches.{variable_of, BuiltRight}
 use Rattle.lower_frame.specs.lowering_relation.Standing.{AreRising}
 use Rattle.lower_frame.specs.lowering_relation.Uses as U
@@ -174,18 +174,18 @@ Onward tb k (Into ds) l w = Underway tb l w × AllSolid l ds × StillWait ds k l
 
 -- a label here takes what is known here
 abbrev pub LabelTakes : PlainCode → PlainFunction → ℕ → Known → Type 0
-LabelTakes c f at k = (map : List Kind) → label_at f.labels at ≡ Some map → Takes f.registers map (told c k)
+LabelTakes c f at k = (map : List Kind) → label_at f.labels at ≡ Some map → Takes f.registers map (reported c k)
 
-abbrev pub BuiltBehind : Table → Target → ℕ → Known → Type 0
-BuiltBehind w Return at l = Unit {0}
-BuiltBehind w (Into ds) at l = BuiltWell w at l
+abbrev pub BuiltAfter : Table → Target → ℕ → Known → Type 0
+BuiltAfter w Return at l = Unit {0}
+BuiltAfter w (Into ds) at l = BuiltWell w at l
 
 -- what is so in a function
 pub record LaidIn (s : Setting) (k : Known) (v : Written) (target : Target) (l : Known) (w : Written) (P : Type 0)
     (c : PlainCode) (f : PlainFunction) : Type 0 where
   pub laid : P
   pub first : LabelTakes c f (size v) k
-  pub built : BuiltBehind s.types target (size w) l
+  pub built : BuiltAfter s.types target (size w) l
 
 -- What is laid out, from where k is known: something is written.
 pub record LaysIn (s : Setting) (k : Known) (v : Written) (target : Target) (l : Known) (w : Written)

@@ -1,5 +1,5 @@
 -- It serves the proof that lowered code is laid out as asked: the tests that choose the next clause. Those of the sides
--- that were to be written are laid out one behind another, as far as a clause is chosen by them whose body isn't
+-- that were to be written are laid out one after another, as far as a clause is chosen by them whose body isn't
 -- written yet; so each jump goes forward.
 use Rattle.std.specs.Prelude.{◌≡◌, ◌≤◌, ◌<◌, ℕ, suc, Bool, true, List, [], ◌∷◌, Some, length, slice_get, is_some}
 use Rattle.fip_language.specs.Every.{Among, Every}
@@ -16,7 +16,7 @@ use Rattle.lower_frame.specs.lowering_relation.declared.held.Held.{Held}
 use Rattle.lower_frame.specs.lowering_relation.declared.held.Held.TheVariants as H
 use Rattle.lower_frame.specs.lowering_relation.Values.{Setting, is_scalar}
 use Rattle.lower_frame.specs.lowering_relation.Describing.{Holding, held_at}
-use Rattle.lower_frame.specs.lowering_relation.Labels.{Tells}
+use Rattle.lower_frame.specs.lowering_relation.Labels.{Reports}
 use Rattle.lower_frame.specs.lowering_relation.Matches.{wide_at}
 use Rattle.lower_frame.specs.lowering_relation.Sights.{Sight}
 use Rattle.lower_frame.specs.lowering_relation.Tests.{ChunkLaid, SidesLaid}
@@ -30,11 +30,11 @@ use Rattle.cell_lower.specs.Testing.{Alike, choice_at, Caught, SeenSide}
 abbrev pub RuledSide : Scene → ℕ → Side → Type 0
 RuledSide s n d = RuledOut s d.known n
 
--- a side with a label comes behind the first instruction
+-- a side with a label comes after the first instruction
 abbrev pub LaterSide : ℕ → Side → Type 0
 LaterSide n d = HasLabel d.label → 0 < n
 
--- these kinds are what is told where this is known
+-- these kinds are what is reported where this is known
 pub record Sighted (c : PlainCode) (f : PlainFunction) (hs : List Held) (s : Scene) (known : Known) (read : List ℕ)
     (kinds : List Kind) : Type 0 where
   pub wide : length kinds ≡ f.registers
@@ -47,10 +47,10 @@ pub record Enters (f : PlainFunction) (to : ℕ → ℕ) (s : Scene) (i p : ℕ)
   pub label : ℕ
   pub there : slice_get s.entries i ≡ Some label
   pub place : to label ≡ p
-  pub told : 0 < p → is_some (label_at f.labels p) ≡ true
+  pub reported : 0 < p → is_some (label_at f.labels p) ≡ true
 
 -- What is so of a function that has what was written from v to w, of the registers before the match, and of the sides
--- that were to be written and those that still are: these have labels behind it, and so have the clauses whose bodies
+-- that were to be written and those that still are: these have labels after it, and so have the clauses whose bodies
 -- aren't written yet. Positions below the scrutinee hold nothing before the match.
 pub record Premises (st : Setting) (hs : List Held) (s : Scene) (i : ℕ) (v : Written) (ds : List Side) (w : Written)
     (es : List Side) (last : Bool) (c : PlainCode) (to : ℕ → ℕ) (f : PlainFunction) : Type 0 where
@@ -68,14 +68,14 @@ pub record Premises (st : Setting) (hs : List Held) (s : Scene) (i : ℕ) (v : W
   pub onward : (j label : ℕ) → i ≤ j → slice_get s.entries j ≡ Some label → size w ≤ to label
   pub enters : last ≡ true → Enters f to s i (size w)
 
--- the sides are laid out, and their labels take what is told there
+-- the sides are laid out, and their labels take what is reported there
 abbrev pub LaidSides :
     List Held → Scene → Written → List Side → Written → PlainCode → (ℕ → ℕ) → PlainFunction → Type 0
 LaidSides hs s v ds w c to f =
     (n : ℕ) × SidesLaid c f (wide_at (held_at hs)) (choice_at to s) n (size v) (size w)
     × Every (Caught c f hs (choice_at to s) to (size v)) ds
 
--- at the start of the match, where a label tells just these kinds
+-- at the start of the match, where a label reports just these kinds
 abbrev pub LaidFirst :
     List Held → Scene → Written → Written → PlainCode → (ℕ → ℕ) → PlainFunction → (ℕ → Kind) → Type 0
 LaidFirst hs s v w c to f m =
@@ -95,7 +95,7 @@ pub record ChoosesLaidIn (st : Setting) (hs : List Held) (s : Scene) (i : ℕ) (
       Premises st hs s i v ds w es last c to f → LaidSides hs s v ds w c to f
   pub first : ds ≡ first_side ∷ [] → (c : PlainCode) (to : ℕ → ℕ) (f : PlainFunction) (m : ℕ → Kind) →
       Premises st hs s i v ds w es last c to f → Alike c.types hs (held_at hs) →
-      ((map : List Kind) → label_at v.maps (size v) ≡ Some map → Tells f.registers map m) →
+      ((map : List Kind) → label_at v.maps (size v) ≡ Some map → Reports f.registers map m) →
       LaidFirst hs s v w c to f m
 
 -- of a match of a program

@@ -1,5 +1,5 @@
 -- It serves the proofs on lowered code: what the parts of the lowering of a match have written. v is what was written
--- before it and w behind it, with ds and es the sides of its tests that were still to be written, and j and jl what was
+-- before it and w after it, with ds and es the sides of its tests that were still to be written, and j and jl what was
 -- known at the ends of the clauses so far.
 use Rattle.std.specs.Prelude.{◌≡◌, ◌⊎◌, ◌<◌, ◌≤◌, ◌+◌, ℕ, suc, Bool, true, List, [], ◌∷◌, ◌++◌, Option, Some, None}
 use Rattle.std.specs.Prelude.{length, slice_get, get_or}

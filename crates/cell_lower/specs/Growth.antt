@@ -22,7 +22,7 @@ abbrev pub full : List Held → ℕ
 full [] = 0
 full (h ∷ hs) = holds h + full hs
 
--- where results go to registers, there are as many registers behind it
+-- where results go to registers, there are as many registers after it
 abbrev pub Stay : B.Target → Known → Known → Type 0
 Stay B.Return k l = Unit {0}
 Stay (B.Into ds) k l = registers l ≡ registers k

@@ -1,7 +1,7 @@
 -- It serves the proof that lowered code is sound: the code of a program is laid out as its instances ask, and its label
 -- maps stand in order. What is asked of the program for that: types are scalar as its table says and constructors have
 -- few fields; each instance has a binder for each parameter and header credits of sizes that constructors have, its
--- constructors are of their types, and what its expressions need is what is told of them.
+-- constructors are of their types, and what its expressions need is what is reported of them.
 use Rattle.std.specs.Prelude.{◌≡◌, ◌≤◌, ℕ, true, List, length, drop, Some, slice_get}
 use Rattle.fip_language.specs.declared.limits.TheConstants.{MOST_FIELDS}
 use Rattle.fip_trees.specs.declared.needs.Need.{Need}
@@ -23,7 +23,7 @@ use Rattle.cell_lower.specs.Bodies.{ScalarsRight, FoundedBlock, NeedsRest}
 abbrev pub IsInRoom : Known → Type 0
 IsInRoom k = k.next ≤ registers k
 
--- Of an instance that isn't plain, of which these needs are told. The first one is that of its body as a whole.
+-- Of an instance that isn't plain, of which these needs are reported. The first one is that of its body as a whole.
 pub record AskedInstance (s : Setting) (ns : List Need) (d : Instance) : Type 0 where
   pub ruled : has_function d.kind ≡ true
   pub binders : length d.binders ≡ length d.params
@@ -31,7 +31,7 @@ pub record AskedInstance (s : Setting) (ns : List Need) (d : Instance) : Type 0 
   pub founded : FoundedBlock s.types d.body
   pub needs : NeedsRest s (drop 1 ns) d.body
 
--- of a program, of which these needs are told, those of each instance
+-- of a program, of which these needs are reported, those of each instance
 pub record IsAsked (p : Program) (nss : List (List Need)) : Type 0 where
   pub scalars : (s : Setting) → IsSettingOf p s → ScalarsRight s
   pub each : (s : Setting) → IsSettingOf p s → (g : ℕ) (d : Instance) → slice_get p.instances g ≡ Some d →

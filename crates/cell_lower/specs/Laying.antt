@@ -16,18 +16,18 @@ use Rattle.lower_frame.specs.lowering_relation.LoweredBodies.{Target, Return, In
 use Rattle.lower_frame.specs.lowering_relation.Written.{Written, size, Extends, HasFrom, IsAt}
 use Rattle.lower_frame.specs.lowering_relation.Credits.{LastGone}
 use Rattle.lower_frame.specs.lowering_relation.Describing.{held_at, kinds_of}
-use Rattle.lower_frame.specs.lowering_relation.Labels.{Tells}
+use Rattle.lower_frame.specs.lowering_relation.Labels.{Reports}
 use Rattle.lower_frame.specs.lowering_relation.Matches.{wide}
 use Rattle.lower_frame.specs.lowering_relation.GivenUp.{GivesUp, AllGivenUp}
 use Rattle.lower_frame.specs.lowering_relation.Handed.{GivenLaid, OperationLaid, CallLaid, EndsCallLaid}
 use Rattle.lower_frame.specs.lowering_relation.LaidBodies.{GiveLaid, OperatorLaid, CalledLaid}
 use Rattle.lower_frame.specs.Credits.{Accounted, AllSolid, FewerTrees, NoBares, sized}
-use Rattle.lower_frame.specs.Frames.{kinds_told}
+use Rattle.lower_frame.specs.Frames.{kinds_reported}
 use Rattle.lower_frame.specs.Labels.{Rising, telling}
 use Rattle.lower_frame.specs.Registers.{registers, HasRoom}
 use Rattle.cell_lower.specs.Writing.{HandsOn, Named}
 
--- What is left is given up, and nothing is told; in fip only constructors that were matched are.
+-- What is left is given up, and nothing is reported; in fip only constructors that were matched are.
 pub record GivesUpLaid (fip : Bool) (k : Known) (v : Written) (l : Known) (w : Written) : Type 0 where
   pub extends : Extends v w
   pub maps : w.maps ≡ v.maps
@@ -116,32 +116,32 @@ pub record HasLabelAt (w : Written) (p : ℕ) : Type 0 where
   pub label : ℕ
   pub placed : IsAt w label p
 
--- where the tree in a register was just built, this is forgotten, and what is known then is told here, at a label
+-- where the tree in a register was just built, this is forgotten, and what is known then is reported here, at a label
 abbrev pub ForgetsLaid : Table → ℕ → Known → Written → Known → Written → Type 0
 ForgetsLaid tb r k v l w =
     ((l ≡ k) × (w.maps ≡ v.maps) × (is_built (get_or k.held r H.Nothing) ≡ false))
-    ⊎ ((l ≡ wide k) × (w.maps ≡ telling (size v) (kinds_told tb l.held) v.maps) × HasLabelAt w (size v))
+    ⊎ ((l ≡ wide k) × (w.maps ≡ telling (size v) (kinds_reported tb l.held) v.maps) × HasLabelAt w (size v))
 
--- A function has what is written from n on, where labels are at these places, with what is told there. Where a label has
--- its place, but for the first instruction, something is told.
+-- A function has what is written from n on, where labels are at these places, with what is reported there. Where a label has
+-- its place, but for the first instruction, something is reported.
 pub record HasPart (n : ℕ) (w : Written) (to : ℕ → ℕ) (f : PlainFunction) : Type 0 where
   pub code : HasFrom n w to f.instrs
-  pub told : (p : ℕ) → n ≤ p → p < size w → label_at f.labels p ≡ label_at w.maps p
+  pub reported : (p : ℕ) → n ≤ p → p < size w → label_at f.labels p ≡ label_at w.maps p
   pub labels : (label p : ℕ) → IsAt w label p → 0 < p → is_some (label_at f.labels p) ≡ true
 
--- this is so in each function of n registers, of a code with these types, that has what is written in w behind v
+-- this is so in each function of n registers, of a code with these types, that has what is written in w after v
 abbrev pub InFunction : Table → ℕ → Written → Written → (PlainCode → PlainFunction → Type 0) → Type 0
 InFunction tb n v w P = (c : PlainCode) (to : ℕ → ℕ) (f : PlainFunction) → c.types ≡ tb → f.registers ≡ n →
     HasPart (size v) w to f → P c f
 
--- Where lowering goes on: what was told stands up to here, and what is told here is what is known.
+-- Where lowering goes on: what was reported stands up to here, and what is reported here is what is known.
 pub record Underway (tb : Table) (k : Known) (v : Written) : Type 0 where
   pub accounts : Accounted k
   pub named : Named k
   pub room : k.next ≤ registers k
   pub rising : Rising (size v) 0 v.maps
   pub shown : (map : List Kind) → label_at v.maps (size v) ≡ Some map →
-      Tells (registers k) map (kinds_of tb (held_at k.held))
+      Reports (registers k) map (kinds_of tb (held_at k.held))
 
 -- values that go to the target
 pub record GivesValuesLaid (s : Setting) (fip : Bool) (k : Known) (v : Written) (as' : Arguments) (target : Target)

@@ -1,7 +1,7 @@
 -- It serves the proof that lowered code is laid out as asked: what the end of a clause leaves, where a let binds its
 -- match, and what is laid out there. o was known where the match began, ms are its marks, and `need` is what it needs
 -- of each size of credits; the clause gave its values to the registers `given`. v was written before, where k was
--- known, and w behind, where l is known.
+-- known, and w after, where l is known.
 -- Where 2 is the only register that owned a tree at o, and is marked, and 3 is given, a tree in 3 stays and one in 2
 -- doesn't.
 use Rattle.std.specs.Prelude.{◌≡◌, ◌⊎◌, ◌<◌, ◌≤◌, ◌-◌, ℕ, Bool, true, false, not, ◌&&◌, ◌||◌, List, Option, Some, None}
@@ -34,7 +34,7 @@ is_fbip Fip = false
 is_fbip Fbip = true
 is_fbip Fun = false
 
--- what an expression needs, of which this is told
+-- what an expression needs, of which this is reported
 abbrev pub sizes_of : Option Need → List ℕ
 sizes_of None = no_sizes
 sizes_of (Some n) = n.sizes
@@ -88,7 +88,7 @@ pub record LeavesLaid (s : Setting) (fip : Bool) (k : Known) (v : Written) (o : 
 
 -- The end of a clause of match e from `at` to `stop`: constructors that were matched are used up, and in fbip what is
 -- left over is given up. A register holds then what it held, or nothing; which constructors were built is forgotten.
-pub record LeftBehind (c : PlainCode) (s : Setting) (fip : Bool) (f : PlainFunction) (o : Known) (e : Expression)
+pub record LeftAfter (c : PlainCode) (s : Setting) (fip : Bool) (f : PlainFunction) (o : Known) (e : Expression)
     (given : List ℕ) (at : ℕ) (k : Known) (stop : ℕ) (l : Known) : Type 0 where
   pub mid : ℕ
   pub bare : Known
@@ -105,7 +105,7 @@ pub record ClauseLeavesLaid (s : Setting) (fip : Bool) (k : Known) (v : Written)
   pub next : l.next ≡ k.next
   pub accounts : Accounted k → Accounted l
   pub by : Accounted k → (e : Expression) → CanLeave s fip o e ms need → (c : PlainCode) (to : ℕ → ℕ)
-      (f : PlainFunction) → HasFrom (size v) w to f.instrs → LeftBehind c s fip f o e given (size v) k (size w) l
+      (f : PlainFunction) → HasFrom (size v) w to f.instrs → LeftAfter c s fip f o e given (size v) k (size w) l
 
 -- constructors that were matched are used up; where nothing was written all is known as it was
 pub record EndsBaresLaid (k : Known) (v : Written) (l : Known) (w : Written) : Type 0 where

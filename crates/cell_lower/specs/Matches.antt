@@ -1,6 +1,6 @@
 -- It serves the proof that lowered code is laid out as asked: what the parts of the lowering of a match have laid out.
--- Names are as in Clauses: v was written before and w behind, with ds and es the sides of its tests that were still to
--- be written, and j and jl what was known at the ends of the clauses so far; k was known before, and l is known behind.
+-- Names are as in Clauses: v was written before and w after, with ds and es the sides of its tests that were still to
+-- be written, and j and jl what was known at the ends of the clauses so far; k was known before, and l is known after.
 use Rattle.std.specs.Prelude.{◌≡◌, ◌⊎◌, ◌≤◌, ◌<◌, ℕ, suc, max, Bool, true, ◌&&◌, not, List, [], ◌∷◌, Option, Some}
 use Rattle.std.specs.Prelude.{None, length, slice_get}
 use Rattle.fip_trees.specs.declared.needs.Need.{Need}
@@ -18,7 +18,7 @@ use Rattle.lowering_relation.proofs.Choices.{patterns_in}
 use Rattle.lower_frame.specs.lowering_relation.Joins.{Met}
 use Rattle.lower_frame.specs.lowering_relation.Matches.{wide}
 use Rattle.lower_frame.specs.Credits.{Accounted}
-use Rattle.lower_frame.specs.Frames.{kinds_told}
+use Rattle.lower_frame.specs.Frames.{kinds_reported}
 use Rattle.lower_frame.specs.Labels.{telling}
 use Rattle.lower_frame.specs.Positions.{reaching, spot_of}
 use Rattle.lower_frame.specs.Registers.{registers, HasRoom}
@@ -47,14 +47,14 @@ pub record BeginsLaid (s : Setting) (fip : Bool) (ns : List Need) (k : Known) (v
   pub given_extends : Extends valued given_up
   pub given_many : registers before ≡ registers computed
   pub forgot : Known
-  pub told : Written
-  pub forgets : ForgetsLaid s.types register before given_up forgot told
-  pub told_extends : Extends given_up told
-  pub told_long : size told ≡ size given_up
+  pub reported : Written
+  pub forgets : ForgetsLaid s.types register before given_up forgot reported
+  pub reported_extends : Extends given_up reported
+  pub reported_long : size reported ≡ size given_up
   pub entry : g.entry ≡ reaching forgot g.entry.next
-  pub maps : w.maps ≡ told.maps
-  pub extends : Extends told w
-  pub as_long : size w ≡ size told
+  pub maps : w.maps ≡ reported.maps
+  pub extends : Extends reported w
+  pub as_long : size w ≡ size reported
   pub positions : HasPositions g.choice register t forgot.next g.entry.next
   pub patterns : patterns_of g.choice ≡ c.pattern ∷ patterns_in cs
   pub entries : length g.choice.entries.items ≡ length (patterns_of g.choice)
@@ -76,7 +76,7 @@ pub record StartsLaid (s : Setting) (g : Matching) (q : Pattern) (i : ℕ) (k : 
   pub extends : Extends chosen w
   pub as_long : size w ≡ size chosen
   pub placed : IsAt w label (size chosen)
-  pub maps : w.maps ≡ telling (size chosen) (kinds_told s.types l.held) chosen.maps
+  pub maps : w.maps ≡ telling (size chosen) (kinds_reported s.types l.held) chosen.maps
 
 -- what is known at the ends of the clauses before and of one more
 abbrev pub JoinsLaid : Option Known → Known → Option Known → Type 0
@@ -113,7 +113,7 @@ pub record MeetsLaid (s : Setting) (g : Matching) (m k : Known) (v : Written) (l
   pub extends : Extends v w
   pub as_long : size w ≡ size v
   pub placed : IsAt w g.end (size v)
-  pub maps : w.maps ≡ telling (size v) (kinds_told s.types l.held) v.maps
+  pub maps : w.maps ≡ telling (size v) (kinds_reported s.types l.held) v.maps
 
 abbrev pub EndsMatchLaid : Setting → Matching → Option Known → Known → Written → Known → Written → Type 0
 EndsMatchLaid s g None k v l w = (l ≡ k) × (w ≡ v)

@@ -1,7 +1,7 @@
--- It serves the proof that lowered code is laid out as asked: what is told of the registers where a test failed. The
--- scrutinee and the positions that were read have the constructors that they may still have; the others are told as
+-- It serves the proof that lowered code is laid out as asked: what is reported of the registers where a test failed. The
+-- scrutinee and the positions that were read have the constructors that they may still have; the others are reported as
 -- they are known before the match.
--- Where xs in register 0 isn't Nil, and nothing was read, 0 is told as Owned 2 (1 ∷ []).
+-- Where xs in register 0 isn't Nil, and nothing was read, 0 is reported as Owned 2 (1 ∷ []).
 use Rattle.std.specs.Prelude.{ℕ, suc, Bool, List, [], ◌∷◌, Option, Some, None, slice_set, get_or, if◌then◌else◌}
 use Rattle.fip_language.specs.Table.{Table}
 use Rattle.cell_code.specs.declared.kind.Kind.{Kind}
@@ -17,7 +17,7 @@ use Rattle.lower_frame.specs.lowering_relation.declared.held.Held.{Held}
 use Rattle.lower_frame.specs.lowering_relation.declared.held.Held.TheVariants as H
 use Rattle.lower_frame.specs.lowering_relation.Values.{Setting, is_scalar}
 use Rattle.lower_frame.specs.lowering_relation.Sights.{left, not_in, is_tag}
-use Rattle.lower_frame.specs.Frames.{kinds_told}
+use Rattle.lower_frame.specs.Frames.{kinds_reported}
 
 -- a value of which this is known may have constructor n
 abbrev pub may_be : Known → ℕ → Bool
@@ -34,8 +34,8 @@ with_root w t (H.Credit n) k r kinds = kinds
 with_root w t (H.Bare u c) k r kinds = kinds
 
 -- field i, of type t, of the cell in register r, in the tree of a root
-abbrev pub part_told : Setting → Option ℕ → ℕ → Known → ℕ → ℕ → Kind
-part_told s root t k r i =
+abbrev pub part_reported : Setting → Option ℕ → ℕ → Known → ℕ → ℕ → Kind
+part_reported s root t k r i =
     if is_scalar s t then K.Scalar t
     else K.Lent t (left s.types t k) root (Some (record { register = r; field = i }))
 
@@ -53,17 +53,17 @@ module _ (s : Setting) (root : Option ℕ) (read : List ℕ) where
     overlaid_all (t ∷ ts) (MoreKnowns k ks) NoSpots r i kinds = kinds
     overlaid_all (t ∷ ts) (MoreKnowns k ks) (MoreSpots p ps) r i kinds =
         overlaid_all ts ks ps r (suc i) (if contains (S.register p) read
-        then overlaid t k p (slice_set kinds (S.register p) (part_told s root t k r i)) else kinds)
+        then overlaid t k p (slice_set kinds (S.register p) (part_reported s root t k r i)) else kinds)
 
   -- a field that there may be
   abbrev pub field_overlaid : ℕ → Known → Option Spot → ℕ → ℕ → List Kind → List Kind
   field_overlaid t k None r i kinds = kinds
   field_overlaid t k (Some p) r i kinds =
       if contains (S.register p) read
-      then overlaid t k p (slice_set kinds (S.register p) (part_told s root t k r i)) else kinds
+      then overlaid t k p (slice_set kinds (S.register p) (part_reported s root t k r i)) else kinds
 
 -- all registers, where the scrutinee is of type t and at this position
-abbrev pub failed_told : Setting → List Held → ℕ → Spot → Known → List ℕ → List Kind
-failed_told s hs t p k read =
+abbrev pub failed_reported : Setting → List Held → ℕ → Spot → Known → List ℕ → List Kind
+failed_reported s hs t p k read =
     overlaid s (root_of (S.register p) (get_or hs (S.register p) H.Nothing)) read t k p
-    (with_root s.types t (get_or hs (S.register p) H.Nothing) k (S.register p) (kinds_told s.types hs))
+    (with_root s.types t (get_or hs (S.register p) H.Nothing) k (S.register p) (kinds_reported s.types hs))

@@ -1,5 +1,5 @@
 -- It serves the proofs on lowered code: matches and the sides of their tests, as the code keeps them, and what each
--- part of the lowering of tests has written: v was written before it and w behind it, with ds and es the sides that
+-- part of the lowering of tests has written: v was written before it and w after it, with ds and es the sides that
 -- were still to be written.
 use Rattle.std.specs.Prelude.{◌≡◌, ◌⊎◌, ◌<◌, ℕ, suc, Bool, true, false, List, [], ◌∷◌, ◌++◌, Option, Some}
 use Rattle.std.specs.Prelude.{None, length, map, slice_get, if◌then◌else◌}
@@ -178,7 +178,7 @@ PaysMore tb c v ds w es =
 pub record Steps (s : Scene) (v : Written) (k : Known) (read : List ℕ) (ds : List Side) (w : Written) (l : Known)
     (read_on : List ℕ) (es : List Side) (o : Option ℕ) : Type 0 where
   pub new : List Side
-  pub behind : es ≡ ds ++ new
+  pub following : es ≡ ds ++ new
   pub labelled : Every Labelled new
   pub extends : Extends v w
   pub by : (to : ℕ → ℕ) (code : List Instr) → HasFrom (size v) w to code → Then s to code w l read_on o →
@@ -199,7 +199,7 @@ pub record Asks (tb : Table) (c : Choice) (p : M.Pattern) (v : Written) (k : Kno
       first_live 0 (View.rows c.rows.items) k ≡ Split p → compare p k ≡ D.Asks →
       Pays tb c v None k read ds w None l read_on es
 
--- a label has its place here, where there is one, and these kinds are told
+-- a label has its place here, where there is one, and these kinds are reported
 abbrev pub PlacesSide : Written → Option ℕ → List Kind → Written → Type 0
 PlacesSide v None kinds w = w ≡ v
 PlacesSide v (Some l) kinds w =
@@ -210,7 +210,7 @@ PlacesSide v (Some l) kinds w =
 pub record FollowsIn (s : Scene) (kinds : List Kind) (v : Written) (d : Side) (ds : List Side) (w : Written)
     (es : List Side) (i : ℕ) : Type 0 where
   pub new : List Side
-  pub behind : es ≡ ds ++ new
+  pub following : es ≡ ds ++ new
   pub labelled : Every Labelled new
   pub extends : Extends v w
   pub by : (to : ℕ → ℕ) (code : List Instr) → HasFrom (size v) w to code → LeadsTo s to code (size w) i →

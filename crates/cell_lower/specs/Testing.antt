@@ -1,5 +1,5 @@
 -- It serves the proof that lowered code is laid out as asked: what the parts of the lowering of tests have laid out in
--- each function that has what they have written. Other tests are still to be written then: each at a label behind it,
+-- each function that has what they have written. Other tests are still to be written then: each at a label after it,
 -- which takes what fails the test before it.
 use Rattle.std.specs.Prelude.{◌≡◌, ◌≤◌, ◌<◌, ℕ, List, Option, Some, None, true, map, is_some, slice_get}
 use Rattle.fip_language.specs.Every.{Every}
@@ -35,11 +35,11 @@ pub record Alike (w : Table) (hs : List Held) (g : Holding) : Type 0 where
   pub held : (r : ℕ) → widened (g r) ≡ widened (held_at hs r)
   pub built : (r : ℕ) → BuiltRight w (g r)
 
--- A label has its place at n or behind, and takes what is known there, whatever was built before the match, or the body
+-- A label has its place at n or after, and takes what is known there, whatever was built before the match, or the body
 -- of a clause begins there.
 pub record CaughtAt (c : PlainCode) (f : PlainFunction) (hs : List Held) (ch : Choice) (n : ℕ) (known : Known)
     (read : List ℕ) (place : ℕ) : Type 0 where
-  pub behind : n ≤ place
+  pub following : n ≤ place
   pub label : is_some (label_at f.labels place) ≡ true
   pub takes : (g : Holding) → Alike c.types hs g → TakenAt c f g ch place known read
 
@@ -76,7 +76,7 @@ Misses p d = compare p d.known ≡ D.Misses
 pub record AreMissed (ps : List M.Pattern) (i : ℕ) (ds : List Side) : Type 0 where
   pub each : (p : M.Pattern) → slice_get ps i ≡ Some p → Every (Misses p) ds
 
--- a step from where k is known to where l is known, or to a clause; nothing is told
+-- a step from where k is known to where l is known, or to a clause; nothing is reported
 pub record StepsLaid (s : Scene) (v : Written) (k : Known) (read : List ℕ) (w : Written) (l : Known)
     (read_on : List ℕ) (new : List Side) (o : Option ℕ) : Type 0 where
   pub maps : w.maps ≡ v.maps
@@ -90,19 +90,19 @@ pub record StepsLaid (s : Scene) (v : Written) (k : Known) (read : List ℕ) (w 
       (q : Pattern) × (slice_get s.patterns i ≡ Some q) × (compare (row_of q) l ≡ D.Fits)
   pub later : Every (λ (d : Side). 0 < size w) new
 
--- where a side has a label these kinds are told at the end of v; else nothing is told
-abbrev pub TellsSide : Written → Option ℕ → List Kind → Written → Type 0
-TellsSide v None kinds w = w.maps ≡ v.maps
-TellsSide v (Some label) kinds w = IsAt w label (size v) × (w.maps ≡ telling (size v) kinds v.maps)
+-- where a side has a label these kinds are reported at the end of v; else nothing is reported
+abbrev pub ReportsSide : Written → Option ℕ → List Kind → Written → Type 0
+ReportsSide v None kinds w = w.maps ≡ v.maps
+ReportsSide v (Some label) kinds w = IsAt w label (size v) × (w.maps ≡ telling (size v) kinds v.maps)
 
--- the tests from a side on, up to clause i, where these kinds are told at the side
+-- the tests from a side on, up to clause i, where these kinds are reported at the side
 pub record FollowsLaid (s : Scene) (kinds : List Kind) (v : Written) (d : Side) (w : Written) (new : List Side)
     (i : ℕ) : Type 0 where
   pub by : (c : PlainCode) (to : ℕ → ℕ) (f : PlainFunction) (hs : List Held) (g : Holding) → Alike c.types hs g →
       c.types ≡ s.table → HasFrom (size v) w to f.instrs →
       Every (Caught c f hs (choice_at to s) to (size w)) new →
       Tried c f g (choice_at to s) (size v) d.known d.read i (size w)
-  pub tells : TellsSide v d.label kinds w
+  pub reports : ReportsSide v d.label kinds w
   pub later : Every (λ (d : Side). 0 < size w) new
   pub seen : SeenSide s d → Every (SeenSide s) new
   pub missed : (p : M.Pattern) → Misses p d → Every (Misses p) new

@@ -1,5 +1,5 @@
 -- It serves the proofs on lowered code: what each part of the lowering of a function has written, in the words of
--- lowered code, and how much: v is what was written before it and k what was known, w and l those behind it.
+-- lowered code, and how much: v is what was written before it and k what was known, w and l those after it.
 use Rattle.std.specs.Prelude.{◌≡◌, ◌≤◌, ◌<◌, ◌+◌, ℕ, suc, false, List, [], ◌∷◌, ◌++◌, Option, Some, None, length}
 use Rattle.std.specs.Prelude.{slice_get, slice_set, if◌then◌else◌}
 use Rattle.fip_language.specs.declared.Operator.{Operator}
@@ -53,7 +53,7 @@ Kept k l = Accounted k → Accounted l × LastGone k.credits l.credits
 abbrev pub Named : Known → Type 0
 Named k = (x r : ℕ) → register_of k.names (Some x) ≡ Some r → AllSolid k (r ∷ [])
 
--- the same kinds are told
+-- the same kinds are reported
 abbrev pub Still : Known → Known → Type 0
 Still k l = (tb : Table) (r : ℕ) → kind_of tb (held_at l.held r) ≡ kind_of tb (held_at k.held r)
 
@@ -200,16 +200,16 @@ abbrev pub named_at : Known → Binder → Option ℕ → Known
 named_at k b None = k
 named_at k b (Some r) = naming k b.number r
 
--- a credit of size n is taken, and its register put behind others
+-- a credit of size n is taken, and its register put after others
 pub record TakesOne (k : Known) (n : ℕ) (before rs : List ℕ) (l : Known) : Type 0 where
   pub credit : ℕ
-  pub behind : rs ≡ before ++ credit ∷ []
+  pub following : rs ≡ before ++ credit ∷ []
   pub taken : Takes k n credit l
 
--- credits of these sizes are taken, and their registers put behind others
+-- credits of these sizes are taken, and their registers put after others
 pub record TakesAll (k : Known) (ns before rs : List ℕ) (l : Known) : Type 0 where
   pub credits : List ℕ
-  pub behind : rs ≡ before ++ credits
+  pub following : rs ≡ before ++ credits
   pub taken : B.AreTaken k ns credits l
   pub kept : Kept k l
   pub names : l.names ≡ k.names

@@ -30,7 +30,7 @@ ghost use Rattle.lower_frame.specs.lowering_relation.declared.held.Held.TheVaria
 ghost use Rattle.lower_frame.specs.lowering_relation.Sights.{left};
 ghost use Rattle.lower_frame.specs.Positions.{spot_at, spot_of, spots_of};
 ghost use Rattle.cell_lower.specs.Chosen.{ChoosesLaid};
-ghost use Rattle.cell_lower.specs.Overlays.{failed_told, field_overlaid, may_be, overlaid, overlaid_all, part_told};
+ghost use Rattle.cell_lower.specs.Overlays.{failed_reported, field_overlaid, may_be, overlaid, overlaid_all, part_reported};
 ghost use Rattle.cell_lower.specs.Overlays.{with_root};
 ghost use Rattle.cell_lower.specs.Testing.{AreMissed, Misses};
 ghost use Rattle.cell_lower.specs.Writing.{setting};
@@ -336,7 +336,7 @@ impl<'a> Lowerer<'a> {
         requires whole { IsWhole choice.now }
         ensures there { IfOk result (λ i. i < length choice.now.rows.items) }
         ensures grows { OnOk result (size self.old.buffer ≤ size self.new.buffer) }
-        ensures follows { IfOk result (Follows self.old.context.now.program.now.types (failed_told
+        ensures follows { IfOk result (Follows self.old.context.now.program.now.types (failed_reported
             (setting self.old.context.now) self.old.frame.held choice.now.ty (spot_of choice.now.root)
             (View.known from.known) from.read.items) choice.now self.old.buffer (side_of from)
             (sides_of sides.old.items) self.new.buffer (sides_of sides.new.items)) }
@@ -368,7 +368,7 @@ impl<'a> Lowerer<'a> {
         read: &[u16],
         label: Option<u32>,
     ) -> Result<(), NoMemory>
-        ensures placed { OnOk result (PlacesSide self.old.buffer label (failed_told (setting self.old.context.now)
+        ensures placed { OnOk result (PlacesSide self.old.buffer label (failed_reported (setting self.old.context.now)
             self.old.frame.held choice.now.ty (spot_of choice.now.root) (View.known known.now) read.now)
             self.new.buffer) }
         ensures frame { OnOk result (self.new.frame ≡ self.old.frame) }
@@ -672,7 +672,7 @@ impl<'a> Lowerer<'a> {
         known: &Knowledge,
         read: &[u16],
     ) -> Result<Vec<Kind>, NoMemory>
-        ensures told { IfOk result (λ v. v.items ≡ failed_told (setting self.now.context.now) self.now.frame.held
+        ensures reported { IfOk result (λ v. v.items ≡ failed_reported (setting self.now.context.now) self.now.frame.held
             choice.now.ty (spot_of choice.now.root) (View.known known.now) read.now) }
     {
         let mut kinds = self
@@ -812,7 +812,7 @@ impl<'a> Lowerer<'a> {
         ty: u32,
         known: &Knowledge,
     ) -> Result<Kind, NoMemory>
-        ensures kind { IfOk result (λ k. k ≡ part_told (setting self.now.context.now) root ty (View.known known.now)
+        ensures kind { IfOk result (λ k. k ≡ part_reported (setting self.now.context.now) root ty (View.known known.now)
             from.register from.field) }
     {
         if self.context.is_scalar(ty) {

@@ -135,7 +135,7 @@ fn functions_of(
     Ok(functions)
 }
 
-// Puts the function of an instance behind the others, where it isn't plain.
+// Puts the function of an instance after the others, where it isn't plain.
 #[tactic(auto, using(crate::proofs::Headers::heading))]
 fn add_function(
     context: &Context<'_>,

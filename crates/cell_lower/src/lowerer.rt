@@ -10,7 +10,7 @@ ghost use Rattle.cell_lower.specs.Leaving.{is_fbip, sizes_of};
 ghost use Rattle.cell_lower.specs.LaidProgram.{IsInRoom};
 ghost use Rattle.cell_lower.specs.Writing.{param_at};
 ghost use Rattle.lower_frame.specs.lowering_relation.Matches.{wide};
-ghost use Rattle.lower_frame.specs.Frames.{kinds_told};
+ghost use Rattle.lower_frame.specs.Frames.{kinds_reported};
 ghost use Rattle.lower_frame.specs.Labels.{labels, telling};
 ghost use Rattle.lower_frame.specs.Registers.{registers};
 ghost use Rattle.cell_lower.specs.Leaving.{is_fbip, sizes_of};
@@ -254,13 +254,13 @@ impl<'a> Lowerer<'a> {
         self.frame.fresh()
     }
 
-    /// The place of a label is here, and it is told what is known here, but for constructors that were built.
+    /// The place of a label is here, and it is reported what is known here, but for constructors that were built.
     #[tactic(auto, using(crate::proofs::Shedding::widening))]
     pub fn put_label(&mut self, label: u32) -> Result<(), NoMemory>
         ensures loses { OnOk result (Loses self.old.frame self.new.frame) }
         ensures wide { OnOk result (self.new.frame ≡ wide self.old.frame) }
-        ensures told { OnOk result (self.new.buffer.maps ≡ telling (size self.old.buffer)
-            (kinds_told self.old.context.now.program.now.types self.new.frame.held) self.old.buffer.maps) }
+        ensures reported { OnOk result (self.new.buffer.maps ≡ telling (size self.old.buffer)
+            (kinds_reported self.old.context.now.program.now.types self.new.frame.held) self.old.buffer.maps) }
         ensures registers { OnOk result (registers self.new.frame ≡ registers self.old.frame) }
         ensures extends { OnOk result (Extends self.old.buffer self.new.buffer) }
         ensures instrs { OnOk result (self.new.buffer.instrs ≡ self.old.buffer.instrs) }

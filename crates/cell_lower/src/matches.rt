@@ -474,7 +474,7 @@ impl<'a> Lowerer<'a> {
     }
 
     /// Ends the body of a clause: where the match gives its value to what follows, the code goes there, which stands
-    /// behind the last clause.
+    /// after the last clause.
     pub fn end_clause(
         &mut self,
         matching: &Matching<'_>,
@@ -528,7 +528,7 @@ impl<'a> Lowerer<'a> {
         Ok(())
     }
 
-    // Behind the last clause the code goes on.
+    // After the last clause the code goes on.
     fn go_to_end(&mut self, matching: &Matching<'_>, next: usize) -> Result<(), NoMemory>
         ensures goes { OnOk result (GoesToEnd matching.now next self.old.buffer self.new.buffer) }
         ensures laid { OnOk result (GoesLaid matching.now next self.old.buffer self.new.buffer) }

@@ -270,9 +270,9 @@ rewritten cs rs k p c d s f e size = record {
     one_free_in_size k c d None e = refl
     one_free_in_size k c d (Some r) e = one_free_size k c d r e
 
--- a cell is put behind the others, and its stack has room for one more
-pub put_behind : (cs : Cells) (rs : List Bool) (k : ℕ) (c : Cell) (s t : Stack) → length rs ≡ length cs → IsFree cs rs k s → t.places ≡ s.places → count_live k cs rs + count_free k cs rs + one_size k c ≤ t.room → IsFree (cs ++ Some c ∷ replicate (size_of c) None) (rs ++ false ∷ replicate (size_of c) false) k t
-put_behind cs rs k c s t long f places room = record {
+-- a cell is put after the others, and its stack has room for one more
+pub put_after : (cs : Cells) (rs : List Bool) (k : ℕ) (c : Cell) (s t : Stack) → length rs ≡ length cs → IsFree cs rs k s → t.places ≡ s.places → count_live k cs rs + count_free k cs rs + one_size k c ≤ t.room → IsFree (cs ++ Some c ∷ replicate (size_of c) None) (rs ++ false ∷ replicate (size_of c) false) k t
+put_after cs rs k c s t long f places room = record {
   once = λ q. ap (count q) places ∙ f.once q ∙ sym (free_at_append k cs (Some c ∷ replicate (size_of c) None) rs (false ∷ replicate (size_of c) false) long none q);
   total = ap length places ∙ f.total ∙ (
       let n = free_append k cs (Some c ∷ replicate (size_of c) None) rs (false ∷ replicate (size_of c) false) long in

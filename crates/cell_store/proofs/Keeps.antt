@@ -12,7 +12,7 @@ use Rattle.cell_store.specs.Kept.{IsKept}
 use Rattle.cell_store.specs.Marks.{IsMarked, is_marked}
 use Rattle.cell_store.proofs.Parsed.{known, read_or, overwrites, overwritten, releases, appended, number_set, get_set, length_over_at, length_flags, length_parse}
 use Rattle.cell_store.proofs.Marked.{marked_set, marked_append, marked_same}
-use Rattle.cell_store.proofs.Freed.{freed, freed_other, taken, taken_other, rewritten, put_behind, same_places, top_named, live_taken, one_size}
+use Rattle.cell_store.proofs.Freed.{freed, freed_other, taken, taken_other, rewritten, put_after, same_places, top_named, live_taken, one_size}
 
 -- what is kept beside the words
 record IsBeside (cs : Cells) (rs : List Bool) (marks counts : List ℕ) (stacks : List Stack) (n : ℕ) : Type 0 where
@@ -154,7 +154,7 @@ kept_roomier ws ms us ns ss ts n r s l k more same places room = record {
   few = k.few;
 }
 
--- a cell behind the others, with bits and room for it
+-- a cell after the others, with bits and room for it
 pub kept_appended : (ws ms us ns : List ℕ) (ss ts : List Stack) (n r s l m tag : ℕ) (fs : List ℕ) → IsKept ws ms ns ss n r l → 0 < length fs → length fs ≤ 16 → tag < 2 ^ 32 → length ws + length fs + 1 ≤ 64 * length us → ((q : ℕ) → is_marked us q ≡ (if nat_eq q (length ws) then true else is_marked ms q)) → KeepsPlaces ss ts → length (stack_at ts (length fs)).places + (get_or ns (length fs) 0 + 1) ≤ (stack_at ts (length fs)).room → n + 1 ≤ s → m + (length fs + 1) ≡ l → IsKept (ws ++ header tag (length fs) ∷ fs) us (set ns (length fs) (get_or ns (length fs) 0 + 1)) ts (n + 1) s m
 kept_appended ws ms us ns ss ts n r s l m tag fs k some few small wide marks places more room left =
     let a = appended ws tag fs ns k.laid k.counted some few small in
@@ -168,7 +168,7 @@ kept_appended ws ms us ns ss ts n r s l m tag fs k some few small wide marks pla
       counted = a.counted;
       free = λ j less. subst (λ cs. IsFree cs (flags 0 (ws ++ header tag (length fs) ∷ fs)) j (stack_at ts j)) (sym a.cells) (
           subst (λ rs. IsFree (parse 0 ws ++ Some c ∷ replicate (length fs) None) rs j (stack_at ts j)) (sym a.released) (
-          put_behind (parse 0 ws) (flags 0 ws) j c (stack_at ss j) (stack_at ts j) (flat ∙ sym long) (k.free j less) (places.places j) (
+          put_after (parse 0 ws) (flags 0 ws) j c (stack_at ss j) (stack_at ts j) (flat ∙ sym long) (k.free j less) (places.places j) (
           let total = (k.free j less).total in
           let old = (k.free j less).room in
           let same = ap length (places.places j) in

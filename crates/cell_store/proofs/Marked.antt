@@ -35,7 +35,7 @@ none_past zero q = refl
 none_past (suc n) zero = refl
 none_past (suc n) (suc q) = none_past n q
 
--- where a cell is put behind the others
+-- where a cell is put after the others
 pub begins_append : (cs : Cells) (c : Cell) (n q : ℕ) → is_some (cell_at (cs ++ Some c ∷ replicate n None) q) ≡ (if nat_eq q (length cs) then true else is_some (cell_at cs q))
 begins_append [] c n zero = refl
 begins_append [] c n (suc q) = ap is_some (none_past n q) ∙ ap (λ b. if b then true else false) (let e : false ≡ nat_eq (suc q) 0 = grind (arith, nat_tests) in e)

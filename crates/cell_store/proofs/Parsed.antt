@@ -566,7 +566,7 @@ pub one_live_past : (k : ℕ) (c : Cell) (r : Bool) → size_of c < k → one_li
 one_live_past k c true h = refl
 one_live_past k c false h = grind arith
 
--- what begins behind a cell
+-- what begins after a cell
 pub record Next (n : ℕ) (ws : List ℕ) (p : ℕ) (c : Cell) : Type 0 where
   pub there : p + 1 + size_of c < length ws → cell_at (parse n ws) (p + 1 + size_of c) ≢ None
   pub between : (r : ℕ) → p < r → r < p + 1 + size_of c → cell_at (parse n ws) r ≡ None
@@ -595,13 +595,13 @@ next zero (w ∷ ws) zero c l e =
     let first : 0 + 1 + size_of c ≡ suc (size_of c) = omega arith in
     record {
       there = λ h. subst (λ k. cell_at (parse zero (w ∷ ws)) k ≢ None) (sym first) (subst (λ k. cell_at (parse (size w) ws) k ≢ None) long (first_cell (size w) ws (omega (arith, h, long))));
-      between = λ r a b. behind r a (omega (arith, b, long));
+      between = λ r a b. following r a (omega (arith, b, long));
       within = (let k = l.3 in omega (arith, k, long));
     }
   where
-    behind : (r : ℕ) → 0 < r → r < suc (size w) → cell_at (parse zero (w ∷ ws)) r ≡ None
-    behind zero a b = absurd (omega arith)
-    behind (suc r) a b = no_cell (size w) ws r (omega arith)
+    following : (r : ℕ) → 0 < r → r < suc (size w) → cell_at (parse zero (w ∷ ws)) r ≡ None
+    following zero a b = absurd (omega arith)
+    following (suc r) a b = no_cell (size w) ws r (omega arith)
 next zero (w ∷ ws) (suc p) c l e =
     let f = next (size w) ws p c l.4 e in
     let step : suc p + 1 + size_of c ≡ suc (p + 1 + size_of c) = omega arith in
@@ -625,9 +625,9 @@ cell_past [] r h = refl
 cell_past (o ∷ cs) zero h = absurd (omega arith)
 cell_past (o ∷ cs) (suc r) h = cell_past cs r (omega arith)
 
--- nothing begins behind the last cell
-pub none_behind : (ws : List ℕ) (p : ℕ) (c : Cell) → Laid 0 ws → cell_at (parse 0 ws) p ≡ Some c → length ws ≤ p + 1 + size_of c → (r : ℕ) → p < r → cell_at (parse 0 ws) r ≡ None
-none_behind ws p c l e h r a = elim (cases_lt r (p + 1 + size_of c)) [
+-- nothing begins after the last cell
+pub none_after : (ws : List ℕ) (p : ℕ) (c : Cell) → Laid 0 ws → cell_at (parse 0 ws) p ≡ Some c → length ws ≤ p + 1 + size_of c → (r : ℕ) → p < r → cell_at (parse 0 ws) r ≡ None
+none_after ws p c l e h r a = elim (cases_lt r (p + 1 + size_of c)) [
   | inl b ↦ (next 0 ws p c l e).between r a b
   | inr b ↦ cell_past (parse 0 ws) r (let z = length_parse 0 ws in omega (arith, z, b, h))
 ]

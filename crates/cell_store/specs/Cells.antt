@@ -52,7 +52,7 @@ count_free k (o ∷ os) [] = 0
 count_free k (None ∷ os) (r ∷ rs) = count_free k os rs
 count_free k (Some c ∷ os) (r ∷ rs) = one_free k c r + count_free k os rs
 
--- behind a place, or anywhere
-abbrev pub IsBehind : Option ℕ → ℕ → Type 0
-IsBehind None q = Unit {0}
-IsBehind (Some p) q = p < q
+-- after a place, or anywhere
+abbrev pub IsAfter : Option ℕ → ℕ → Type 0
+IsAfter None q = Unit {0}
+IsAfter (Some p) q = p < q

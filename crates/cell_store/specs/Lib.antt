@@ -3,6 +3,6 @@ pub mod Flat
 pub mod Free
 pub mod StoredCells
 pub mod Made
-pub mod Told
+pub mod Reported
 pub mod Marks
 pub mod Kept

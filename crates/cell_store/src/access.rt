@@ -5,7 +5,7 @@ ghost use Rattle.fip_language.specs.declared.limits.TheConstants.{MOST_FIELDS};
 ghost use Rattle.fip_language.specs.Store.{Cell};
 ghost use Rattle.cell_store.specs.Cells.{cell_at, size_in, size_of, sizes, number, count_live};
 ghost use Rattle.cell_store.specs.Cells as S;
-ghost use Rattle.cell_store.specs.Told.{Told, Overwritten, Released};
+ghost use Rattle.cell_store.specs.Reported.{Reported, Overwritten, Released};
 
 /// A sealed store: cells by place, which of them are released, and a stack of words beside the cells. No call makes a
 /// cell, and a cell keeps its place and its size, from 1 to 16 fields. No call takes memory, and each takes a time that
@@ -20,9 +20,9 @@ pub trait Cells {
     /// The stack of words, its top last.
     ghost pushed: { Self → List ℕ };
 
-    /// From an earlier moment to a later one the store was told just this, in this order. A store that doesn't keep
-    /// what it is told says nothing.
-    ghost was_told: { Self → List Told → Self → Type 0 } = { λ _ _ _. ⊤ };
+    /// From an earlier moment to a later one the store was reported just this, in this order. A store that doesn't keep
+    /// what it is reported says nothing.
+    ghost was_reported: { Self → List Reported → Self → Type 0 } = { λ _ _ _. ⊤ };
 
     /// Whether a cell, released or not, begins at place `p`.
     fn begins(&self, p: u32) -> bool
@@ -62,7 +62,7 @@ pub trait Cells {
         ensures sizes { sizes (cells self.new) ≡ sizes (cells self.old) }
         ensures released { released self.new ≡ released self.old }
         ensures pushed { pushed self.new ≡ pushed self.old }
-        ensures told { (first : Self) (ts : List Told) → was_told first ts self.old → was_told first
+        ensures reported { (first : Self) (ts : List Reported) → was_reported first ts self.old → was_reported first
             (ts ++ Overwritten p tag fields.now ∷ []) self.new };
 
     /// Releases the cell at place `p`, which is not released yet.
@@ -72,7 +72,7 @@ pub trait Cells {
         ensures cells { cells self.new ≡ cells self.old }
         ensures released { released self.new ≡ slice_set (released self.old) p true }
         ensures pushed { pushed self.new ≡ pushed self.old }
-        ensures told { (first : Self) (ts : List Told) → was_told first ts self.old → was_told first
+        ensures reported { (first : Self) (ts : List Reported) → was_reported first ts self.old → was_reported first
             (ts ++ Released p ∷ []) self.new };
 
     /// Whether the stack has fewer words than the store has cells.
@@ -85,7 +85,7 @@ pub trait Cells {
         ensures cells { cells self.new ≡ cells self.old }
         ensures released { released self.new ≡ released self.old }
         ensures pushed { pushed self.new ≡ pushed self.old ++ word ∷ [] }
-        ensures told { (first : Self) (ts : List Told) → was_told first ts self.old → was_told first ts self.new };
+        ensures reported { (first : Self) (ts : List Reported) → was_reported first ts self.old → was_reported first ts self.new };
 
     /// Takes the top word off the stack. `None` where no word is there.
     fn pop(&mut self) -> Option<u64>
@@ -93,5 +93,5 @@ pub trait Cells {
         ensures released { released self.new ≡ released self.old }
         ensures pushed { MatchOption result ((pushed self.old ≡ []) × (pushed self.new ≡ []))
             (λ word. pushed self.old ≡ pushed self.new ++ word ∷ []) }
-        ensures told { (first : Self) (ts : List Told) → was_told first ts self.old → was_told first ts self.new };
+        ensures reported { (first : Self) (ts : List Reported) → was_reported first ts self.old → was_reported first ts self.new };
 }

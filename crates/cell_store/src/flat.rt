@@ -1,12 +1,12 @@
 // The store in one list of words. A cell of k fields at place p is the header at p, 64 * tag + 2 * k, and 1 more where
-// the cell is released, and the fields behind it.
+// the cell is released, and the fields after it.
 ghost use Rattle.std.specs.Prelude.{◌≡◌, ◌≢◌, ℕ, ◌+◌, ◌*◌, ◌<◌, ◌≤◌, ◌^◌, ◌↔◌, Bool, false, true, [], ◌∷◌, ◌++◌, None};
 ghost use Rattle.std.specs.Prelude.{Some, Err, IsTrue, IfOk, OnOk, OnErr, IfSome, IfNone, MatchOption, length, vec_len};
 ghost use Rattle.std.specs.Prelude.{replicate, option_map, option_and_then, slice_get, slice_set, slice_index_or, ◌%◌};
 ghost use Rattle.std.specs.Vec.{vec_capacity};
 ghost use Rattle.fip_language.specs.declared.limits.TheConstants.{MOST_FIELDS, MOST_STORE_WORDS};
 ghost use Rattle.fip_language.specs.Store.{Cell};
-ghost use Rattle.cell_store.specs.Cells.{IsBehind, cell_at, size_in, size_of, sizes, number, count_live, count_free};
+ghost use Rattle.cell_store.specs.Cells.{IsAfter, cell_at, size_in, size_of, sizes, number, count_live, count_free};
 ghost use Rattle.cell_store.specs.Flat.{parse, flags, over_at};
 ghost use Rattle.cell_store.specs.Free.{KeepsPlaces, stack_at};
 ghost use Rattle.cell_store.specs.Kept.{IsKept};
@@ -84,7 +84,7 @@ fn rewrite(words: &mut Vec<u64>, place: usize, tag: u32, fields: &[u64])
     write_slice(words, place + 1, fields);
 }
 
-// Puts the words of a cell behind the others, which may have to grow.
+// Puts the words of a cell after the others, which may have to grow.
 #[cold]
 #[inline(never)]
 fn push_growing(words: &mut Vec<u64>, header: u64, fields: &[u64]) -> Result<(), AllocError>
@@ -98,7 +98,7 @@ fn push_growing(words: &mut Vec<u64>, header: u64, fields: &[u64]) -> Result<(),
     Ok(())
 }
 
-// Puts words behind the others, for which there is room.
+// Puts words after the others, for which there is room.
 #[inline(always)]
 fn put_within(words: &mut Vec<u64>, new: &[u64])
     requires { vec_len words.old + length new.now ≤ vec_capacity words.old }
@@ -111,7 +111,7 @@ fn put_within(words: &mut Vec<u64>, new: &[u64])
     }
 }
 
-// Puts the words of a cell behind the others, for which there is room. The usual sizes are told apart, so that their
+// Puts the words of a cell after the others, for which there is room. The usual sizes are told apart, so that their
 // words are moved at once.
 #[inline(always)]
 fn put_words(words: &mut Vec<u64>, header: u64, fields: &[u64])
@@ -130,7 +130,7 @@ fn put_words(words: &mut Vec<u64>, header: u64, fields: &[u64])
     }
 }
 
-// Puts the words of a cell behind the others.
+// Puts the words of a cell after the others.
 #[inline(always)]
 fn push_words(words: &mut Vec<u64>, header: u64, fields: &[u64]) -> Result<(), AllocError>
     requires { length fields.now ≤ MOST_FIELDS }
@@ -417,13 +417,13 @@ impl Flat {
         self.pushed.clear();
     }
 
-    /// The place of the cell behind the one at p, or of the first one.
+    /// The place of the cell after the one at p, or of the first one.
     pub fn after(&self, p: Option<u32>) -> Option<u32>
         requires { (q : ℕ) → p ≡ Some q → cell_at self.now.cells q ≢ None }
         ensures there { IfSome result (λ q. cell_at self.now.cells q ≢ None) }
-        ensures behind { IfSome result (IsBehind p) }
-        ensures first { IfSome result (λ q. (r : ℕ) → IsBehind p r → r < q → cell_at self.now.cells r ≡ None) }
-        ensures none { IfNone result ((r : ℕ) → IsBehind p r → cell_at self.now.cells r ≡ None) }
+        ensures following { IfSome result (IsAfter p) }
+        ensures first { IfSome result (λ q. (r : ℕ) → IsAfter p r → r < q → cell_at self.now.cells r ≡ None) }
+        ensures none { IfNone result ((r : ℕ) → IsAfter p r → cell_at self.now.cells r ≡ None) }
     {
         let _ = &self.words;
         match p {
@@ -468,7 +468,7 @@ impl Flat {
         }
     }
 
-    // Makes a cell behind the others.
+    // Makes a cell after the others.
     #[inline(always)]
     fn append(&mut self, tag: u32, fields: &[u64]) -> Result<u32, CellError>
         requires some { 0 < length fields.now }
@@ -502,7 +502,7 @@ impl Flat {
         Ok(place as u32)
     }
 
-    /// Makes a cell of 1 to 16 fields and answers its place: a released cell of that size, or else one behind the
+    /// Makes a cell of 1 to 16 fields and answers its place: a released cell of that size, or else one after the
     /// others.
     #[inline(always)]
     pub fn cell(&mut self, tag: u32, fields: &[u64]) -> Result<u32, CellError>

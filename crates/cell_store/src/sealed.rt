@@ -1,6 +1,6 @@
 // A sealed store in flat words.
 ghost use Rattle.std.specs.Prelude.{◌≡◌, ◌≢◌, ℕ, ◌<◌, Some, None, IfSome, IfNone, slice_get};
-ghost use Rattle.cell_store.specs.Cells.{IsBehind, cell_at};
+ghost use Rattle.cell_store.specs.Cells.{IsAfter, cell_at};
 ghost use Rattle.cell_store.specs.Made.{Stored};
 
 use crate::access::Cells;
@@ -48,13 +48,13 @@ impl Sealed {
         self.flat.is_released(p)
     }
 
-    /// The place of the next cell behind the one at `p`, or of the first cell; none where no further one is there.
+    /// The place of the next cell after the one at `p`, or of the first cell; none where no further one is there.
     pub fn after(&self, p: Option<u32>) -> Option<u32>
         requires { (q : ℕ) → p ≡ Some q → cell_at self.now.cells q ≢ None }
         ensures there { IfSome result (λ q. cell_at self.now.cells q ≢ None) }
-        ensures behind { IfSome result (IsBehind p) }
-        ensures first { IfSome result (λ q. (r : ℕ) → IsBehind p r → r < q → cell_at self.now.cells r ≡ None) }
-        ensures none { IfNone result ((r : ℕ) → IsBehind p r → cell_at self.now.cells r ≡ None) }
+        ensures following { IfSome result (IsAfter p) }
+        ensures first { IfSome result (λ q. (r : ℕ) → IsAfter p r → r < q → cell_at self.now.cells r ≡ None) }
+        ensures none { IfNone result ((r : ℕ) → IsAfter p r → cell_at self.now.cells r ≡ None) }
     {
         self.flat.after(p)
     }

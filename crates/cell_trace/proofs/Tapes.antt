@@ -5,16 +5,16 @@ use Rattle.std.proofs.lemmas.Bool.{cases_lt}
 use Rattle.std.proofs.lemmas.Option.{none-some, same_Some}
 use Rattle.std.proofs.lemmas.List.{append_assoc, map-append, length-map}
 use Rattle.fip_base.specs.fip_language.Store.{Cell}
-use Rattle.cell_store.specs.Cells.{Cells, cell_at, IsBehind}
-use Rattle.cell_store.specs.Told.{Told}
+use Rattle.cell_store.specs.Cells.{Cells, cell_at, IsAfter}
+use Rattle.cell_store.specs.Reported.{Reported}
 use Rattle.cell_trace.specs.declared.error.TraceError.{TraceError}
 use Rattle.cell_trace.specs.declared.error.TraceError.TheVariants as F
 use Rattle.cell_trace.specs.declared.trace.LoadedCell.{LoadedCell}
 use Rattle.cell_trace.specs.declared.trace.Event.{Event}
 use Rattle.cell_trace.specs.declared.trace.Trace.{Trace}
 use Rattle.cell_trace.specs.declared.tape.Tape.{Tape}
-use Rattle.cell_trace.specs.Traced.{Standing, Noted, standing_from, plain_cell, plain_event, cells_bytes, told_bytes, events_bytes, IsTooLong, Tells, IsTraced}
-use Rattle.cell_trace.specs.Taped.{Holds, HoldsOr, IsTape, WasTold, IsLost}
+use Rattle.cell_trace.specs.Traced.{Standing, Noted, standing_from, plain_cell, plain_event, cells_bytes, reported_bytes, events_bytes, IsTooLong, Reports, IsTraced}
+use Rattle.cell_trace.specs.Taped.{Holds, HoldsOr, IsTape, WasReported, IsLost}
 use Rattle.cell_store.proofs.Parsed.{there as cell_there}
 
 -- bytes
@@ -130,7 +130,7 @@ full_events cs es e n limit t kept a full = elim (cases_lt n (2 ^ 64)) [
   | inr more ↦ inr (inr more)
 ]
 
-pub full_bytes : (cs : List Standing) (es : List Noted) (e : Noted) (n limit bytes : ℕ) (t : Tape) → t.lost ≡ None → IsTape cs es n limit t → bytes ≡ min (told_bytes e.told) (2 ^ 64 - 1) → t.limit < t.bytes + bytes → IsTooLong cs (es ++ e ∷ []) n limit
+pub full_bytes : (cs : List Standing) (es : List Noted) (e : Noted) (n limit bytes : ℕ) (t : Tape) → t.lost ≡ None → IsTape cs es n limit t → bytes ≡ min (reported_bytes e.reported) (2 ^ 64 - 1) → t.limit < t.bytes + bytes → IsTooLong cs (es ++ e ∷ []) n limit
 full_bytes cs es e n limit bytes t kept a is full = elim (cases_lt n (2 ^ 64)) [
   | inl less ↦ (
       let h = holds_all cs es n limit t kept a less in
@@ -141,7 +141,7 @@ full_bytes cs es e n limit bytes t kept a is full = elim (cases_lt n (2 ^ 64)) [
   | inr more ↦ inr (inr more)
 ]
 
-pub event_kept : (cs : List Standing) (es : List Noted) (e : Event) (n limit bytes : ℕ) (old new : Tape) → old.lost ≡ None → IsTape cs es n limit old → bytes ≡ min (told_bytes (plain_event e).told) (2 ^ 64 - 1) → length old.events.items ≢ 4294967295 → old.bytes + bytes ≤ old.limit → old.bytes + bytes < 2 ^ 64 → new.limit ≡ old.limit → new.steps ≡ old.steps → new.lost ≡ old.lost → new.bytes ≡ old.bytes + bytes → new.loaded.items ≡ old.loaded.items → new.events.items ≡ old.events.items ++ e ∷ [] → IsTape cs (es ++ plain_event e ∷ []) n limit new
+pub event_kept : (cs : List Standing) (es : List Noted) (e : Event) (n limit bytes : ℕ) (old new : Tape) → old.lost ≡ None → IsTape cs es n limit old → bytes ≡ min (reported_bytes (plain_event e).reported) (2 ^ 64 - 1) → length old.events.items ≢ 4294967295 → old.bytes + bytes ≤ old.limit → old.bytes + bytes < 2 ^ 64 → new.limit ≡ old.limit → new.steps ≡ old.steps → new.lost ≡ old.lost → new.bytes ≡ old.bytes + bytes → new.loaded.items ≡ old.loaded.items → new.events.items ≡ old.events.items ++ e ∷ [] → IsTape cs (es ++ plain_event e ∷ []) n limit new
 event_kept cs es e n limit bytes old new kept a is few room top limit_is steps lost byte loaded events = record {
   limit_is = limit_is ∙ a.limit_is;
   counts = λ less. steps ∙ a.counts less;
@@ -233,7 +233,7 @@ lost_traced cs es n limit t e lost a = by e (subst (λ o. HoldsOr o cs es n limi
 pub steps_traced : (cs : List Standing) (es : List Noted) (n limit : ℕ) (t : Tape) → t.steps ≡ None → IsTape cs es n limit t → IsTooLong cs es n limit
 steps_traced cs es n limit t none a = inr (inr (many_steps cs es n limit t none a))
 
-pub all_traced : (cs : List Standing) (es : List Noted) (n limit : ℕ) (t : Tape) (u : Trace) → t.lost ≡ None → t.steps ≡ Some u.steps → u.cells.items ≡ t.loaded.items → u.events.items ≡ t.events.items → IsTape cs es n limit t → Tells cs es n limit u
+pub all_traced : (cs : List Standing) (es : List Noted) (n limit : ℕ) (t : Tape) (u : Trace) → t.lost ≡ None → t.steps ≡ Some u.steps → u.cells.items ≡ t.loaded.items → u.events.items ≡ t.events.items → IsTape cs es n limit t → Reports cs es n limit u
 all_traced cs es n limit t u kept steps cells events a =
     let less = few_steps cs es n limit t u.steps steps a in
     let h = holds_all cs es n limit t kept a less in
@@ -251,13 +251,13 @@ all_traced cs es n limit t u kept steps cells events a =
       counted = less;
     }
 
--- what a store is told
+-- what a store is reported
 
-pub told_more : (first : Tape) (ts : List Told) (mid : Tape) (t : Told) (now : Tape) → WasTold first ts mid → ((cs : List Standing) (es : List Noted) (n limit : ℕ) → IsTape cs es n limit mid → IsTape cs (es ++ record { step = n; told = t } ∷ []) n limit now) → WasTold first (ts ++ t ∷ []) now
-told_more first ts mid t now told more cs es n limit a =
-    let f = λ (u : Told). (let e : Noted = record { step = n; told = u } in e) in
+pub reported_more : (first : Tape) (ts : List Reported) (mid : Tape) (t : Reported) (now : Tape) → WasReported first ts mid → ((cs : List Standing) (es : List Noted) (n limit : ℕ) → IsTape cs es n limit mid → IsTape cs (es ++ record { step = n; reported = t } ∷ []) n limit now) → WasReported first (ts ++ t ∷ []) now
+reported_more first ts mid t now reported more cs es n limit a =
+    let f = λ (u : Reported). (let e : Noted = record { step = n; reported = u } in e) in
     let same = append_assoc es (map f ts) (f t ∷ []) ∙ ap (λ fs. es ++ fs) (sym (map-append f ts (t ∷ []))) in
-    subst (λ fs. IsTape cs fs n limit now) same (more cs (es ++ map f ts) n limit (told cs es n limit a))
+    subst (λ fs. IsTape cs fs n limit now) same (more cs (es ++ map f ts) n limit (reported cs es n limit a))
 
 -- ---- the cells of a store
 
@@ -304,7 +304,7 @@ one_from (Some d ∷ cs) p (suc q) c e =
 
 -- ---- a recorder before its first step
 
--- how far the cells reach behind a place
+-- how far the cells reach after a place
 abbrev pub left_behind : Cells → Option ℕ → ℕ
 left_behind cs None = 0
 left_behind cs (Some p) = suc (length cs - p)
@@ -314,12 +314,12 @@ abbrev pub HasLoaded : Cells → Option ℕ → Tape → Tape → Type 0
 HasLoaded cs None first t = (limit : ℕ) → IsTape [] [] 0 limit first → IsTape (standing_from 0 cs) [] 0 limit t
 HasLoaded cs (Some q) first t = (limit : ℕ) → IsTape [] [] 0 limit first → IsTape (standing_from 0 (take q cs)) [] 0 limit t
 
-pub first_loaded : (cs : Cells) (o : Option ℕ) (t : Tape) → IfSome o (λ q. (r : ℕ) → IsBehind None r → r < q → cell_at cs r ≡ None) → IfNone o ((r : ℕ) → IsBehind None r → cell_at cs r ≡ None) → HasLoaded cs o t t
+pub first_loaded : (cs : Cells) (o : Option ℕ) (t : Tape) → IfSome o (λ q. (r : ℕ) → IsAfter None r → r < q → cell_at cs r ≡ None) → IfNone o ((r : ℕ) → IsAfter None r → cell_at cs r ≡ None) → HasLoaded cs o t t
 first_loaded cs None t some none = λ limit a. subst (λ ds. IsTape ds [] 0 limit t) (none_from cs 0 0 (λ r l. none r tt)) a
 first_loaded cs (Some q) t some none = λ limit a. subst (λ ds. IsTape ds [] 0 limit t) (none_between cs 0 0 q (omega arith) (λ r l h. some r tt h)) a
 
-pub next_loaded : (cs : Cells) (p : ℕ) (o : Option ℕ) (first old new : Tape) → cell_at cs p ≢ None → IfSome o (IsBehind (Some p)) → IfSome o (λ q. (r : ℕ) → IsBehind (Some p) r → r < q → cell_at cs r ≡ None) → IfNone o ((r : ℕ) → IsBehind (Some p) r → cell_at cs r ≡ None) → ((ds : List Standing) (limit : ℕ) → IsTape ds [] 0 limit old → (c : Cell) → cell_at cs p ≡ Some c → IsTape (ds ++ record { place = p; cell = c } ∷ []) [] 0 limit new) → HasLoaded cs (Some p) first old → HasLoaded cs o first new
-next_loaded cs p o first old new there behind some none more h = by o behind some none
+pub next_loaded : (cs : Cells) (p : ℕ) (o : Option ℕ) (first old new : Tape) → cell_at cs p ≢ None → IfSome o (IsAfter (Some p)) → IfSome o (λ q. (r : ℕ) → IsAfter (Some p) r → r < q → cell_at cs r ≡ None) → IfNone o ((r : ℕ) → IsAfter (Some p) r → cell_at cs r ≡ None) → ((ds : List Standing) (limit : ℕ) → IsTape ds [] 0 limit old → (c : Cell) → cell_at cs p ≡ Some c → IsTape (ds ++ record { place = p; cell = c } ∷ []) [] 0 limit new) → HasLoaded cs (Some p) first old → HasLoaded cs o first new
+next_loaded cs p o first old new there following some none more h = by o following some none
   where
     here : (c : Cell) × (cell_at cs p ≡ Some c)
     here = cell_there (cell_at cs p) there
@@ -330,15 +330,15 @@ next_loaded cs p o first old new there behind some none more h = by o behind som
     one : (limit : ℕ) → IsTape [] [] 0 limit first → IsTape (standing_from 0 (take (suc p) cs)) [] 0 limit new
     one limit a = subst (λ ds. IsTape ds [] 0 limit new) same (more (standing_from 0 (take p cs)) limit (h limit a) here.0 here.1)
 
-    by : (o : Option ℕ) → IfSome o (IsBehind (Some p)) → IfSome o (λ q. (r : ℕ) → IsBehind (Some p) r → r < q → cell_at cs r ≡ None) → IfNone o ((r : ℕ) → IsBehind (Some p) r → cell_at cs r ≡ None) → HasLoaded cs o first new
-    by None behind some none = λ limit a. subst (λ ds. IsTape ds [] 0 limit new) (none_from cs 0 (suc p) (λ r l. none r (omega (arith, l)))) (one limit a)
-    by (Some q) behind some none = λ limit a. subst (λ ds. IsTape ds [] 0 limit new) (none_between cs 0 (suc p) q (omega (arith, behind)) (λ r l l'. some r (omega (arith, l)) l')) (one limit a)
+    by : (o : Option ℕ) → IfSome o (IsAfter (Some p)) → IfSome o (λ q. (r : ℕ) → IsAfter (Some p) r → r < q → cell_at cs r ≡ None) → IfNone o ((r : ℕ) → IsAfter (Some p) r → cell_at cs r ≡ None) → HasLoaded cs o first new
+    by None following some none = λ limit a. subst (λ ds. IsTape ds [] 0 limit new) (none_from cs 0 (suc p) (λ r l. none r (omega (arith, l)))) (one limit a)
+    by (Some q) following some none = λ limit a. subst (λ ds. IsTape ds [] 0 limit new) (none_between cs 0 (suc p) q (omega (arith, following)) (λ r l l'. some r (omega (arith, l)) l')) (one limit a)
 
 pub within : (cs : Cells) (p : ℕ) → cell_at cs p ≢ None → p < length cs
 within [] p there = absurd (there refl)
 within (o ∷ cs) zero there = omega arith
 within (o ∷ cs) (suc p) there = let h = within cs p there in omega (arith, h)
 
-pub less_left : (cs : Cells) (p : ℕ) (o : Option ℕ) → cell_at cs p ≢ None → IfSome o (IsBehind (Some p)) → left_behind cs o < left_behind cs (Some p)
-less_left cs p None there behind = omega arith
-less_left cs p (Some q) there behind = let l = within cs p there in omega (arith, l, behind)
+pub less_left : (cs : Cells) (p : ℕ) (o : Option ℕ) → cell_at cs p ≢ None → IfSome o (IsAfter (Some p)) → left_behind cs o < left_behind cs (Some p)
+less_left cs p None there following = omega arith
+less_left cs p (Some q) there following = let l = within cs p there in omega (arith, l, following)

@@ -1,7 +1,7 @@
 -- What a recorder holds at a moment of a run: what there was of the run until then, or that its trace is too long.
 use Rattle.std.specs.Prelude.{◌≡◌, ℕ, ◌^◌, ◌<◌, ◌≤◌, List, ◌++◌, length, map, Option, Some, None}
 use Rattle.cell_store.specs.Made.{Stored}
-use Rattle.cell_store.specs.Told.{Told}
+use Rattle.cell_store.specs.Reported.{Reported}
 use Rattle.cell_trace.specs.declared.error.TraceError.{TraceError}
 use Rattle.cell_trace.specs.declared.error.TraceError.TheVariants as F
 use Rattle.cell_trace.specs.declared.tape.Tape.{Tape}
@@ -32,11 +32,11 @@ pub record IsTape (cells : List Standing) (events : List Noted) (steps limit : �
   pub over : 2 ^ 64 ≤ steps → t.steps ≡ None
   pub holds : HoldsOr t.lost cells events steps limit t
 
--- What is kept grew by what this step told.
-abbrev pub WasTold : Tape → List Told → Tape → Type 0
-WasTold first ts now = (cells : List Standing) (events : List Noted) (steps limit : ℕ) →
+-- What is kept grew by what this step reported.
+abbrev pub WasReported : Tape → List Reported → Tape → Type 0
+WasReported first ts now = (cells : List Standing) (events : List Noted) (steps limit : ℕ) →
     IsTape cells events steps limit first →
-    IsTape cells (events ++ map (λ t. record { step = steps; told = t }) ts) steps limit now
+    IsTape cells (events ++ map (λ t. record { step = steps; reported = t }) ts) steps limit now
 
 -- It is lost.
 pub record IsLost (old : Tape) (error : TraceError) (new : Tape) : Type 0 where

@@ -1,4 +1,4 @@
--- The trace of a run: the cells before its first step, what each step told the store, and the number of steps.
+-- The trace of a run: the cells before its first step, what each step reported the store, and the number of steps.
 -- The file of a trace has 22 bytes, 9 for each cell, 17 for each event that gives a cell its words, 13 for each that
 -- releases one, and 8 for each field. A run that overwrites the cell of Cons(1, Nil) once has a file of 22 + 25 + 33 =
 -- 80 bytes. A trace is too long where its file has more bytes than a limit, where there are more than 4,294,967,295
@@ -7,7 +7,7 @@ use Rattle.std.specs.Prelude.{◌≡◌, ◌⊎◌, ℕ, suc, ◌+◌, ◌*◌, 
 use Rattle.std.specs.Prelude.{Result, Ok, Err}
 use Rattle.fip_base.specs.fip_language.Store.{Cell}
 use Rattle.cell_store.specs.Cells.{Cells}
-use Rattle.cell_store.specs.Told.{Told, Overwritten, Released}
+use Rattle.cell_store.specs.Reported.{Reported, Overwritten, Released}
 use Rattle.cell_trace.specs.declared.error.TraceError.{TraceError}
 use Rattle.cell_trace.specs.declared.error.TraceError.TheVariants as F
 use Rattle.cell_trace.specs.declared.trace.LoadedCell.{LoadedCell}
@@ -20,10 +20,10 @@ pub record Standing : Type 0 where
   pub place : ℕ
   pub cell : Cell
 
--- what a step told the store; steps are numbered from 1
+-- what a step reported the store; steps are numbered from 1
 pub record Noted : Type 0 where
   pub step : ℕ
-  pub told : Told
+  pub reported : Reported
 
 -- the cells of a store, by place
 abbrev pub standing_from : ℕ → Cells → List Standing
@@ -36,8 +36,8 @@ abbrev pub plain_cell : LoadedCell → Standing
 plain_cell c = record { place = c.place; cell = record { tag = c.tag; fields = c.fields.items } }
 
 abbrev pub plain_event : Event → Noted
-plain_event (E.Put step place tag fields) = record { step = step; told = Overwritten place tag fields.items }
-plain_event (E.Release step place) = record { step = step; told = Released place }
+plain_event (E.Put step place tag fields) = record { step = step; reported = Overwritten place tag fields.items }
+plain_event (E.Release step place) = record { step = step; reported = Released place }
 
 -- ---- bytes of a file
 
@@ -45,13 +45,13 @@ abbrev pub cells_bytes : List Standing → ℕ
 cells_bytes [] = 0
 cells_bytes (c ∷ cs) = (length c.cell.fields * 8 + 9) + cells_bytes cs
 
-abbrev pub told_bytes : Told → ℕ
-told_bytes (Overwritten place tag fields) = length fields * 8 + 17
-told_bytes (Released place) = 13
+abbrev pub reported_bytes : Reported → ℕ
+reported_bytes (Overwritten place tag fields) = length fields * 8 + 17
+reported_bytes (Released place) = 13
 
 abbrev pub events_bytes : List Noted → ℕ
 events_bytes [] = 0
-events_bytes (e ∷ es) = told_bytes e.told + events_bytes es
+events_bytes (e ∷ es) = reported_bytes e.reported + events_bytes es
 
 abbrev pub file_bytes : List Standing → List Noted → ℕ
 file_bytes cells events = 22 + (cells_bytes cells + events_bytes events)
@@ -62,8 +62,8 @@ IsTooLong cells events steps limit =
 
 -- ---- what a recorder answers
 
--- The trace tells just these cells, events and steps, and it isn't too long.
-pub record Tells (cells : List Standing) (events : List Noted) (steps limit : ℕ) (t : Trace) : Type 0 where
+-- The trace reports just these cells, events and steps, and it isn't too long.
+pub record Reports (cells : List Standing) (events : List Noted) (steps limit : ℕ) (t : Trace) : Type 0 where
   pub cells_are : map plain_cell t.cells.items ≡ cells
   pub events_are : map plain_event t.events.items ≡ events
   pub steps_are : t.steps ≡ steps
@@ -73,6 +73,6 @@ pub record Tells (cells : List Standing) (events : List Noted) (steps limit : �
 
 -- The trace, or that it is too long; nothing is said where no memory was left.
 abbrev pub IsTraced : List Standing → List Noted → ℕ → ℕ → Result Trace TraceError → Type 0
-IsTraced cells events steps limit (Ok t) = Tells cells events steps limit t
+IsTraced cells events steps limit (Ok t) = Reports cells events steps limit t
 IsTraced cells events steps limit (Err F.TooLong) = IsTooLong cells events steps limit
 IsTraced cells events steps limit (Err F.NoMemory) = Unit {0}

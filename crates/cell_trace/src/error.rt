@@ -52,7 +52,7 @@ impl From<NoMemory> for TraceError {
 pub enum ReadTraceError {
     /// They are no trace. The place, from 0, is the length where the file ends early, and else that of the first byte
     /// of the magic, the version or an operation that isn't as it must be, of the first cell or event that breaks a
-    /// condition, of a number of steps below the last event's, or of the first byte behind the end: the first from the
+    /// condition, of a number of steps below the last event's, or of the first byte after the end: the first from the
     /// front.
     #[error("bad trace at {at}")]
     BadTrace { at: usize },

@@ -4,7 +4,7 @@ ghost use Rattle.std.specs.Prelude.{length, take};
 ghost use Rattle.fip_base.specs.fip_language.Store.{Cell};
 ghost use Rattle.cell_store.specs.Cells.{cell_at, size_in};
 ghost use Rattle.cell_trace.specs.Traced.{Standing, Noted, IsTraced, standing_from};
-ghost use Rattle.cell_trace.specs.Taped.{Recorded, IsTape, WasTold};
+ghost use Rattle.cell_trace.specs.Taped.{Recorded, IsTape, WasReported};
 
 use crate::error::TraceError;
 use crate::tape::Tape;
@@ -14,7 +14,7 @@ use std::alloc::Global;
 use std::marker::Model;
 
 /// A sealed store with what was written to it, step by step. It is a store as the one in it, and calls on it do the
-/// same. What can't be kept is noted and told at the end, so that a run goes on as without it.
+/// same. What can't be kept is noted and reported at the end, so that a run goes on as without it.
 #[derive(Drop)]
 pub struct Recorder {
     alloc: Global,
@@ -123,7 +123,7 @@ impl Cells for Recorder {
 
     ghost pushed = { λ r. r.store.pushed };
 
-    ghost was_told = { λ first ts now. WasTold first.tape ts now.tape };
+    ghost was_reported = { λ first ts now. WasReported first.tape ts now.tape };
 
     fn begins(&self, p: u32) -> bool {
         self.cells.begins(p)

@@ -1,8 +1,8 @@
 // What is kept of a run.
 ghost use Rattle.std.specs.Prelude.{◌≡◌, ℕ, ◌+◌, ◌*◌, ◌^◌, ◌-◌, ◌<◌, ◌≤◌, true, false, List, [], ◌∷◌, ◌++◌};
 ghost use Rattle.std.specs.Prelude.{IfOk, None, Some, length, min};
-ghost use Rattle.cell_store.specs.Told.{Overwritten, Released};
-ghost use Rattle.cell_trace.specs.Traced.{Standing, Noted, IsTraced, plain_cell, plain_event, told_bytes};
+ghost use Rattle.cell_store.specs.Reported.{Overwritten, Released};
+ghost use Rattle.cell_trace.specs.Traced.{Standing, Noted, IsTraced, plain_cell, plain_event, reported_bytes};
 ghost use Rattle.cell_trace.specs.Taped.{IsTape, IsLost};
 
 use crate::error::TraceError;
@@ -28,7 +28,7 @@ const RELEASE_BYTES: usize = 13;
 // The bytes of a field.
 const FIELD_BYTES: usize = 8;
 
-/// A trace that grows with its run. What can't be kept is noted and told at the end.
+/// A trace that grows with its run. What can't be kept is noted and reported at the end.
 #[derive(Drop)]
 pub(crate) struct Tape {
     pub alloc: Global,
@@ -97,7 +97,7 @@ impl Tape {
     /// Notes that the step gave the cell at the place this constructor and these words.
     pub(crate) fn put(&mut self, place: u32, tag: u32, words: &[u64])
         ensures noted { (cells : List Standing) (events : List Noted) (steps limit : ℕ) → IsTape cells events steps
-            limit self.old → IsTape cells (events ++ record { step = steps; told = Overwritten place tag words.now }
+            limit self.old → IsTape cells (events ++ record { step = steps; reported = Overwritten place tag words.now }
             ∷ []) steps limit self.new }
     {
         let Some(step) = self.steps else {
@@ -129,7 +129,7 @@ impl Tape {
     /// Notes that the step released the cell at the place.
     pub(crate) fn release(&mut self, place: u32)
         ensures noted { (cells : List Standing) (events : List Noted) (steps limit : ℕ) → IsTape cells events steps
-            limit self.old → IsTape cells (events ++ record { step = steps; told = Released place } ∷ []) steps limit
+            limit self.old → IsTape cells (events ++ record { step = steps; reported = Released place } ∷ []) steps limit
             self.new }
     {
         let Some(step) = self.steps else {
@@ -144,7 +144,7 @@ impl Tape {
     // Keeps an event, which has so many bytes in the file.
     fn keep(&mut self, event: Event, bytes: usize)
         requires kept { self.old.lost ≡ None }
-        requires bytes { bytes ≡ min (told_bytes (plain_event event).told) (2 ^ 64 - 1) }
+        requires bytes { bytes ≡ min (reported_bytes (plain_event event).reported) (2 ^ 64 - 1) }
         requires some { 0 < bytes }
         ensures noted { (cells : List Standing) (events : List Noted) (steps limit : ℕ) → IsTape cells events steps
             limit self.old → IsTape cells (events ++ plain_event event ∷ []) steps limit self.new }

@@ -370,7 +370,7 @@ kinds_few tb ms j [] e i k at = absurd (none-some k at)
 kinds_few tb ms j (x ∷ ks) e zero k at = subst (HasFew (most_constructors tb)) (same_Some x k at) (kind_few tb ms j x (both (is_good_kind tb ms j x) (are_good_kinds tb ms (suc j) ks) e).0)
 kinds_few tb ms j (x ∷ ks) e (suc i) k at = kinds_few tb ms (suc j) ks (both (is_good_kind tb ms j x) (are_good_kinds tb ms (suc j) ks) e).1 i k at
 
--- a map that is formed, and those behind it
+-- a map that is formed, and those after it
 map_parts : (tb : Table) (f : S.PlainFunction) (low : ℕ) (m : S.LabelMap) (ms : List S.LabelMap) → are_good_maps tb f low (m ∷ ms) ≡ true → (are_good_kinds tb m.kinds 0 m.kinds ≡ true) × (are_good_maps tb f m.at ms ≡ true)
 map_parts tb f low m ms e =
     let a = both (nat_lt low m.at) (nat_lt m.at (length f.instrs) && ((length m.kinds == f.registers) && (are_good_kinds tb m.kinds 0 m.kinds && are_good_maps tb f m.at ms))) e in

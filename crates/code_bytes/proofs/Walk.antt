@@ -252,7 +252,7 @@ module _ (st : Setting) (fip : Bool) (f : PlainFunction) (most w : ℕ) (few_cre
 
     sides : (g : Holding) (n at end : ℕ) → SidesLaid c f g ch n at end → Few at end
     sides g zero at end h = none at end h
-    sides g (suc n) at end h = both at h.0 end (chunk g at h.1.known h.1.read h.1.told h.0 h.1.chunk) (sides g n h.0 end h.2)
+    sides g (suc n) at end h = both at h.0 end (chunk g at h.1.known h.1.read h.1.reported h.0 h.1.chunk) (sides g n h.0 end h.2)
 
   -- the patterns of a match
   narrow_in : (c : PlainCode) (at : ℕ) (k : Known) (ds : Bool) (t : ℕ) (a : Argument) (q : Pattern) (cs : Clauses) (ch : Choice) (l : Known) (end : ℕ) → pattern_width q ≤ w → clauses_width cs ≤ w → MatchLaid c st f at k ds t a q cs ch l end → AreNarrow w ch

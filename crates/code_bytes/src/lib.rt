@@ -1,4 +1,4 @@
-// How many bytes the file of a code may have: definitions and their laws; no code.
+// How many bytes the file of a code may have: definitions and their theorems; no code.
 #![tactic(auto)]
 
 pub mod theorems;

@@ -1,4 +1,4 @@
-// The laws of the bytes of code files. Each is the contract of a function that does nothing.
+// The theorems of the bytes of code files. Each is the contract of a function that does nothing.
 ghost use Rattle.std.specs.Prelude.{◌≡◌, ℕ, Some, slice_get};
 ghost use Rattle.code_bytes.specs.Bytes.{function_bytes, most_constructors, table_bytes};
 ghost use Rattle.code_bytes.specs.Operands.{most_operands, HaveFew};
@@ -12,7 +12,7 @@ ghost use Rattle.code_rules.specs.Codes.{PlainCode, PlainFunction, function_at};
 /// No instruction of a function, reached or not, lists more registers than its instance's width allows, where its code
 /// is laid out as the instances of a program ask. For who bounds a code file.
 pub fn laid_functions_list_few_registers()
-    ensures law { (c : PlainCode) (st : Setting) (p : Program) → AreLaid c st p → (i n : ℕ) (d : Instance)
+    ensures theorem { (c : PlainCode) (st : Setting) (p : Program) → AreLaid c st p → (i n : ℕ) (d : Instance)
         (f : PlainFunction) → slice_get p.instances i ≡ Some d → function_of p.instances i ≡ Some n →
         function_at c n ≡ Some f → HaveFew (most_operands p.instances d) f.instrs }
 {}

@@ -25,7 +25,7 @@ use Rattle.code_file.proofs.Fields.{and_both, both_and, front_only, only_front, 
 pub front_mark : (b : ℕ) (t : Option (List ℕ)) (bs rest : List ℕ) → Front t bs rest → Front (mark b +++ t) (b ∷ bs) rest
 front_mark b t bs rest h = front_join (mark b) t (b ∷ bs) bs rest refl h
 
--- what is read behind a tag
+-- what is read after a tag
 pub tag_takes : {A : Type 0} → (may : ℕ → Bool) (f : ℕ → Reader A) (bs : List ℕ) (y : A) (rest : List ℕ) → Takes (byte may >>= f) bs y rest → (b : ℕ) × (mid : List ℕ) × (may b ≡ true) × (bs ≡ b ∷ mid) × Takes (f b) mid y rest
 unfolding byte
 tag_takes may f [] y rest h = absurd h
@@ -91,14 +91,14 @@ field_register = record { takes = register_takes; gives = register_gives; alive 
 zero_is : (b : ℕ) → is_in_range 0 0 b ≡ true → b ≡ 0
 zero_is b e = let k = in_range 0 0 b e in omega (arith, k.1)
 
-from_behind : (root : Option ℕ) (bs mid : List ℕ) (y : Option From) (rest : List ℕ) → Front (register_text root) bs mid → Takes (from_body root) mid y rest → Front (from_text y) bs rest
+from_after : (root : Option ℕ) (bs mid : List ℕ) (y : Option From) (rest : List ℕ) → Front (register_text root) bs mid → Takes (from_body root) mid y rest → Front (from_text y) bs rest
 unfolding from_text
-from_behind None bs mid y rest f h =
+from_after None bs mid y rest f h =
     let p = tag_takes (is_in_range 0 0) (λ z. Give None) mid y rest h in
     let e = p.4 in
     subst (λ y. Front (from_text y) bs rest) e.1
     (front_join (register_text None) (mark 0) bs mid rest f (p.3 ∙ ap₂ (λ b r. b ∷ r) (zero_is p.0 p.2) e.0))
-from_behind (Some r) bs mid y rest f h =
+from_after (Some r) bs mid y rest f h =
     let k = takes1 any one field_any (λ field. Some (record { register = r; field = field })) mid y rest h in
     subst (λ y. Front (from_text y) bs rest) k.1 (front_join (register_text (Some r)) (one k.0) bs mid rest f k.2)
 
@@ -106,7 +106,7 @@ from_takes : (bs : List ℕ) (y : Option From) (rest : List ℕ) → Takes from_
 unfolding from_reader
 from_takes bs y rest h =
     let p = bind_takes register_reader from_body bs y rest h in
-    from_behind p.0 bs p.1 y rest (register_takes bs p.0 p.1 p.2) p.3
+    from_after p.0 bs p.1 y rest (register_takes bs p.0 p.1 p.2) p.3
 
 from_gives : (bs : List ℕ) (y : Option From) (rest : List ℕ) → Front (from_text y) bs rest → Takes from_reader bs y rest
 unfolding from_reader from_text byte

@@ -1,4 +1,4 @@
--- What is left to read of a function behind some of its fields.
+-- What is left to read of a function after some of its fields.
 use Rattle.std.proofs.Common.{ℕ, List}
 use Rattle.fip_language.specs.declared.FunKind.{FunKind}
 use Rattle.fip_base.specs.declared.plain.Param.{Param}
@@ -11,7 +11,7 @@ use Rattle.code_file.specs.Reading.{Reader, Give, ◌>>=◌, two_reader, list_re
 abbrev pub function_of : FunKind → List ℕ → List Param → List ℕ → List ℕ → ℕ → List Instr → List PlainLabel → PlainFunction
 function_of kind name params credits results registers instrs labels = record { kind = kind; name = name; params = params; credits = credits; results = results; registers = registers; instrs = instrs; labels = labels }
 
--- what is read behind some of its fields
+-- what is read after some of its fields
 abbrev pub part8 : Version → FunKind → List ℕ → List Param → List ℕ → List ℕ → ℕ → List Instr → List PlainLabel → Reader PlainFunction
 part8 v kind name params credits results registers instrs labels = Give (function_of kind name params credits results registers instrs labels)
 

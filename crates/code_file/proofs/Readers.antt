@@ -1,4 +1,4 @@
--- The laws of readers: one behind the other, as many as counted, and where the least bad place is.
+-- The theorems of readers: one after the other, as many as counted, and where the least bad place is.
 use Rattle.std.proofs.Common.{◌≡◌, ℕ, zero, suc, ◌+◌, ◌-◌, ◌<◌, ◌≤◌, List, [], ◌∷◌, ◌++◌, length, take, Option, Some, None, Bool, true, false, refl, sym, ap, ap₂, ◌∙◌, subst, append_assoc, arith}
 use Rattle.std.specs.Prelude.{if◌then◌else◌}
 use Rattle.std.proofs.lemmas.List.{append-nil}
@@ -136,7 +136,7 @@ bind_gives (Give z) f bs mid x y rest h k = subst (λ z. Takes (f z) bs y rest) 
 bind_gives (Byte may next) f [] mid x y rest h k = absurd h
 bind_gives (Byte may next) f (b ∷ bs) mid x y rest h k = (h.0, bind_gives (next b) f bs mid x y rest h.1 k)
 
--- it can be completed where the first can, and the second behind each value of the first
+-- it can be completed where the first can, and the second after each value of the first
 pub bind_alive : {A B : Type 0} → (r : Reader A) (f : A → Reader B) → Alive r → ((x : A) (bs rest : List ℕ) → Takes r bs x rest → Alive (f x)) → Alive (r >>= f)
 bind_alive (Give x) f a g = g x [] [] (refl, refl)
 bind_alive (Byte may next) f a g = (a.0, λ b e. bind_alive (next b) f (a.1 b e) (λ x bs rest t. g x (b ∷ bs) rest (e, t)))
@@ -160,10 +160,10 @@ bind_got r f bs x rest e = read_bind r f bs ∙ ap (λ a. and_then a (λ x rest.
 pub bind_stop : {A B : Type 0} → (r : Reader A) (f : A → Reader B) (bs : List ℕ) (left : ℕ) → read r bs ≡ Stop left → read (r >>= f) bs ≡ Stop left
 bind_stop r f bs left e = read_bind r f bs ∙ ap (λ a. and_then a (λ x rest. read (f x) rest)) e
 
--- What two readers, one behind the other, come to.
+-- What two readers, one after the other, come to.
 pub ruleset binds = (bind_got, bind_stop)
 
--- a text behind another
+-- a text after another
 pub front_join : (a b : Option (List ℕ)) (bs mid rest : List ℕ) → Front a bs mid → Front b mid rest → Front (a +++ b) bs rest
 unfolding ◌+++◌
 front_join None b bs mid rest h k = absurd h

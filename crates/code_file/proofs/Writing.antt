@@ -1,4 +1,4 @@
--- Writing one text behind another, and one item of a list after another.
+-- Writing one text after another, and one item of a list after another.
 use Rattle.std.proofs.Common.{◌≡◌, ℕ, zero, suc, ◌+◌, ◌-◌, ◌<◌, ◌≤◌, List, [], ◌∷◌, ◌++◌, length, drop, map, get_or, Bool, true, false, Option, Some, None, Result, Ok, Err, refl, sym, ap, ap₂, subst, ◌∙◌, append_assoc, arith}
 use Rattle.std.specs.Prelude.{nat_le, nat_lt, if◌then◌else◌}
 use Rattle.std.proofs.lemmas.Bool.{leb-true, le-leb, leb-false, lt-leb}
@@ -54,7 +54,7 @@ pub after_missing : (w : Written) → after w None ≡ None
 unfolding after
 after_missing w = refl
 
--- Where the first text was written, the second stands behind it.
+-- Where the first text was written, the second stands after it.
 pub after_join : (w v : Written) (a b : Option (List ℕ)) → after w a ≡ Some v → after w (a +++ b) ≡ after v b
 unfolding after ◌+++◌
 after_join w v None b e = cc
@@ -105,7 +105,7 @@ join_8 w0 w1 w2 w3 w4 w5 w6 w7 a b c d e f g h h0 h1 h2 h3 h4 h5 h6 = after_join
 pub none_8 : (w0 w1 w2 w3 w4 w5 w6 : Written) (a b c d e f g h : Option (List ℕ)) → after w0 a ≡ Some w1 → after w1 b ≡ Some w2 → after w2 c ≡ Some w3 → after w3 d ≡ Some w4 → after w4 e ≡ Some w5 → after w5 f ≡ Some w6 → after w6 g ≡ None → after w0 (a +++ (b +++ (c +++ (d +++ (e +++ (f +++ (g +++ h))))))) ≡ None
 none_8 w0 w1 w2 w3 w4 w5 w6 a b c d e f g h h0 h1 h2 h3 h4 h5 h6 = after_join w0 w1 a (b +++ (c +++ (d +++ (e +++ (f +++ (g +++ h)))))) h0 ∙ after_join w1 w2 b (c +++ (d +++ (e +++ (f +++ (g +++ h))))) h1 ∙ after_join w2 w3 c (d +++ (e +++ (f +++ (g +++ h)))) h2 ∙ after_join w3 w4 d (e +++ (f +++ (g +++ h))) h3 ∙ after_join w4 w5 e (f +++ (g +++ h)) h4 ∙ after_join w5 w6 f (g +++ h) h5 ∙ after_none w6 g h h6
 
--- What several texts, one behind the other, come to.
+-- What several texts, one after the other, come to.
 pub ruleset joins = (after_missing, after_join, after_none, join_3, none_3, join_4, none_4, join_5, none_5, join_6, none_6, join_7, none_7, join_8, none_8)
 
 -- The first item of what is left of a list, and the items after it.

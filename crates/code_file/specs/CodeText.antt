@@ -1,6 +1,6 @@
 -- The text of a code: the bytes of its code file, in version 1 or 2, or none where no file spells it.
 --
--- A file is "FP2C", the version, the types behind their count, and the functions behind theirs. So the code without
+-- A file is "FP2C", the version, the types after their count, and the functions after theirs. So the code without
 -- types and functions is, in version 2, the bytes 46 50 32 43 00 02 00 00 00 00 (in base 16).
 use Rattle.std.specs.Prelude.{◌≡◌, ℕ, Bool, true, false, ◌&&◌, ◌==◌, nat_lt, nat_le, codes}
 use Rattle.std.specs.Prelude.{List, [], ◌∷◌, length, Option, Some, None}
@@ -51,7 +51,7 @@ unfoldable pub register_text : Option ℕ → Option (List ℕ)
 register_text None = Some (255 ∷ 255 ∷ [])
 register_text (Some r) = only (nat_lt r 65535) (two r)
 
--- Where a lent word came from: a register and a field. Behind none stands the field 0.
+-- Where a lent word came from: a register and a field. After none stands the field 0.
 unfoldable pub from_text : Option From → Option (List ℕ)
 from_text None = register_text None +++ mark 0
 from_text (Some from) = register_text (Some from.register) +++ one from.field

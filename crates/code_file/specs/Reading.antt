@@ -124,12 +124,12 @@ unfoldable pub upper_name_reader : Reader (List ℕ)
 upper_name_reader =
     length_reader >>= λ n. byte is_upper >>= λ b. times (n - 1) (byte is_name_byte) >>= λ bs. Give (b ∷ bs)
 
--- Whether a byte may stand in a function's name behind others.
+-- Whether a byte may stand in a function's name after others.
 abbrev pub may_follow : List ℕ → ℕ → Bool
 may_follow [] b = is_lower b
 may_follow (c ∷ front) b = is_name_byte b
 
--- The same where so many come behind it: the last one makes no keyword.
+-- The same where so many come after it: the last one makes no keyword.
 abbrev pub may_stand : ℕ → List ℕ → ℕ → Bool
 may_stand zero front b = may_follow front b && not (is_keyword (front ++ b ∷ []))
 may_stand (suc n) front b = may_follow front b

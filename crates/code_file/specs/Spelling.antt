@@ -14,7 +14,7 @@ None +++ b = None
 (Some s) +++ None = None
 (Some s) +++ (Some t) = Some (s ++ t)
 
--- the texts of several, one behind the other
+-- the texts of several, one after the other
 unfoldable pub each : {A : Type 0} → (A → Option (List ℕ)) → List A → Option (List ℕ)
 each text [] = Some []
 each text (x ∷ xs) = text x +++ each text xs
@@ -49,7 +49,7 @@ abbrev pub is_function_name : List ℕ → Bool
 is_function_name [] = true
 is_function_name (b ∷ bs) = is_lower b && are_name_bytes bs && not (is_keyword (b ∷ bs))
 
--- a name behind its length
+-- a name after its length
 unfoldable pub name_text : List ℕ → Option (List ℕ)
 name_text name = four (length name) +++ Some name
 

@@ -14,7 +14,7 @@ pub record Written : Type 0 where
   pub bytes : List ℕ
   pub limit : ℕ
 
--- A text goes behind what was written, where there is one and it has room.
+-- A text goes after what was written, where there is one and it has room.
 unfoldable pub after : Written → Option (List ℕ) → Option Written
 after w None = None
 after w (Some text) =

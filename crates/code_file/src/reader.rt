@@ -121,7 +121,7 @@ impl<'a> Reader<'a> {
         Ok(u32::from(self.u16()?))
     }
 
-    /// Types, behind their count.
+    /// Types, after their count.
     #[tactic(auto, using(crate::proofs::Got::of_list))]
     pub fn types(&mut self) -> Result<Types, ReadStop>
         ensures { Reads same result self.new (read list_reader self.old) }
@@ -237,7 +237,7 @@ impl<'a> Reader<'a> {
         }
     }
 
-    // A byte, and so many behind it with which a name may go on.
+    // A byte, and so many after it with which a name may go on.
     fn name_bytes(&mut self, first: u8, count: u32) -> Result<Vec<u8>, ReadStop>
         ensures { Reads vec_items result self.new
             (with_front (first ∷ []) (read (times count (byte is_name_byte)) self.old)) }

@@ -1,4 +1,4 @@
-// The laws of code files. Each is the contract of a function that does nothing.
+// The theorems of code files. Each is the contract of a function that does nothing.
 ghost use Rattle.std.specs.Prelude.{◌≡◌, ℕ, List, [], ◌++◌};
 ghost use Rattle.code_file.specs.declared.tags.Version.{Version as a_version};
 ghost use Rattle.code_file.specs.Plain.{PlainCode};
@@ -17,6 +17,6 @@ pub fn a_code_has_one_file()
 /// No code file begins another one, of whatever versions they are. For who finds a code file in front of other bytes.
 #[tactic(auto, using(crate::proofs::Whole::no_front))]
 pub fn no_file_begins_another()
-    ensures law { (text more : List ℕ) (v w : a_version) (c d : PlainCode) → CodeText text v c →
+    ensures theorem { (text more : List ℕ) (v w : a_version) (c d : PlainCode) → CodeText text v c →
         CodeText (text ++ more) w d → more ≡ [] }
 {}

@@ -1,4 +1,4 @@
-// Bytes written one behind the other, up to a limit.
+// Bytes written one after the other, up to a limit.
 ghost use Rattle.std.specs.Prelude.{◌≡◌, [], length, Some, IfOk};
 ghost use Rattle.code_file.specs.Spelling.{each, mark, one, two, four, eight, name_text, upper_name_text};
 ghost use Rattle.code_file.specs.Spelling.{function_name_text};
@@ -135,7 +135,7 @@ impl Writer {
         self.count16(ty as usize)
     }
 
-    /// Types, behind their count.
+    /// Types, after their count.
     #[tactic(auto, unfolding(crate::specs::CodeText::types_text), using(crate::proofs::Writing::joins))]
     pub fn types(&mut self, types: &[u32]) -> Result<(), WriteError>
         ensures { Writes result self.new (after self.old (types_text types.now)) }

@@ -176,7 +176,7 @@ answers_noted (k ∷ kept) P n i o a = answers_same (OrKept (OrOne P n i k.0 k.1
         first e f (inl g) = inl (inr (e, f, g.0, g.1))
         first e f (inr g) = inr (e, f, g)
 
--- ---- what comes behind what was noted needn't be noted
+-- ---- what comes after what was noted needn't be noted
 
 pub not_better : (o : Option Violation) (v : Violation) → is_before o v ≡ true → better o v ≡ o
 not_better None v e = absurd (true≢false (sym e))

@@ -15,7 +15,7 @@ use cell_code::Instr;
 use code_rules::SoundRule;
 use register_kinds::Registers;
 
-/// Asks the row of an instruction that keeps S1, and changes what is known of the registers to what is known behind it.
+/// Asks the row of an instruction that keeps S1, and changes what is known of the registers to what is known after it.
 /// Whether anything is.
 pub fn row<'a>(
     place: &Place<'a>,

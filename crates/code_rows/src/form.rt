@@ -95,7 +95,7 @@ fn is_size(size: u8) -> bool
     0 < size && size as usize <= MOST_FIELDS
 }
 
-// Whether label maps rise, stand behind instruction 0 and within the function, and speak of its registers.
+// Whether label maps rise, stand after instruction 0 and within the function, and speak of its registers.
 fn are_labels(table: &Table, function: &Function) -> bool
     ensures { result ≡ are_good_labels table.now (plain_function function.now) 0 function.now.labels.items }
 {
@@ -109,7 +109,7 @@ fn are_labels(table: &Table, function: &Function) -> bool
     true
 }
 
-// Whether a label map stands behind a number and within the function, and speaks of its registers.
+// Whether a label map stands after a number and within the function, and speaks of its registers.
 fn is_label(table: &Table, function: &Function, low: u32, label: &Label) -> bool
     ensures { result ≡ is_good_label table.now (plain_function function.now) low label.now }
 {

@@ -86,7 +86,7 @@ fn hand_over<'a>(
     registers.hand_over(place.table, in_tail, params, credits, given)
 }
 
-// Whether there is one register for each result, behind arguments, and all may be overwritten; also where the arguments
+// Whether there is one register for each result, after arguments, and all may be overwritten; also where the arguments
 // didn't fit.
 fn can_receive(
     registers: &Registers,

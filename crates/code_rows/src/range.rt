@@ -86,7 +86,7 @@ fn are_below(n: u16, registers: &[u16]) -> bool
     true
 }
 
-// Whether an instruction may go on at this one: it is behind it, in the function, and has a label map.
+// Whether an instruction may go on at this one: it is after it, in the function, and has a label map.
 fn is_target(place: &Place, target: u32) -> bool
     ensures { result ≡ is_target (function_of place.now) place.now.at target }
 {

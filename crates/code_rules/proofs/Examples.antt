@@ -13,7 +13,7 @@ use Rattle.code_rules.specs.Codes.{PlainFunction}
 use Rattle.code_rules.specs.Headers.{is_formed}
 use Rattle.code_rules.specs.Flow.{IsReachedAt}
 use Rattle.code_rules.specs.Breaks.{BreaksWithin, BreaksFunction, Breaks, IsSound}
-use Rattle.code_rules.specs.Example.{types, code_of, function_of, rev_with, nil_taken, acc_given, cons_taken, cons_put, again, cons_map, cons_known, reversal, bool_is_turned, takes_past_the_end, gives_what_is_gone, puts_into_a_tree, has_no_end, promises_an_int, leaves_a_tree, drops_a_tree, waits_for_itself, has_no_result, reads_behind_a_take, takes_an_heir, BreaksJust}
+use Rattle.code_rules.specs.Example.{types, code_of, function_of, rev_with, nil_taken, acc_given, cons_taken, cons_put, again, cons_map, cons_known, reversal, bool_is_turned, takes_past_the_end, gives_what_is_gone, puts_into_a_tree, has_no_end, promises_an_int, leaves_a_tree, drops_a_tree, waits_for_itself, has_no_result, reads_after_a_take, takes_an_heir, BreaksJust}
 use Rattle.code_rules.proofs.Known.{known, is_known, Sure}
 use Rattle.code_rules.proofs.Found.{InRules, rules_at, found}
 use Rattle.code_rules.proofs.ExampleTables.{are_sound, turned_is_not}
@@ -336,31 +336,31 @@ heir_breaks (suc (suc (suc (suc (suc (suc (suc i))))))) r x = x
 pub heir_sound : IsSound takes_an_heir
 heir_sound n i r b = heir_breaks i r (found types heir (are_sound heir) refl heir_sure n i r b).1
 
-abbrev behind : PlainFunction
-behind = function_of (2 ∷ []) (rev_with nil_taken acc_given (I.Peek 4 0 1) cons_taken (I.Move 5 4 ∷ cons_put ∷ again)) cons_known
+abbrev following : PlainFunction
+following = function_of (2 ∷ []) (rev_with nil_taken acc_given (I.Peek 4 0 1) cons_taken (I.Move 5 4 ∷ cons_put ∷ again)) cons_known
 
-behind_sure : Sure reads_behind_a_take behind
-behind_sure zero = refl
-behind_sure (suc zero) = refl
-behind_sure (suc (suc zero)) = refl
-behind_sure (suc (suc (suc zero))) = refl
-behind_sure (suc (suc (suc (suc zero)))) = refl
-behind_sure (suc (suc (suc (suc (suc zero))))) = refl
-behind_sure (suc (suc (suc (suc (suc (suc zero)))))) = refl
-behind_sure (suc (suc (suc (suc (suc (suc (suc zero))))))) = refl
-behind_sure (suc (suc (suc (suc (suc (suc (suc (suc i)))))))) = refl
+after_sure : Sure reads_after_a_take following
+after_sure zero = refl
+after_sure (suc zero) = refl
+after_sure (suc (suc zero)) = refl
+after_sure (suc (suc (suc zero))) = refl
+after_sure (suc (suc (suc (suc zero)))) = refl
+after_sure (suc (suc (suc (suc (suc zero))))) = refl
+after_sure (suc (suc (suc (suc (suc (suc zero)))))) = refl
+after_sure (suc (suc (suc (suc (suc (suc (suc zero))))))) = refl
+after_sure (suc (suc (suc (suc (suc (suc (suc (suc i)))))))) = refl
 
-behind_breaks : (i : ℕ) (r : SoundRule) → InRules r (rules_at reads_behind_a_take behind i) → (i ≡ 5) × (r ≡ S2)
-behind_breaks zero r x = absurd x
-behind_breaks (suc zero) r x = absurd x
-behind_breaks (suc (suc zero)) r x = absurd x
-behind_breaks (suc (suc (suc zero))) r x = absurd x
-behind_breaks (suc (suc (suc (suc zero)))) r x = absurd x
-behind_breaks (suc (suc (suc (suc (suc zero))))) r (inl x) = (refl, x)
-behind_breaks (suc (suc (suc (suc (suc zero))))) r (inr x) = absurd x
-behind_breaks (suc (suc (suc (suc (suc (suc zero)))))) r x = absurd x
-behind_breaks (suc (suc (suc (suc (suc (suc (suc zero))))))) r x = absurd x
-behind_breaks (suc (suc (suc (suc (suc (suc (suc (suc i)))))))) r x = absurd x
+after_breaks : (i : ℕ) (r : SoundRule) → InRules r (rules_at reads_after_a_take following i) → (i ≡ 5) × (r ≡ S2)
+after_breaks zero r x = absurd x
+after_breaks (suc zero) r x = absurd x
+after_breaks (suc (suc zero)) r x = absurd x
+after_breaks (suc (suc (suc zero))) r x = absurd x
+after_breaks (suc (suc (suc (suc zero)))) r x = absurd x
+after_breaks (suc (suc (suc (suc (suc zero))))) r (inl x) = (refl, x)
+after_breaks (suc (suc (suc (suc (suc zero))))) r (inr x) = absurd x
+after_breaks (suc (suc (suc (suc (suc (suc zero)))))) r x = absurd x
+after_breaks (suc (suc (suc (suc (suc (suc (suc zero))))))) r x = absurd x
+after_breaks (suc (suc (suc (suc (suc (suc (suc (suc i)))))))) r x = absurd x
 
-pub behind_just : BreaksJust reads_behind_a_take 5 S2
-behind_just = just_one behind 5 S2 refl behind_sure behind_breaks (record { kinds = _; instr = I.Move 5 4; reached = reached behind behind_sure 5 _ _ refl refl; ranged = refl; breaks = refl })
+pub after_just : BreaksJust reads_after_a_take 5 S2
+after_just = just_one following 5 S2 refl after_sure after_breaks (record { kinds = _; instr = I.Move 5 4; reached = reached following after_sure 5 _ _ refl refl; ranged = refl; breaks = refl })

@@ -71,10 +71,10 @@ sure_at ks heir [] e q = refl
 sure_at ks heir (k ∷ rest) e zero = (and_parts (is_sure (walk_of ks heir k)) (all_sure ks heir rest) e).0
 sure_at ks heir (k ∷ rest) e (suc q) = sure_at ks heir rest (and_parts (is_sure (walk_of ks heir k)) (all_sure ks heir rest) e).1 q
 
-tells : (ks : List Kind) (heir : ℕ → Bool) (q : ℕ) (k : Walked) → is_sure k ≡ true → IsWalked ks heir (from_of (at ks q)) k → IsReached ks heir q (outcome k)
-tells ks heir q (Found d) e x = x
-tells ks heir q Ended e x = λ d y. x y.0 d y.1
-tells ks heir q Unsure e x = absurd (true≢false (sym e))
+reports : (ks : List Kind) (heir : ℕ → Bool) (q : ℕ) (k : Walked) → is_sure k ≡ true → IsWalked ks heir (from_of (at ks q)) k → IsReached ks heir q (outcome k)
+reports ks heir q (Found d) e x = x
+reports ks heir q Ended e x = λ d y. x y.0 d y.1
+reports ks heir q Unsure e x = absurd (true≢false (sym e))
 
 pub is_reached : (ks : List Kind) (heir : ℕ → Bool) → all_sure ks heir ks ≡ true → (q : ℕ) → IsReached ks heir q (reached_by ks heir q)
-is_reached ks heir e q = tells ks heir q (walk_of ks heir (at ks q)) (sure_at ks heir ks e q) (is_walked ks heir (suc (length ks)) (from_of (at ks q)))
+is_reached ks heir e q = reports ks heir q (walk_of ks heir (at ks q)) (sure_at ks heir ks e q) (is_walked ks heir (suc (length ks)) (from_of (at ks q)))

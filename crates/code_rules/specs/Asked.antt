@@ -87,7 +87,7 @@ abbrev pub are_places : List Kind → List ℕ → Bool
 are_places ks [] = true
 are_places ks (d ∷ ds) = is_free (at ks d) && (not (has ds d) && are_places ks ds)
 
--- One register for each of n results, asked behind the arguments where these fit.
+-- One register for each of n results, asked after the arguments where these fit.
 abbrev pub can_receive : Option (List Kind) → ℕ → List ℕ → Bool
 can_receive None n ds = true
 can_receive (Some left) n ds = (length ds == n) && are_places left ds

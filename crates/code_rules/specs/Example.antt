@@ -51,7 +51,7 @@ function_of results instrs label = record {
 abbrev pub code_of : Table → PlainFunction → PlainCode
 code_of w f = record { types = w; functions = f ∷ [] }
 
--- its instructions, with those of numbers 1 to 5 to be told
+-- its instructions, with those of numbers 1 to 5 to be reported
 abbrev pub rev_with : Instr → Instr → Instr → Instr → List Instr → List Instr
 rev_with one two three four rest = I.Test 0 0 3 ∷ one ∷ two ∷ three ∷ four ∷ rest
 
@@ -125,8 +125,8 @@ has_no_result =
 
 -- The rest of the list is peeked into register 4 before its cell is taken. Taken into register 3, it is Gone in
 -- register 4, and moving it from there is refused.
-abbrev pub reads_behind_a_take : PlainCode
-reads_behind_a_take =
+abbrev pub reads_after_a_take : PlainCode
+reads_after_a_take =
     of_instrs (rev_with nil_taken acc_given (I.Peek 4 0 1) cons_taken (I.Move 5 4 ∷ cons_put ∷ again))
 
 -- Taken into register 4 itself, it is owned there.

@@ -2,7 +2,7 @@
 --
 -- At a label the kinds of its map hold, whatever comes. Before instruction 0 the kinds at the entry are known. Before
 -- another without a label those are known that the one before it leaves, where that is as asked. So an instruction
--- behind Tail, Ret or Jump without a label is never reached, nor is one behind an instruction that breaks S1, S2 or S3,
+-- after Tail, Ret or Jump without a label is never reached, nor is one after an instruction that breaks S1, S2 or S3,
 -- up to the next label.
 use Rattle.std.specs.Prelude.{◌≡◌, ◌⊎◌, ℕ, zero, suc, Bool, true, ◌&&◌, List, Option, Some, None, slice_get}
 use Rattle.cell_code.specs.declared.code.Instr.{Instr}

@@ -69,7 +69,7 @@ abbrev pub kept_if : Bool → List Kind → Option (List Kind)
 kept_if true left = Some left
 kept_if false left = None
 
--- What is left of the registers behind the arguments of a call of function g, where they fit.
+-- What is left of the registers after the arguments of a call of function g, where they fit.
 abbrev pub arguments : PlainCode → Bool → List Kind → ℕ → List ℕ → Option (List Kind)
 arguments c tail ks g rs =
     if length rs == length (params c g) + length (credits c g) then

@@ -4,7 +4,7 @@
 -- 2. Else, where that register was lent as field i of r, it owns the field, with the constructors that it was known to
 --    have, and a from that names it stays. It is an heir. Each register that is none of the ds and that reached it
 --    through its from, directly or through further froms, gets it as root.
--- 3. Any other register of the ds gets what the field's type tells.
+-- 3. Any other register of the ds gets what the field's type reports.
 -- 4. Every other register with root r is Gone.
 -- 5. r is a credit of the number of fields, or Gone where there is none.
 --
@@ -48,7 +48,7 @@ is_heir_by w r k (Some p) = not (is_scalar_type w p.ty) && is_field r p.field (f
 abbrev pub is_heir : Table → List Kind → ℕ → (ℕ → Option Part) → ℕ → Bool
 is_heir w ks r parts q = is_heir_by w r (at ks q) (parts q)
 
--- Behind a from, n further froms lead to register d, which is the first heir that they meet.
+-- After a from, n further froms lead to register d, which is the first heir that they meet.
 abbrev pub Chain : List Kind → (ℕ → Bool) → ℕ → Option From → ℕ → Type 0
 Chain ks heir zero None d = ⊥
 Chain ks heir (suc n) None d = ⊥
@@ -105,7 +105,7 @@ abbrev pub part_or : Table → ℕ → Kind → Option Part → Kind → Kind
 part_or w r k None other = other
 part_or w r k (Some p) other = part_kind w r k p
 
--- all registers behind the Take of a cell of so many fields, by the heirs that they reach
+-- all registers after the Take of a cell of so many fields, by the heirs that they reach
 abbrev pub taken : Table → List Kind → ℕ → (ℕ → Option Part) → ℕ → (ℕ → Option ℕ) → List Kind
 taken w ks r parts size reached =
     become ks (λ q. part_or w r (at ks q) (parts q)

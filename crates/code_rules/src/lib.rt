@@ -1,4 +1,4 @@
-// What sound code is: the definition that a verifier meets. It stands in specs/; its laws are in `laws`.
+// What sound code is: the definition that a verifier meets. It stands in specs/; its theorems are in `theorems`.
 #![tactic(auto)]
 
 mod rule;

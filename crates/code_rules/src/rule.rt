@@ -8,7 +8,7 @@ pub enum SoundRule {
     /// without constructors or without a finite value; a type's number that isn't there in the table; more than 16
     /// fields; two constructors of one name in a type; two functions of one name that isn't empty.
     S0,
-    /// A register, a type, a constructor or a function that isn't there; a target that isn't behind the instruction,
+    /// A register, a type, a constructor or a function that isn't there; a target that isn't after the instruction,
     /// isn't in the function, or has no label.
     S1,
     /// A source, a field's number, the arguments or a tail call's results aren't as the instruction asks.

@@ -1,4 +1,4 @@
-// The laws of sound code. Each is the contract of a function that does nothing.
+// The theorems of sound code. Each is the contract of a function that does nothing.
 ghost use Rattle.std.specs.Prelude.{◌≡◌, ◌↔◌, ℕ, List, Option, Some};
 ghost use Rattle.cell_code.specs.fip_base.declared.plain.Stack.{Stack};
 ghost use Rattle.cell_code.specs.declared.code.Instr.{Instr};
@@ -14,7 +14,7 @@ ghost use Rattle.code_rules.specs.declared.rule.SoundRule.TheVariants.{S0, S1, S
 ghost use Rattle.code_rules.specs.Breaks.{IsLeast, IsSound};
 ghost use Rattle.code_rules.specs.Example.{reversal, bool_is_turned, takes_past_the_end, gives_what_is_gone};
 ghost use Rattle.code_rules.specs.Example.{puts_into_a_tree, has_no_end, promises_an_int, leaves_a_tree, drops_a_tree};
-ghost use Rattle.code_rules.specs.Example.{waits_for_itself, has_no_result, reads_behind_a_take};
+ghost use Rattle.code_rules.specs.Example.{waits_for_itself, has_no_result, reads_after_a_take};
 ghost use Rattle.code_rules.specs.Example.{takes_an_heir, BreaksJust};
 ghost use Rattle.code_rules.specs.StackNumbers.{HasStack};
 
@@ -30,25 +30,25 @@ pub fn kinds_are_one()
 
 /// A code has one least violation at most. For who names it.
 pub fn the_least_violation_is_one()
-    ensures law { (c : PlainCode) (n i : ℕ) (r : SoundRule) (m j : ℕ) (s : SoundRule) → IsLeast c n i r →
+    ensures theorem { (c : PlainCode) (n i : ℕ) (r : SoundRule) (m j : ℕ) (s : SoundRule) → IsLeast c n i r →
         IsLeast c m j s → (n ≡ m) × (i ≡ j) × (r ≡ s) }
 {}
 
 /// A function has one stack number at most, and then it isn't one that has none. For who reserves the stack of a run.
 #[tactic(auto, using(crate::proofs::Numbers::has_once))]
 pub fn a_stack_number_is_one()
-    ensures law { (c : PlainCode) (n : ℕ) (o p : Option Stack) → HasStack c n o → HasStack c n p → o ≡ p }
+    ensures theorem { (c : PlainCode) (n : ℕ) (o p : Option Stack) → HasStack c n o → HasStack c n p → o ≡ p }
 {}
 
 /// Where rows list the calls of a code, its groups are those of the rows. For who finds groups by rows.
 pub fn groups_are_those_of_rows()
-    ensures law { (c : PlainCode) (rows : List (List Call)) → AreRows c rows → (a b : ℕ) →
+    ensures theorem { (c : PlainCode) (rows : List (List Call)) → AreRows c rows → (a b : ℕ) →
         (SameGroup c a b ↔ G.SameGroup rows a b) }
 {}
 
 /// The reversal of a list breaks no rule. For who doubts that there is sound code.
 pub fn an_example_is_sound()
-    ensures law { IsSound reversal }
+    ensures theorem { IsSound reversal }
 {}
 
 /// A code that differs from the reversal in one place breaks just the rule that speaks of it, at one instruction. For
@@ -75,11 +75,11 @@ pub fn other_turned_examples_break_one_rule()
 /// A word that was read from a cell is Gone once the cell is taken into other registers, and owned where it is taken
 /// into the word's own. For who reads After Take.
 pub fn what_was_read_goes_with_its_cell()
-    ensures lost { BreaksJust reads_behind_a_take 5 S2 }
+    ensures lost { BreaksJust reads_after_a_take 5 S2 }
     ensures kept { IsSound takes_an_heir }
 {}
 
 /// The reversal holds no frame but its own, of 9 words. For who wants to see a stack number.
 pub fn an_example_has_its_stack_number()
-    ensures law { HasStack reversal 0 (Some (record { frames = 0; words = 9 })) }
+    ensures theorem { HasStack reversal 0 (Some (record { frames = 0; words = 9 })) }
 {}

@@ -1,4 +1,4 @@
-// The laws of the bounds on code. Each is the contract of a function that does nothing.
+// The theorems of the bounds on code. Each is the contract of a function that does nothing.
 ghost use Rattle.std.specs.Prelude.{◌≡◌, ◌<◌, ℕ};
 ghost use Rattle.match_cover.specs.fip_language.Table.{Table};
 ghost use Rattle.match_cover.specs.fip_trees.Tree.{Instance};
@@ -9,7 +9,7 @@ ghost use Rattle.code_size.specs.Bounds.{most_instructions, most_labels};
 /// An instance has a place of its own, so its code may have an instruction. For who bounds a code file.
 #[tactic(auto, using(crate::proofs::Room::some_instruction))]
 pub fn an_instance_has_room()
-    ensures law { (types : Table) (d : Instance) → 0 < most_instructions types d }
+    ensures theorem { (types : Table) (d : Instance) → 0 < most_instructions types d }
 {}
 
 /// The reversal of a list has 17 places, so its code has at most 6,256 instructions and 136 label maps; two clauses on

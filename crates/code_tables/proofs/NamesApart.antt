@@ -52,9 +52,9 @@ first_passes counts met m ns e a = record { new = new; once = once }
     once (suc i) zero n h g c = absurd (not_first n (same_Some m n g) c)
     once (suc i) (suc j) n h g c = ap suc (a.once i j n h g c)
 
-pub apart_tells : (counts met : List ℕ → Bool) (ns : List (List ℕ)) → apart counts met ns ≡ true → AreApart counts met ns
-apart_tells counts met [] e = record { new = λ i n h c. absurd (none-some n h); once = λ i j n h g c. absurd (none-some n h) }
-apart_tells counts met (m ∷ ns) e = at (counts m) refl (λ f. apart_tells counts (also_met met m) ns f) (λ f. apart_tells counts met ns f) e
+pub apart_reports : (counts met : List ℕ → Bool) (ns : List (List ℕ)) → apart counts met ns ≡ true → AreApart counts met ns
+apart_reports counts met [] e = record { new = λ i n h c. absurd (none-some n h); once = λ i j n h g c. absurd (none-some n h) }
+apart_reports counts met (m ∷ ns) e = at (counts m) refl (λ f. apart_reports counts (also_met met m) ns f) (λ f. apart_reports counts met ns f) e
   where
     at : (b : Bool) → counts m ≡ b → (apart counts (also_met met m) ns ≡ true → AreApart counts (also_met met m) ns) → (apart counts met ns ≡ true → AreApart counts met ns) → (if b then (not (met m) && apart counts (also_met met m) ns) else apart counts met ns) ≡ true → AreApart counts met (m ∷ ns)
     at true h next rest f = (let p = and_parts (not (met m)) (apart counts (also_met met m) ns) f in first_counts counts met m ns (not-true (met m) p.0) (next p.1))
@@ -87,9 +87,9 @@ cond_or : (a b : Bool) → cond a true b ≡ (a || b)
 cond_or true b = refl
 cond_or false b = refl
 
--- what a set has behind an insertion
-pub met_behind : (bs : List ℕ) (s n : sorted.BTreeSet (Bor (List ℕ))) → sorted.UpdatesBy (λ x y. slice_cmp nat_cmp x.now y.now) (λ k. slice_cmp nat_cmp bs k.now) s n true → (cs : List ℕ) → met_in n cs ≡ also_met (met_in s) bs cs
-met_behind bs s n u cs =
+-- what a set has after an insertion
+pub met_after : (bs : List ℕ) (s n : sorted.BTreeSet (Bor (List ℕ))) → sorted.UpdatesBy (λ x y. slice_cmp nat_cmp x.now y.now) (λ k. slice_cmp nat_cmp bs k.now) s n true → (cs : List ℕ) → met_in n cs ≡ also_met (met_in s) bs cs
+met_after bs s n u cs =
     u.0 (record { ref_ptr = (0, 0); now = cs })
     ∙ ap (λ t. cond t true (met_in s cs)) (is_eq-slice_cmp bs cs)
     ∙ cond_or (bytes_eq bs cs) (met_in s cs)

@@ -57,38 +57,38 @@ target_broken c f i ks x r g e =
     let a = arrived f.labels (jumps ks x) (is_asked c f ks x) e in
     label_broken c f i a.0.target a.0.kinds (record { kinds = ks; instr = x; reached = r; asked = and_from (in_range c f i x) (is_asked c f ks x) g a.2; goes = inr (jumps_is ks x a.0 a.1) }) a.3
 
-row_tells : (c : PlainCode) (f : PlainFunction) (i : ℕ) (ks : List Kind) (x : Instr) (r : SoundRule) → IsReachedAt c f i ks x → in_range c f i x ≡ true → InKept r (row_kept c f ks x) → BreaksAlone c f i r
-row_tells c f i ks x r q g (inl p) = subst (BreaksAlone c f i) (sym p.1) (broken p.0)
+row_reports : (c : PlainCode) (f : PlainFunction) (i : ℕ) (ks : List Kind) (x : Instr) (r : SoundRule) → IsReachedAt c f i ks x → in_range c f i x ≡ true → InKept r (row_kept c f ks x) → BreaksAlone c f i r
+row_reports c f i ks x r q g (inl p) = subst (BreaksAlone c f i) (sym p.1) (broken p.0)
   where
     broken : sources c f ks x ≡ false → BreaksSource c f i
     broken e = record { kinds = ks; instr = x; reached = q; ranged = g; breaks = e }
-row_tells c f i ks x r q g (inr (inl p)) = subst (BreaksAlone c f i) (sym p.1) (broken p.0)
+row_reports c f i ks x r q g (inr (inl p)) = subst (BreaksAlone c f i) (sym p.1) (broken p.0)
   where
     broken : destinations c ks x ≡ false → BreaksDestination c f i
     broken e = record { kinds = ks; instr = x; reached = q; ranged = g; breaks = e }
-row_tells c f i ks x r q g (inr (inr (inl p))) = subst (BreaksAlone c f i) (sym p.1) (target_broken c f i ks x q g p.0)
-row_tells c f i ks x r q g (inr (inr (inr (inl p)))) = subst (BreaksAlone c f i) (sym p.1) (broken p.0)
+row_reports c f i ks x r q g (inr (inr (inl p))) = subst (BreaksAlone c f i) (sym p.1) (target_broken c f i ks x q g p.0)
+row_reports c f i ks x r q g (inr (inr (inr (inl p)))) = subst (BreaksAlone c f i) (sym p.1) (broken p.0)
   where
     broken : spends_all c f ks x ≡ false → BreaksEnd c f i
     broken e = record { kinds = ks; instr = x; reached = q; ranged = g; breaks = e }
-row_tells c f i ks x r q g (inr (inr (inr (inr p)))) = absurd p
+row_reports c f i ks x r q g (inr (inr (inr (inr p)))) = absurd p
 
-ranged_tells : (c : PlainCode) (f : PlainFunction) (i : ℕ) (ks : List Kind) (x : Instr) (r : SoundRule) (b : Bool) → IsReachedAt c f i ks x → in_range c f i x ≡ b → InKept r (if b then row_kept c f ks x else []) → BreaksAlone c f i r
-ranged_tells c f i ks x r true q g p = row_tells c f i ks x r q g p
-ranged_tells c f i ks x r false q g p = absurd p
+ranged_reports : (c : PlainCode) (f : PlainFunction) (i : ℕ) (ks : List Kind) (x : Instr) (r : SoundRule) (b : Bool) → IsReachedAt c f i ks x → in_range c f i x ≡ b → InKept r (if b then row_kept c f ks x else []) → BreaksAlone c f i r
+ranged_reports c f i ks x r true q g p = row_reports c f i ks x r q g p
+ranged_reports c f i ks x r false q g p = absurd p
 
-pub known_tells : (c : PlainCode) (f : PlainFunction) (i : ℕ) (ks : List Kind) (x : Instr) (r : SoundRule) → KnownAt c f i ks → IsInstr f i x → InKept r (known_kept c f i ks x) → BreaksAlone c f i r
-known_tells c f i ks x r kn is (inl p) = subst (BreaksAlone c f i) (sym p.1) (range_broken c f i x is p.0)
-known_tells c f i ks x r kn is (inr (inl p)) = subst (BreaksAlone c f i) (sym p.1) (last_broken c f i ks x (reached c f i ks x kn is) p.0)
-known_tells c f i ks x r kn is (inr (inr (inl p))) = subst (BreaksAlone c f i) (sym p.1) (fip_broken c f i ks x (reached c f i ks x kn is) p.0)
-known_tells c f i ks x r kn is (inr (inr (inr p))) = ranged_tells c f i ks x r (in_range c f i x) (reached c f i ks x kn is) refl p
+pub known_reports : (c : PlainCode) (f : PlainFunction) (i : ℕ) (ks : List Kind) (x : Instr) (r : SoundRule) → KnownAt c f i ks → IsInstr f i x → InKept r (known_kept c f i ks x) → BreaksAlone c f i r
+known_reports c f i ks x r kn is (inl p) = subst (BreaksAlone c f i) (sym p.1) (range_broken c f i x is p.0)
+known_reports c f i ks x r kn is (inr (inl p)) = subst (BreaksAlone c f i) (sym p.1) (last_broken c f i ks x (reached c f i ks x kn is) p.0)
+known_reports c f i ks x r kn is (inr (inr (inl p))) = subst (BreaksAlone c f i) (sym p.1) (fip_broken c f i ks x (reached c f i ks x kn is) p.0)
+known_reports c f i ks x r kn is (inr (inr (inr p))) = ranged_reports c f i ks x r (in_range c f i x) (reached c f i ks x kn is) refl p
 
-pub unknown_tells : (c : PlainCode) (f : PlainFunction) (i : ℕ) (x : Instr) (r : SoundRule) → IsInstr f i x → in_range c f i x ≡ false → r ≡ S1 → BreaksAlone c f i r
-unknown_tells c f i x r is e s = subst (BreaksAlone c f i) (sym s) (range_broken c f i x is e)
+pub unknown_reports : (c : PlainCode) (f : PlainFunction) (i : ℕ) (x : Instr) (r : SoundRule) → IsInstr f i x → in_range c f i x ≡ false → r ≡ S1 → BreaksAlone c f i r
+unknown_reports c f i x r is e s = subst (BreaksAlone c f i) (sym s) (range_broken c f i x is e)
 
-pub next_tells : (c : PlainCode) (f : PlainFunction) (i : ℕ) (ks : List Kind) (x : Instr) (goes : Bool) (left : List Kind) (r : SoundRule) → KnownAt c f i ks → IsInstr f i x → GoesFrom c f i ks x goes left → fits_next f i goes left ≡ false → r ≡ S5 → BreaksAlone c f i r
-next_tells c f i ks x true left r kn is g e s = subst (BreaksAlone c f i) (sym s) (label_broken c f i (i + 1) left (record { kinds = ks; instr = x; reached = reached c f i ks x kn is; asked = g.0; goes = inl (omega arith, g.1) }) e)
-next_tells c f i ks x false left r kn is g e s = absurd (true≢false e)
+pub next_reports : (c : PlainCode) (f : PlainFunction) (i : ℕ) (ks : List Kind) (x : Instr) (goes : Bool) (left : List Kind) (r : SoundRule) → KnownAt c f i ks → IsInstr f i x → GoesFrom c f i ks x goes left → fits_next f i goes left ≡ false → r ≡ S5 → BreaksAlone c f i r
+next_reports c f i ks x true left r kn is g e s = subst (BreaksAlone c f i) (sym s) (label_broken c f i (i + 1) left (record { kinds = ks; instr = x; reached = reached c f i ks x kn is; asked = g.0; goes = inl (omega arith, g.1) }) e)
+next_reports c f i ks x false left r kn is g e s = absurd (true≢false e)
 
 -- ---- what is broken is found
 

@@ -1,4 +1,4 @@
--- What a function's form tells, part by part.
+-- What a function's form reports, part by part.
 use Rattle.std.proofs.Common.{◌≡◌, ℕ, zero, suc, ◌+◌, ◌<◌, ◌≤◌, Bool, true, ◌&&◌, not, List, [], ◌∷◌, length, map, Some, slice_get, ◌==◌, sym, subst, true≢false, arith}
 use Rattle.std.specs.Prelude.{nat_lt}
 use Rattle.std.proofs.lemmas.Bool.{and_parts, not-true, ltb-true, ltb-false}

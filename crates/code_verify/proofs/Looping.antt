@@ -25,7 +25,7 @@ function_same f maps e = ap (with_maps (plain_function f)) e
 pub entry_same : (code : Code) (w : Table) (f : PlainFunction) → w ≡ code.types → entry (of_types w) f ≡ entry (plain code) f
 entry_same code w f e = ap (λ v. entry (of_types v) f) e
 
--- what is known and found behind a turn
+-- what is known and found after a turn
 pub record IsTurned (c : PlainCode) (n : ℕ) (f : PlainFunction) (i : ℕ) (cur : Option (List Kind)) (r : Found) : Type 0 where
   pub coming : Coming c f i cur
   pub found : IsFound c n f i r

@@ -109,8 +109,8 @@ answers_own (w ∷ ws) P p n o a = answers_same (OrOwn One p n ws) (OrOwn P p n 
 
 -- ---- one function more
 
-group_tells : (c : PlainCode) (n i g : ℕ) (f : PlainFunction) → function_at c n ≡ Some f → is_fip f.kind ≡ true → CallsAt c n i g true → SameGroup c n g → BreaksOwn c n i S8
-group_tells c n i g f is fip a s = (f, is, formed, record { callee = g; calls = a; fip = fip; breaks = s }, refl)
+group_reports : (c : PlainCode) (n i g : ℕ) (f : PlainFunction) → function_at c n ≡ Some f → is_fip f.kind ≡ true → CallsAt c n i g true → SameGroup c n g → BreaksOwn c n i S8
+group_reports c n i g f is fip a s = (f, is, formed, record { callee = g; calls = a; fip = fip; breaks = s }, refl)
   where
     formed : is_formed c f ≡ true
     formed = ap (is_formed c) (same_Some f a.function (sym is ∙ a.is)) ∙ a.formed
@@ -126,7 +126,7 @@ own_more c all n f p cs ws ds o e l is fip a q x = answers_same (OrOwn (OwnBelow
     there m i r (inl (inr y)) = (let k = y.0 in inr (omega (arith, k), y.1))
     there m i r (inr y) =
         let k = y.0 in
-        let t : BreaksOwn c n i S8 = group_tells c n i y.2.0 f is fip (((a.rows n l).waiting_are i y.2.0).0 y.2.1) ((group n y.2.0).0 (sym y.2.2)) in
+        let t : BreaksOwn c n i S8 = group_reports c n i y.2.0 f is fip (((a.rows n l).waiting_are i y.2.0).0 y.2.1) ((group n y.2.0).0 (sym y.2.2)) in
         inr (omega (arith, k), subst (λ j. BreaksOwn c j i r) (sym k) (subst (λ s. BreaksOwn c n i s) (sym y.1) t))
 
     back : (m i : ℕ) (r : SoundRule) → OwnBelow c all (suc n) m i r → OrOwn (OwnBelow c all n) p n (row_at ws n) m i r

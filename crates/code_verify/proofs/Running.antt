@@ -37,7 +37,7 @@ use Rattle.code_verify.specs.Surveying.{Flows}
 use Rattle.code_verify.proofs.Forms.{IsForm, form_of}
 use Rattle.code_verify.proofs.StackNumbers.{fip_calls_fip}
 
--- ---- what no rule that is broken tells
+-- ---- what no rule that is broken reports
 
 pub record IsReachedSoundly (c : PlainCode) (n : ℕ) (f : PlainFunction) (i : ℕ) (ks : List Kind) (x : Instr) : Type 0 where
   pub known : KnownAt c f i ks

@@ -56,7 +56,7 @@ pub found_formed : (c : PlainCode) (n : ℕ) (f : PlainFunction) (r : Found) →
 found_formed c n f r is formed a fit = record {
   least = answers_same (BrokenBelow c n f (length f.instrs)) (λ m i rule. (m ≡ n) × BreaksOther c n i rule) r.least.first (λ m i q p. (p.0, (f, is, inr (formed, p.2)))) back a.least;
   row = record {
-    calls_are = λ g w. (λ m. calls_tell g w ((a.calls g w).0 m), λ q. (a.calls g w).1 (calls_from g w q));
+    calls_are = λ g w. (λ m. calls_report g w ((a.calls g w).0 m), λ q. (a.calls g w).1 (calls_from g w q));
     waiting_are = λ i g. (λ m. call_at c n f i g true is formed ((a.waiting i g).0 m).1, λ q. (a.waiting i g).1 (at_call c n f i g true is q));
     drops_are = λ i t. (λ m. (f, is, formed, ((a.drops i t).0 m).1), λ q. (a.drops i t).1 (drops_from i t q));
     in_order = a.in_order;
@@ -75,8 +75,8 @@ found_formed c n f r is formed a fit = record {
         by (inl x) = absurd (true≢false (sym formed ∙ (ap (is_formed c) (sym same) ∙ x.0)))
         by (inr x) = (let b : BreaksAlone c f i q = subst (λ h. BreaksAlone c h i q) same x.1 in (p.0, alone_within c f i q b, b))
 
-    calls_tell : (g : ℕ) (w : Bool) → (i : ℕ) × (i < length f.instrs) × ReachedCall c f i g w → Calls c n g w
-    calls_tell g w q = (q.0, call_at c n f q.0 g w is formed q.2)
+    calls_report : (g : ℕ) (w : Bool) → (i : ℕ) × (i < length f.instrs) × ReachedCall c f i g w → Calls c n g w
+    calls_report g w q = (q.0, call_at c n f q.0 g w is formed q.2)
 
     calls_from : (g : ℕ) (w : Bool) → Calls c n g w → (i : ℕ) × (i < length f.instrs) × ReachedCall c f i g w
     calls_from g w q = (let p = at_call c n f q.0 g w is q.1 in (q.0, p.0, p.1))

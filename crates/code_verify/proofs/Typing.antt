@@ -26,11 +26,11 @@ type_found ds p i d o e s t = (there, back)
         at (inr (inr h)) = (let l = o m.0 p (drops_at i t) d h m.1 e in absurd (omega (arith, l, s)))
 
 pub type_other : (ds : List DropType) (p i : ℕ) (d : DropType) → AreInOrder ds → ((j : ℕ) (q : DropType) → j < p → slice_get ds j ≡ Some q → q.at < i) → ((j : ℕ) (q : DropType) → p ≤ j → slice_get ds j ≡ Some q → i ≤ q.at) → slice_get ds p ≡ Some d → (d.at ≡ i → ⊥) → (t : ℕ) → (◌≡◌ {A = Option ℕ} None (Some t) ↔ In (drops_at i t) ds)
-type_other ds p i d o before behind e never t = (λ h. absurd (none-some t h), λ m. absurd (at m (cases_order p m.0)))
+type_other ds p i d o before following e never t = (λ h. absurd (none-some t h), λ m. absurd (at m (cases_order p m.0)))
   where
     at : (m : In (drops_at i t) ds) → (p ≡ m.0) ⊎ ((p < m.0) ⊎ (m.0 < p)) → ⊥
     at m (inl h) = never (ap (λ (q : DropType). q.at) (same_Some d (drops_at i t) (sym e ∙ (ap (slice_get ds) h ∙ m.1))))
-    at m (inr (inl h)) = (let l = o p m.0 d (drops_at i t) h e m.1 in let k = behind p d (omega arith) e in omega (arith, l, k))
+    at m (inr (inl h)) = (let l = o p m.0 d (drops_at i t) h e m.1 in let k = following p d (omega arith) e in omega (arith, l, k))
     at m (inr (inr h)) = (let l = before m.0 (drops_at i t) h m.1 in omega (arith, l))
 
 pub type_past : (ds : List DropType) (p i : ℕ) → ((j : ℕ) (q : DropType) → j < p → slice_get ds j ≡ Some q → q.at < i) → length ds ≤ p → (t : ℕ) → (◌≡◌ {A = Option ℕ} None (Some t) ↔ In (drops_at i t) ds)
@@ -48,8 +48,8 @@ before_middle ds i p k d o e l s j q h f = at (cases_order j p)
     at (inr (inl g)) = (let r = o j p q d g f e in omega (arith, r, l))
     at (inr (inr g)) = absurd (omega (arith, g, h, s))
 
-pub behind_middle : (ds : List DropType) (i p : ℕ) (d : DropType) → AreInOrder ds → slice_get ds p ≡ Some d → i ≤ d.at → (j : ℕ) (q : DropType) → p ≤ j → slice_get ds j ≡ Some q → i ≤ q.at
-behind_middle ds i p d o e l j q h f = at (cases_order p j)
+pub after_middle : (ds : List DropType) (i p : ℕ) (d : DropType) → AreInOrder ds → slice_get ds p ≡ Some d → i ≤ d.at → (j : ℕ) (q : DropType) → p ≤ j → slice_get ds j ≡ Some q → i ≤ q.at
+after_middle ds i p d o e l j q h f = at (cases_order p j)
   where
     at : (p ≡ j) ⊎ ((p < j) ⊎ (j < p)) → i ≤ q.at
     at (inl g) = (let r = ap (λ (v : DropType). v.at) (same_Some q d (sym f ∙ (ap (slice_get ds) (sym g) ∙ e))) in omega (arith, r, l))

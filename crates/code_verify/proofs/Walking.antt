@@ -27,7 +27,7 @@ use Rattle.code_verify.specs.Steps.{here, known_kept, fits_next, asked, GoesFrom
 use Rattle.code_verify.specs.Checked.{HasMachineInt, ReachedDrop}
 use Rattle.code_verify.specs.Finding.{BreaksAlone, ReachedCall, Coming, Knowing, BrokenBelow, AreInOrder, HasMachineIntsBelow, IsFound}
 use Rattle.code_verify.proofs.InstrFacts.{end_leaves, in_left, in_right, in_parts, in_nil, in_calls, calls_in, in_waiting, waiting_in, IsDropOf, in_drops, drops_in, drops_cases}
-use Rattle.code_verify.proofs.Breaking.{known_tells, unknown_tells, next_tells, known_finds, unknown_finds}
+use Rattle.code_verify.proofs.Breaking.{known_reports, unknown_reports, next_reports, known_finds, unknown_finds}
 use Rattle.fip_language.proofs.Facts.{less_or_same as below_or_at}
 use Rattle.code_verify.proofs.Breaking.{same_instr}
 
@@ -47,11 +47,11 @@ known_least c n f i ks x goes left o kn is g a =
 
     there : (m j : ℕ) (r : SoundRule) → OrKept (OrKept (BrokenBelow c n f i) n i (known_kept c f i ks x)) n i ((fits_next f i goes left, S5) ∷ []) m j r → BrokenBelow c n f (suc i) m j r
     there m j r (inl (inl p)) = (let l = p.1 in (p.0, omega (arith, l), p.2))
-    there m j r (inl (inr p)) = at_it m j r p.0 p.1 (known_tells c f i ks x r kn is p.2)
+    there m j r (inl (inr p)) = at_it m j r p.0 p.1 (known_reports c f i ks x r kn is p.2)
     there m j r (inr p) = at_it m j r p.0 p.1 (next p.2)
       where
         next : InKept r ((fits_next f i goes left, S5) ∷ []) → BreaksAlone c f i r
-        next (inl q) = next_tells c f i ks x goes left r kn is g q.0 q.1
+        next (inl q) = next_reports c f i ks x goes left r kn is g q.0 q.1
         next (inr q) = absurd q
 
     back : (m j : ℕ) (r : SoundRule) → BrokenBelow c n f (suc i) m j r → OrKept (OrKept (BrokenBelow c n f i) n i (known_kept c f i ks x)) n i ((fits_next f i goes left, S5) ∷ []) m j r
@@ -73,7 +73,7 @@ unknown_least c n f i x o never is a = answers_same (OrKept (BrokenBelow c n f i
     there m j r (inr p) = at p.1 p.2
       where
         at : j ≡ i → InKept r ((in_range c f i x, S1) ∷ []) → BrokenBelow c n f (suc i) m j r
-        at h (inl q) = (p.0, omega (arith, h), subst (λ k. BreaksAlone c f k r) (sym h) (unknown_tells c f i x r is q.0 q.1))
+        at h (inl q) = (p.0, omega (arith, h), subst (λ k. BreaksAlone c f k r) (sym h) (unknown_reports c f i x r is q.0 q.1))
         at h (inr q) = absurd q
 
     back : (m j : ℕ) (r : SoundRule) → BrokenBelow c n f (suc i) m j r → OrKept (BrokenBelow c n f i) n i ((in_range c f i x, S1) ∷ []) m j r
@@ -130,15 +130,15 @@ order_more ds i ks x o l = by (drops_cases ks i x)
 step_known : (c : PlainCode) (n : ℕ) (f : PlainFunction) (i : ℕ) (ks : List Kind) (x : Instr) (goes : Bool) (left : List Kind) (old new : Found) → KnownAt c f i ks → IsInstr f i x → GoesFrom c f i ks x goes left → TookKnown c n f i ks x goes left old new → IsFound c n f i old → IsFound c n f (suc i) new
 step_known c n f i ks x goes left old new kn is g t a = record {
   least = subst (Answers (BrokenBelow c n f (suc i))) (sym t.least) (known_least c n f i ks x goes left old.least.first kn is g a.least);
-  calls = λ h w. (calls_tell h w, calls_from h w);
-  waiting = λ j h. (waiting_tell j h, waiting_from j h);
-  drops = λ j u. (drops_tell j u, drops_from j u);
+  calls = λ h w. (calls_report h w, calls_from h w);
+  waiting = λ j h. (waiting_report j h, waiting_from j h);
+  drops = λ j u. (drops_report j u, drops_from j u);
   in_order = subst AreInOrder (sym t.drops) (order_more old.drops.items i ks x a.in_order drops_below);
   flows = flows;
 }
   where
-    calls_tell : (h : ℕ) (w : Bool) → In (call_to h w) new.calls.items → (j : ℕ) × (j < suc i) × ReachedCall c f j h w
-    calls_tell h w m = by (in_parts old.calls.items (calls_of_instr c x) (call_to h w) (subst (In (call_to h w)) t.calls m))
+    calls_report : (h : ℕ) (w : Bool) → In (call_to h w) new.calls.items → (j : ℕ) × (j < suc i) × ReachedCall c f j h w
+    calls_report h w m = by (in_parts old.calls.items (calls_of_instr c x) (call_to h w) (subst (In (call_to h w)) t.calls m))
       where
         by : In (call_to h w) old.calls.items ⊎ In (call_to h w) (calls_of_instr c x) → (j : ℕ) × (j < suc i) × ReachedCall c f j h w
         by (inl p) = (let r = (a.calls h w).0 p in let l = r.1 in (r.0, omega (arith, l), r.2))
@@ -151,8 +151,8 @@ step_known c n f i ks x goes left old new kn is g t a = record {
         by (inl l) = in_left old.calls.items (calls_of_instr c x) (call_to h w) ((a.calls h w).1 (r.0, l, r.2))
         by (inr e) = in_right old.calls.items (calls_of_instr c x) (call_to h w) (calls_in c x h w (call_here c f i h w x is (subst (λ j. ReachedCall c f j h w) e r.2)) r.2.there)
 
-    waiting_tell : (j h : ℕ) → In (waits_at j h) new.waiting.items → (j < suc i) × ReachedCall c f j h true
-    waiting_tell j h m = by (in_parts old.waiting.items (waiting_of_instr c i x) (waits_at j h) (subst (In (waits_at j h)) t.waiting m))
+    waiting_report : (j h : ℕ) → In (waits_at j h) new.waiting.items → (j < suc i) × ReachedCall c f j h true
+    waiting_report j h m = by (in_parts old.waiting.items (waiting_of_instr c i x) (waits_at j h) (subst (In (waits_at j h)) t.waiting m))
       where
         by : In (waits_at j h) old.waiting.items ⊎ In (waits_at j h) (waiting_of_instr c i x) → (j < suc i) × ReachedCall c f j h true
         by (inl p) = (let r = (a.waiting j h).0 p in let l = r.0 in (omega (arith, l), r.1))
@@ -165,8 +165,8 @@ step_known c n f i ks x goes left old new kn is g t a = record {
         by (inl l) = in_left old.waiting.items (waiting_of_instr c i x) (waits_at j h) ((a.waiting j h).1 (l, r.1))
         by (inr e) = in_right old.waiting.items (waiting_of_instr c i x) (waits_at j h) (subst (λ k. In (waits_at k h) (waiting_of_instr c i x)) (sym e) (waiting_in c i x h (call_here c f i h true x is (subst (λ k. ReachedCall c f k h true) e r.1)) r.1.there))
 
-    drops_tell : (j u : ℕ) → In (drops_at j u) new.drops.items → (j < suc i) × ReachedDrop c f j u
-    drops_tell j u m = by (in_parts old.drops.items (drops_of_instr ks i x) (drops_at j u) (subst (In (drops_at j u)) t.drops m))
+    drops_report : (j u : ℕ) → In (drops_at j u) new.drops.items → (j < suc i) × ReachedDrop c f j u
+    drops_report j u m = by (in_parts old.drops.items (drops_of_instr ks i x) (drops_at j u) (subst (In (drops_at j u)) t.drops m))
       where
         by : In (drops_at j u) old.drops.items ⊎ In (drops_at j u) (drops_of_instr ks i x) → (j < suc i) × ReachedDrop c f j u
         by (inl p) = (let r = (a.drops j u).0 p in let l = r.0 in (omega (arith, l), r.1))
@@ -202,15 +202,15 @@ step_known c n f i ks x goes left old new kn is g t a = record {
 step_unknown : (c : PlainCode) (n : ℕ) (f : PlainFunction) (i : ℕ) (x : Instr) (old new : Found) → ((ks : List Kind) → KnownAt c f i ks → ⊥) → IsInstr f i x → TookUnknown c n f i x old new → IsFound c n f i old → IsFound c n f (suc i) new
 step_unknown c n f i x old new never is t a = record {
   least = subst (Answers (BrokenBelow c n f (suc i))) (sym t.least) (unknown_least c n f i x old.least.first never is a.least);
-  calls = λ h w. (calls_tell h w, calls_from h w);
-  waiting = λ j h. (waiting_tell j h, waiting_from j h);
-  drops = λ j u. (drops_tell j u, drops_from j u);
+  calls = λ h w. (calls_report h w, calls_from h w);
+  waiting = λ j h. (waiting_report j h, waiting_from j h);
+  drops = λ j u. (drops_report j u, drops_from j u);
   in_order = subst AreInOrder (sym t.drops) a.in_order;
   flows = λ j qs y l r e h. flows j qs y r e h (below_or_at i j l);
 }
   where
-    calls_tell : (h : ℕ) (w : Bool) → In (call_to h w) new.calls.items → (j : ℕ) × (j < suc i) × ReachedCall c f j h w
-    calls_tell h w m = (let r = (a.calls h w).0 (subst (In (call_to h w)) t.calls m) in let l = r.1 in (r.0, omega (arith, l), r.2))
+    calls_report : (h : ℕ) (w : Bool) → In (call_to h w) new.calls.items → (j : ℕ) × (j < suc i) × ReachedCall c f j h w
+    calls_report h w m = (let r = (a.calls h w).0 (subst (In (call_to h w)) t.calls m) in let l = r.1 in (r.0, omega (arith, l), r.2))
 
     calls_from : (h : ℕ) (w : Bool) → (j : ℕ) × (j < suc i) × ReachedCall c f j h w → In (call_to h w) new.calls.items
     calls_from h w r = by (below_or_at i r.0 r.1)
@@ -219,8 +219,8 @@ step_unknown c n f i x old new never is t a = record {
         by (inl l) = subst (In (call_to h w)) (sym t.calls) ((a.calls h w).1 (r.0, l, r.2))
         by (inr e) = absurd (never r.2.kinds (subst (λ k. KnownAt c f k r.2.kinds) e r.2.reached.known))
 
-    waiting_tell : (j h : ℕ) → In (waits_at j h) new.waiting.items → (j < suc i) × ReachedCall c f j h true
-    waiting_tell j h m = (let r = (a.waiting j h).0 (subst (In (waits_at j h)) t.waiting m) in let l = r.0 in (omega (arith, l), r.1))
+    waiting_report : (j h : ℕ) → In (waits_at j h) new.waiting.items → (j < suc i) × ReachedCall c f j h true
+    waiting_report j h m = (let r = (a.waiting j h).0 (subst (In (waits_at j h)) t.waiting m) in let l = r.0 in (omega (arith, l), r.1))
 
     waiting_from : (j h : ℕ) → (j < suc i) × ReachedCall c f j h true → In (waits_at j h) new.waiting.items
     waiting_from j h r = by (below_or_at i j r.0)
@@ -229,8 +229,8 @@ step_unknown c n f i x old new never is t a = record {
         by (inl l) = subst (In (waits_at j h)) (sym t.waiting) ((a.waiting j h).1 (l, r.1))
         by (inr e) = absurd (never r.1.kinds (subst (λ k. KnownAt c f k r.1.kinds) e r.1.reached.known))
 
-    drops_tell : (j u : ℕ) → In (drops_at j u) new.drops.items → (j < suc i) × ReachedDrop c f j u
-    drops_tell j u m = (let r = (a.drops j u).0 (subst (In (drops_at j u)) t.drops m) in let l = r.0 in (omega (arith, l), r.1))
+    drops_report : (j u : ℕ) → In (drops_at j u) new.drops.items → (j < suc i) × ReachedDrop c f j u
+    drops_report j u m = (let r = (a.drops j u).0 (subst (In (drops_at j u)) t.drops m) in let l = r.0 in (omega (arith, l), r.1))
 
     drops_from : (j u : ℕ) → (j < suc i) × ReachedDrop c f j u → In (drops_at j u) new.drops.items
     drops_from j u r = by (below_or_at i j r.0)

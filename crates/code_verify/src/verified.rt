@@ -118,7 +118,7 @@ fn type_at(drops: &[DropType], at: usize) -> Option<u32>
 fn place_of(drops: &[DropType], at: usize) -> usize
     requires in_order { AreInOrder drops.now }
     ensures before { (j : ℕ) (d : DropType) → j < result → slice_get drops.now j ≡ Some d → d.at < at }
-    ensures behind { (j : ℕ) (d : DropType) → result ≤ j → slice_get drops.now j ≡ Some d → at ≤ d.at }
+    ensures following { (j : ℕ) (d : DropType) → result ≤ j → slice_get drops.now j ≡ Some d → at ≤ d.at }
     ensures within { result ≤ length drops.now }
 {
     let mut low = 0usize;

@@ -158,7 +158,7 @@ fn enter<'a>(place: &Place<'a>, registers: &mut Registers<'a>, known: bool) -> b
     }
 }
 
-// One instruction, where the kinds before it are known or not. Whether those behind it are.
+// One instruction, where the kinds before it are known or not. Whether those after it are.
 fn step<'a>(
     place: &Place<'a>,
     registers: &mut Registers<'a>,

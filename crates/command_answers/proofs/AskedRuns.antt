@@ -1,4 +1,4 @@
--- `exec` tells what the evaluation gives. A fip entry never lacks frames; another one has those of the room, since the
+-- `exec` reports what the evaluation gives. A fip entry never lacks frames; another one has those of the room, since the
 -- groups tell no stack number of it.
 use Rattle.std.proofs.Common.{◌≡◌, ◌≢◌, ◌∙◌, ◌<◌, ◌≤◌, ℕ, true, false, List, map, Option, Some, None, slice_get, sym, ap, subst, refl, arith}
 use Rattle.std.specs.Prelude.{Ok, Err}
@@ -40,8 +40,8 @@ use Rattle.command_library.specs.command_run.CodeRun.{words_for}
 use Rattle.command_library.specs.command_run.ExecAnswer as R
 use Rattle.command_library.proofs.command_run.Entry.{IsRootAt, root_at}
 use Rattle.command_library.proofs.command_run.ExecOnce.{answers_alike, member_at, same_answer}
-use Rattle.command_answers.specs.Asked.{Asked, answer_of, GivesWith, TrapsWith, Prints, TellsTrap, Suffices}
-use Rattle.command_answers.specs.Exec.{End, Start, Running, TellsRun, running, frames_for, run_of, words_of, Execs, Misspelt, Small, Ran}
+use Rattle.command_answers.specs.Asked.{Asked, answer_of, GivesWith, TrapsWith, Prints, ReportsTrap, Suffices}
+use Rattle.command_answers.specs.Exec.{End, Start, Running, ReportsRun, running, frames_for, run_of, words_of, Execs, Misspelt, Small, Ran}
 use Rattle.command_answers.proofs.AskedEntry.{entry, means}
 
 -- ---- frames
@@ -68,14 +68,14 @@ module _ (source name : List ℕ) (s : Start source name) where
   abbrev own : (m : Member) × (slice_get s.members root.place ≡ Some m)
   own = member_at p.instances s.members root.place y.root (s.found).size root.there
 
-  -- its member tells the same
-  told_own : (b : Stack) → s.bound ≡ Some b → (own.0).stack ≡ Some b
-  told_own b is = sym (s.told s.members s.found root.place own.0 root.there own.1) ∙ is
+  -- its member reports the same
+  reported_own : (b : Stack) → s.bound ≡ Some b → (own.0).stack ≡ Some b
+  reported_own b is = sym (s.reported s.members s.found root.place own.0 root.there own.1) ∙ is
 
-  -- only of a fip entry it is told
-  told_of_fip : (b : Stack) → s.bound ≡ Some b → (y.root).kind ≡ Fip
-  told_of_fip b is =
-      let there : slice_get (map stack s.members) root.place ≡ Some (Some b) = slice_get-map stack s.members root.place own.0 own.1 ∙ ap Some (told_own b is) in
+  -- only of a fip entry it is reported
+  reported_of_fip : (b : Stack) → s.bound ≡ Some b → (y.root).kind ≡ Fip
+  reported_of_fip b is =
+      let there : slice_get (map stack s.members) root.place ≡ Some (Some b) = slice_get-map stack s.members root.place own.0 own.1 ∙ ap Some (reported_own b is) in
       let stacks = (s.found).stacks (fip_calls source p y.accepted.tailed.credited.owned) in
       let f = stacks.none root.place b there in
       let framed : frame y.root ≡ Some f.0 = same_Some (frame y.root) (Some f.0) (sym (slice_get-map frame p.instances root.place y.root root.there) ∙ f.1) in
@@ -95,7 +95,7 @@ module _ (source name : List ℕ) (s : Start source name) where
     shallow : (b : Stack) → s.bound ≡ Some b → R.answer_of y vs calls b.frames ≢ Deep
     shallow b is =
         let types : HaveTypes p.types (parameter_types y.root) vs = input_typed p.types (parameter_types y.root) (characters input) vs spelt in
-        let place = accepted_in_place source p s.members root.place y.root own.0 b vs calls b.frames y.accepted s.found root.there (told_of_fip b is) own.1 (told_own b is) types (omega arith) in
+        let place = accepted_in_place source p s.members root.place y.root own.0 b vs calls b.frames y.accepted s.found root.there (reported_of_fip b is) own.1 (reported_own b is) types (omega arith) in
         let never : (flat_meaning p root.place vs calls b.frames).answer ≢ Deep = no_want p.types y.root vs (flat_meaning p root.place vs calls b.frames).answer place.ends in
         λ deep. never (meant b.frames ∙ deep)
 
@@ -107,15 +107,15 @@ module _ (source name : List ℕ) (s : Start source name) where
         by None is = subst (λ o. R.answer_of y vs calls (frames_of room o) ≢ Deep) (sym is) ne
         by (Some b) is = subst (λ o. R.answer_of y vs calls (frames_of room o) ≢ Deep) (sym is) (shallow b is)
 
--- ---- what is told
+-- ---- what is reported
 
-given_told : (r : Running) (us vs : Values) (calls frames left : ℕ) (peak : Peak) (x : Answer) (e : End) → x ≡ Gives vs left → TellsRun r us calls frames false peak x e → e ≡ Ok (printed_lines r.types (r.instance).results vs)
-given_told r us vs calls frames left peak x e is h =
-    let told : TellsRun r us calls frames false peak (Gives vs left) e = subst (λ z. TellsRun r us calls frames false peak z e) is h in
-    told ∙ ap Ok (append_none (printed_lines r.types (r.instance).results vs))
+given_reported : (r : Running) (us vs : Values) (calls frames left : ℕ) (peak : Peak) (x : Answer) (e : End) → x ≡ Gives vs left → ReportsRun r us calls frames false peak x e → e ≡ Ok (printed_lines r.types (r.instance).results vs)
+given_reported r us vs calls frames left peak x e is h =
+    let reported : ReportsRun r us calls frames false peak (Gives vs left) e = subst (λ z. ReportsRun r us calls frames false peak z e) is h in
+    reported ∙ ap Ok (append_none (printed_lines r.types (r.instance).results vs))
 
-trap_told : (r : Running) (us : Values) (calls frames line col : ℕ) (kind : TrapKind) (peak : Peak) (x : Answer) (e : End) → x ≡ Trap kind line col → TellsRun r us calls frames false peak x e → e ≡ Err (F.Trap kind line col)
-trap_told r us calls frames line col kind peak x e is h = subst (λ z. TellsRun r us calls frames false peak z e) is h
+trap_reported : (r : Running) (us : Values) (calls frames line col : ℕ) (kind : TrapKind) (peak : Peak) (x : Answer) (e : End) → x ≡ Trap kind line col → ReportsRun r us calls frames false peak x e → e ≡ Err (F.Trap kind line col)
+trap_reported r us calls frames line col kind peak x e is h = subst (λ z. ReportsRun r us calls frames false peak z e) is h
 
 -- ---- the run
 
@@ -173,14 +173,14 @@ trap_not_deep kind line col e = cc
 pub exec_prints : (a : Asked) (room : Room) (least : ℕ) (vs : Values) (e : End) → GivesWith a room.calls least vs → Suffices a least room → Execs a.source a.name a.input room false e → Prints a vs e
 exec_prints a room least vs _ gives enough (Misspelt other at place) = absurd (misspelt a room other at place)
 exec_prints a room least vs _ gives enough (Small other us spelt less) = absurd (not_small a room other us spelt less enough.words)
-exec_prints a room least vs e gives enough (Ran s us _ spelt fits told) =
+exec_prints a room least vs e gives enough (Ran s us _ spelt fits reported) =
     let g = gives room.frames enough.frames in
     let is : (run_of s us room).answer ≡ Gives vs g.left = run_means a room s us spelt (Gives vs g.left) g.is (gives_not_deep vs g.left) in
-    given_told (running s) us vs room.calls (frames_for s room) g.left (run_of s us room).peak (run_of s us room).answer e is told ∙ ap Ok (lines_alike a room s us spelt vs)
+    given_reported (running s) us vs room.calls (frames_for s room) g.left (run_of s us room).peak (run_of s us room).answer e is reported ∙ ap Ok (lines_alike a room s us spelt vs)
 
-pub exec_traps : (a : Asked) (room : Room) (least : ℕ) (kind : TrapKind) (line col : ℕ) (e : End) → TrapsWith a room.calls least kind line col → Suffices a least room → Execs a.source a.name a.input room false e → TellsTrap kind line col e
+pub exec_traps : (a : Asked) (room : Room) (least : ℕ) (kind : TrapKind) (line col : ℕ) (e : End) → TrapsWith a room.calls least kind line col → Suffices a least room → Execs a.source a.name a.input room false e → ReportsTrap kind line col e
 exec_traps a room least kind line col _ traps enough (Misspelt other at place) = absurd (misspelt a room other at place)
 exec_traps a room least kind line col _ traps enough (Small other us spelt less) = absurd (not_small a room other us spelt less enough.words)
-exec_traps a room least kind line col e traps enough (Ran s us _ spelt fits told) =
+exec_traps a room least kind line col e traps enough (Ran s us _ spelt fits reported) =
     let is : (run_of s us room).answer ≡ Trap kind line col = run_means a room s us spelt (Trap kind line col) (traps room.frames enough.frames) (trap_not_deep kind line col) in
-    trap_told (running s) us room.calls (frames_for s room) line col kind (run_of s us room).peak (run_of s us room).answer e is told
+    trap_reported (running s) us room.calls (frames_for s room) line col kind (run_of s us room).peak (run_of s us room).answer e is reported

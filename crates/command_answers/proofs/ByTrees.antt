@@ -1,6 +1,6 @@
 -- What is said of an entry by the runs of a code is what is said of it by trees.
 -- The idea: the code holds of the stack what the groups tell of the entry, so that both have the same frames and mean the
--- same; and the gauge of a run is told by the evaluation.
+-- same; and the gauge of a run is reported by the evaluation.
 use Rattle.std.proofs.Common.{◌≡◌, ◌∙◌, ◌+◌, ℕ, Bool, false, List, [], ◌∷◌, ◌++◌, ap, ap₂, subst, refl, arith}
 use Rattle.std.specs.Prelude.{Result, Ok, Err}
 use Rattle.command_library.specs.fip_language.declared.limits.TheConstants.{MOST_FIELDS}
@@ -45,14 +45,14 @@ gauge_is r vs us peak ss h =
     ap (λ (s : Stack). gauge_text (λ k. lowest k ss) (λ k. highest k ss) s r.bound) (ap₂ (λ f w. record { frames = f; words = w }) h.frames h.words)
     ∙ sizes_alike (λ k. lowest k ss) (lowest_of ps vs us) (λ k. highest k ss) (highest_of ks vs) h.lowest (λ k one. h.highest k one ∙ ap (λ n. cells_of_all k vs + n) (credits_counted k ks)) MOST_FIELDS (omega arith) (stack_lines (stack_of_peak peak) r.bound)
 
--- ---- what is told
+-- ---- what is reported
 
-tells_by_trees : (r : Running) (vs : Values) (calls frames : ℕ) (gauge : Bool) (peak : Peak) (behind : Values → List ℕ) (a : Answer) (e : End) → ((us : Values) (left : ℕ) → a ≡ Gives us left → behind us ≡ if_asked gauge (gauge_by_trees r vs us peak)) → R.TellsRun r.types (r.instance).results calls frames behind a e → X.TellsRun r vs calls frames gauge peak a e
-tells_by_trees r vs calls frames gauge peak behind (Gives us left) e same h = h ∙ ap (λ text. Ok (printed_lines r.types (r.instance).results us ++ text)) (same us left refl)
-tells_by_trees r vs calls frames gauge peak behind (Trap kind line col) e same h = h
-tells_by_trees r vs calls frames gauge peak behind Out e same h = h
-tells_by_trees r vs calls frames gauge peak behind Deep e same h = h
-tells_by_trees r vs calls frames gauge peak behind Stuck e same h = absurd h
+reports_by_trees : (r : Running) (vs : Values) (calls frames : ℕ) (gauge : Bool) (peak : Peak) (following : Values → List ℕ) (a : Answer) (e : End) → ((us : Values) (left : ℕ) → a ≡ Gives us left → following us ≡ if_asked gauge (gauge_by_trees r vs us peak)) → R.ReportsRun r.types (r.instance).results calls frames following a e → X.ReportsRun r vs calls frames gauge peak a e
+reports_by_trees r vs calls frames gauge peak following (Gives us left) e same h = h ∙ ap (λ text. Ok (printed_lines r.types (r.instance).results us ++ text)) (same us left refl)
+reports_by_trees r vs calls frames gauge peak following (Trap kind line col) e same h = h
+reports_by_trees r vs calls frames gauge peak following Out e same h = h
+reports_by_trees r vs calls frames gauge peak following Deep e same h = h
+reports_by_trees r vs calls frames gauge peak following Stuck e same h = absurd h
 
 module _ (source name : List ℕ) (y : Entry source name) (vs : Values) (room : Room) (gauge : Bool) (e : End) (k : RunsOn y vs room gauge e) where
   -- the entry, and what its code holds of the stack
@@ -64,21 +64,21 @@ module _ (source name : List ℕ) (y : Entry source name) (vs : Values) (room : 
         members = of.lowered.members;
         found = subst (λ (p : Program). AreMembers p.instances of.lowered.members) (accepted_once source of.program y.program of.accepted y.accepted) of.lowered.found;
         bound = (k.code).held;
-        told = k.bound;
+        reported = k.bound;
       }
 
-  pub told_by_trees : X.TellsAll (X.running started) vs room.calls (X.frames_for started room) gauge (X.run_of started vs room) e
-  told_by_trees =
+  pub reported_by_trees : X.ReportsAll (X.running started) vs room.calls (X.frames_for started room) gauge (X.run_of started vs room) e
+  reported_by_trees =
       let frames : ℕ = R.frames_for k.code room in
-      tells_by_trees (X.running started) vs room.calls frames gauge (R.peak_of y vs room.calls frames) (λ us. if_asked gauge (gauge_by_states (all_seen k.run) (k.code).held)) (R.answer_of y vs room.calls frames) e
+      reports_by_trees (X.running started) vs room.calls frames gauge (R.peak_of y vs room.calls frames) (λ us. if_asked gauge (gauge_by_states (all_seen k.run) (k.code).held)) (R.answer_of y vs room.calls frames) e
       (λ us left gives. ap (if_asked gauge) (gauge_is (X.running started) vs us (R.peak_of y vs room.calls frames) (all_seen k.run) (k.measured us left gives)))
-      k.told
+      k.reported
 
 pub exec_by_trees : (source name input : List ℕ) (room : Room) (gauge : Bool) (e : End) → R.Execs source name input room gauge e → X.Execs source name input room gauge e
 exec_by_trees source name input room gauge _ (R.Misspelt y at h) = X.Misspelt y at h
 exec_by_trees source name input room gauge _ (R.Small y vs h less) = X.Small y vs h less
 exec_by_trees source name input room gauge e (R.Ran y vs _ h fits runs) =
-    X.Ran (started source name y vs room gauge e runs) vs e h fits (told_by_trees source name y vs room gauge e runs)
+    X.Ran (started source name y vs room gauge e runs) vs e h fits (reported_by_trees source name y vs room gauge e runs)
 
 -- ---- trace
 

@@ -1,4 +1,4 @@
--- What `gen` tells: its text comes to the program that is written out, whose `build` collects the keys, with the calls,
+-- What `gen` reports: its text comes to the program that is written out, whose `build` collects the keys, with the calls,
 -- frames and words of its room.
 use Rattle.std.proofs.Common.{◌≡◌, ◌≢◌, ◌↔◌, ◌∙◌, ◌≤◌, ℕ, ℤ, false, List, length, refl, sym, ap, ap₂, subst, arith}
 use Rattle.std.specs.Prelude.{Ok, Err}

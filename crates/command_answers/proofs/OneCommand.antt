@@ -1,5 +1,5 @@
 -- Words ask for one command at most.
--- Idea: a command is read off the first two letters of its name, by which the names differ, and off the rows behind it.
+-- Idea: a command is read off the first two letters of its name, by which the names differ, and off the rows after it.
 use Rattle.std.proofs.Common.{◌≡◌, ◌∙◌, ◌+◌, ◌*◌, ◌==◌, ℕ, List, [], sym, ap, ap₂, refl, slice_index, if◌then◌else◌}
 use Rattle.std.specs.Prelude.{Option, Some, None, Bool, true, false, codes}
 use Rattle.std.specs.Str.Parse.{digits_value, without_leading_plus}

@@ -20,7 +20,7 @@ use Rattle.command_library.specs.command_source.Roots.{held}
 use Rattle.command_library.specs.command_tasks.TasksAnswer.{IsSetting}
 use Rattle.command_library.specs.session_semantics.Lines.{Given, Held, Fresh, Line, Calls, Shows, GivesUp, SpellsLine, lines_of}
 use Rattle.command_library.specs.session_semantics.Talk.{Setting, Holding, State, IsTaken, AreTaken, IsWrong, AreFree, IsTakenName, Called, Fits, CallReplies, NoEntry, WrongNumber, BadArgument, BadResult, TooSmall, Ended, Done, Replies, BadLine, NothingShown, NothingGivenUp, Shown, GivenUp, Called', Talks}
-use Rattle.command_library.specs.session_semantics.Talk.{at_first, answer_of, free_frames, frames_by, frames_of, held_as, hold_all, holding, left, named_by, needed, running, store_text, told, used_by, without, EndText}
+use Rattle.command_library.specs.session_semantics.Talk.{at_first, answer_of, free_frames, frames_by, frames_of, held_as, hold_all, holding, left, named_by, needed, running, store_text, reported, used_by, without, EndText}
 use Rattle.command_library.specs.session_semantics.Typed.{IsEntry}
 use Rattle.command_library.specs.command_tasks.source_report.instance_semantics.Meaning.{flat_meaning}
 use Rattle.command_library.proofs.command_run.session_semantics.OneForm.{line_once}
@@ -171,7 +171,7 @@ module _ (o : Setting) (sound : IsSoundProgram o.program) (s : State) (rs : List
   call_once t u a b (WrongNumber i1 d1 h1 w1) (Done i2 d2 vs2 given2 calls2 h2 f2 e2) = absurd (right_number d1 d2 (entry_once i1 i2 d1 d2 h1 h2).1 w1 (as_many d2 vs2 f2.called.taken) f2.called.count)
   call_once t u a b (BadArgument i1 d1 k1 h1 n1 m1 w1) (NoEntry none2) = absurd (none2 i1 d1 h1)
   call_once t u a b (BadArgument i1 d1 k1 h1 n1 m1 w1) (WrongNumber i2 d2 h2 w2) = absurd (right_number d2 d1 (entry_once i2 i1 d2 d1 h2 h1).1 w2 n1 m1)
-  call_once t u a b (BadArgument i1 d1 k1 h1 n1 m1 w1) (BadArgument i2 d2 k2 h2 n2 m2 w2) = (ap (λ k. told (codes "bad argument ") (decimal (suc k))) (wrong_once p sound s.held [] d2.params gs k1 k2 (subst (λ (x : Instance). IsWrong p.types s.held [] x.params gs k1) (entry_once i1 i2 d1 d2 h1 h2).1 w1) w2), refl)
+  call_once t u a b (BadArgument i1 d1 k1 h1 n1 m1 w1) (BadArgument i2 d2 k2 h2 n2 m2 w2) = (ap (λ k. reported (codes "bad argument ") (decimal (suc k))) (wrong_once p sound s.held [] d2.params gs k1 k2 (subst (λ (x : Instance). IsWrong p.types s.held [] x.params gs k1) (entry_once i1 i2 d1 d2 h1 h2).1 w1) w2), refl)
   call_once t u a b (BadArgument i1 d1 k1 h1 n1 m1 w1) (BadResult i2 d2 vs2 name2 h2 m2 t2 w2) = absurd (not_wrong d1 d2 k1 vs2 (entry_once i1 i2 d1 d2 h1 h2).1 w1 t2)
   call_once t u a b (BadArgument i1 d1 k1 h1 n1 m1 w1) (TooSmall i2 d2 vs2 h2 c2 less2) = absurd (not_wrong d1 d2 k1 vs2 (entry_once i1 i2 d1 d2 h1 h2).1 w1 c2.taken)
   call_once t u a b (BadArgument i1 d1 k1 h1 n1 m1 w1) (Ended i2 d2 vs2 text2 h2 f2 e2) = absurd (not_wrong d1 d2 k1 vs2 (entry_once i1 i2 d1 d2 h1 h2).1 w1 f2.called.taken)
@@ -179,7 +179,7 @@ module _ (o : Setting) (sound : IsSoundProgram o.program) (s : State) (rs : List
   call_once t u a b (BadResult i1 d1 vs1 name1 h1 m1 t1 w1) (NoEntry none2) = absurd (none2 i1 d1 h1)
   call_once t u a b (BadResult i1 d1 vs1 name1 h1 m1 t1 w1) (WrongNumber i2 d2 h2 w2) = absurd (right_number d2 d1 (entry_once i2 i1 d2 d1 h2 h1).1 w2 (as_many d1 vs1 t1) m1)
   call_once t u a b (BadResult i1 d1 vs1 name1 h1 m1 t1 w1) (BadArgument i2 d2 k2 h2 n2 m2 w2) = absurd (not_wrong d2 d1 k2 vs1 (entry_once i2 i1 d2 d1 h2 h1).1 w2 t1)
-  call_once t u a b (BadResult i1 d1 vs1 name1 h1 m1 t1 w1) (BadResult i2 d2 vs2 name2 h2 m2 t2 w2) = (ap (told (codes "bad result ")) (name_once s.held (Used d2) [] rs name1 name2 (subst (λ x. IsTakenName s.held (Used x) [] rs name1) (entry_once i1 i2 d1 d2 h1 h2).1 w1) w2), refl)
+  call_once t u a b (BadResult i1 d1 vs1 name1 h1 m1 t1 w1) (BadResult i2 d2 vs2 name2 h2 m2 t2 w2) = (ap (reported (codes "bad result ")) (name_once s.held (Used d2) [] rs name1 name2 (subst (λ x. IsTakenName s.held (Used x) [] rs name1) (entry_once i1 i2 d1 d2 h1 h2).1 w1) w2), refl)
   call_once t u a b (BadResult i1 d1 vs1 name1 h1 m1 t1 w1) (TooSmall i2 d2 vs2 h2 c2 less2) = absurd (not_taken d1 d2 name1 (entry_once i1 i2 d1 d2 h1 h2).1 w1 c2.free)
   call_once t u a b (BadResult i1 d1 vs1 name1 h1 m1 t1 w1) (Ended i2 d2 vs2 text2 h2 f2 e2) = absurd (not_taken d1 d2 name1 (entry_once i1 i2 d1 d2 h1 h2).1 w1 f2.called.free)
   call_once t u a b (BadResult i1 d1 vs1 name1 h1 m1 t1 w1) (Done i2 d2 vs2 given2 calls2 h2 f2 e2) = absurd (not_taken d1 d2 name1 (entry_once i1 i2 d1 d2 h1 h2).1 w1 f2.called.free)
@@ -251,14 +251,14 @@ module _ (o : Setting) (sound : IsSoundProgram o.program) (s : State) (bytes : L
   replies_once t u a b (BadLine none1) (GivenUp name2 g2 h2 e2) = absurd (none1 (GivesUp name2) h2)
   replies_once t u a b (BadLine none1) (Called' r2 rs2 entry2 gs2 text2 s2 h2 c2) = absurd (none1 (Calls r2 rs2 entry2 gs2) h2)
   replies_once t u a b (NothingShown name1 h1 e1) (BadLine none2) = absurd (none2 (Shows name1) h1)
-  replies_once t u a b (NothingShown name1 h1 e1) (NothingShown name2 h2 e2) = (ap (told (codes "no name ")) (name_same (Shows name1) (Shows name2) h1 h2), refl)
+  replies_once t u a b (NothingShown name1 h1 e1) (NothingShown name2 h2 e2) = (ap (reported (codes "no name ")) (name_same (Shows name1) (Shows name2) h1 h2), refl)
   replies_once t u a b (NothingShown name1 h1 e1) (NothingGivenUp name2 h2 e2) = absurd (other_kind (Shows name1) (GivesUp name2) h1 h2 (λ e. omega (arith, e)))
   replies_once t u a b (NothingShown name1 h1 e1) (Shown name2 g2 h2 e2) = absurd (held_or_none name1 name2 g2 (name_same (Shows name1) (Shows name2) h1 h2) e1 e2)
   replies_once t u a b (NothingShown name1 h1 e1) (GivenUp name2 g2 h2 e2) = absurd (other_kind (Shows name1) (GivesUp name2) h1 h2 (λ e. omega (arith, e)))
   replies_once t u a b (NothingShown name1 h1 e1) (Called' r2 rs2 entry2 gs2 text2 s2 h2 c2) = absurd (other_kind (Shows name1) (Calls r2 rs2 entry2 gs2) h1 h2 (λ e. omega (arith, e)))
   replies_once t u a b (NothingGivenUp name1 h1 e1) (BadLine none2) = absurd (none2 (GivesUp name1) h1)
   replies_once t u a b (NothingGivenUp name1 h1 e1) (NothingShown name2 h2 e2) = absurd (other_kind (GivesUp name1) (Shows name2) h1 h2 (λ e. omega (arith, e)))
-  replies_once t u a b (NothingGivenUp name1 h1 e1) (NothingGivenUp name2 h2 e2) = (ap (told (codes "no name ")) (name_same (GivesUp name1) (GivesUp name2) h1 h2), refl)
+  replies_once t u a b (NothingGivenUp name1 h1 e1) (NothingGivenUp name2 h2 e2) = (ap (reported (codes "no name ")) (name_same (GivesUp name1) (GivesUp name2) h1 h2), refl)
   replies_once t u a b (NothingGivenUp name1 h1 e1) (Shown name2 g2 h2 e2) = absurd (other_kind (GivesUp name1) (Shows name2) h1 h2 (λ e. omega (arith, e)))
   replies_once t u a b (NothingGivenUp name1 h1 e1) (GivenUp name2 g2 h2 e2) = absurd (held_or_none name1 name2 g2 (name_same (GivesUp name1) (GivesUp name2) h1 h2) e1 e2)
   replies_once t u a b (NothingGivenUp name1 h1 e1) (Called' r2 rs2 entry2 gs2 text2 s2 h2 c2) = absurd (other_kind (GivesUp name1) (Calls r2 rs2 entry2 gs2) h1 h2 (λ e. omega (arith, e)))

@@ -22,15 +22,15 @@ use Rattle.command_library.proofs.command_eval.Once.{one_program, one_root, one_
 use Rattle.command_library.proofs.command_run.Entry.{root_at}
 use Rattle.command_library.proofs.command_run.ExecOnce.{member_at, words_alike, spelt_alike}
 use Rattle.command_library.specs.GenAnswer.{tree_source, build}
-use Rattle.command_answers.specs.Exec.{End, Start, Running, TellsRun, TellsAll, running, frames_for, run_of, words_of, Execs, Misspelt, Small, Ran}
+use Rattle.command_answers.specs.Exec.{End, Start, Running, ReportsRun, ReportsAll, running, frames_for, run_of, words_of, Execs, Misspelt, Small, Ran}
 use Rattle.command_answers.specs.Generating.{Generates, Refused, LongInput, Drawn}
 
-tells_once : (r : Running) (vs : Values) (calls frames : ℕ) (gauge : Bool) (peak : Peak) (a : Answer) (d e : End) → TellsRun r vs calls frames gauge peak a d → TellsRun r vs calls frames gauge peak a e → d ≡ e
-tells_once r vs calls frames gauge peak (Gives us left) d e h k = h ∙ sym k
-tells_once r vs calls frames gauge peak (Trap kind line col) d e h k = h ∙ sym k
-tells_once r vs calls frames gauge peak Out d e h k = h ∙ sym k
-tells_once r vs calls frames gauge peak Deep d e h k = h ∙ sym k
-tells_once r vs calls frames gauge peak Stuck d e h k = absurd h
+reports_once : (r : Running) (vs : Values) (calls frames : ℕ) (gauge : Bool) (peak : Peak) (a : Answer) (d e : End) → ReportsRun r vs calls frames gauge peak a d → ReportsRun r vs calls frames gauge peak a e → d ≡ e
+reports_once r vs calls frames gauge peak (Gives us left) d e h k = h ∙ sym k
+reports_once r vs calls frames gauge peak (Trap kind line col) d e h k = h ∙ sym k
+reports_once r vs calls frames gauge peak Out d e h k = h ∙ sym k
+reports_once r vs calls frames gauge peak Deep d e h k = h ∙ sym k
+reports_once r vs calls frames gauge peak Stuck d e h k = absurd h
 
 module _ (source name : List ℕ) (s t : Start source name) where
   abbrev x : Entry source name
@@ -46,7 +46,7 @@ module _ (source name : List ℕ) (s t : Start source name) where
       let m = member_at x.program.instances s.members root.place x.root (s.found).size root.there in
       let other : AreMembers y.program.instances s.members = subst (λ (p : Program). AreMembers p.instances s.members) (sym (one_program source name x y)) s.found in
       let there : slice_get y.program.instances root.place ≡ Some y.root = ap (λ (p : Program). slice_get p.instances root.place) (one_program source name x y) ∙ root.there ∙ ap Some (sym (one_root source name x y)) in
-      t.told s.members other root.place m.0 there m.1 ∙ sym (s.told s.members s.found root.place m.0 root.there m.1)
+      t.reported s.members other root.place m.0 there m.1 ∙ sym (s.reported s.members s.found root.place m.0 root.there m.1)
 
   module _ (room : Room) where
     -- what is meant, by the core form, the arguments and the bound
@@ -59,38 +59,38 @@ module _ (source name : List ℕ) (s t : Start source name) where
         ∙ (ap (λ ws. meant x.core ws t.bound) same ∙ ap (meant x.core vs) bound_once)
 
     module _ (gauge : Bool) (e : End) where
-      abbrev Told : Program → Instance → Core → Values → Option Stack → Type 0
-      Told p d c ws b = TellsAll (record { types = p.types; instance = d; bound = b }) ws room.calls (frames_of room.frames b) gauge (meant c ws b) e
+      abbrev Reported : Program → Instance → Core → Values → Option Stack → Type 0
+      Reported p d c ws b = ReportsAll (record { types = p.types; instance = d; bound = b }) ws room.calls (frames_of room.frames b) gauge (meant c ws b) e
 
-      pub told_same : (vs us : Values) → us ≡ vs → Told y.program y.root y.core us t.bound → Told x.program x.root x.core vs s.bound
-      told_same vs us same h =
-          subst (λ b. Told x.program x.root x.core vs b) bound_once
-          (subst (λ ws. Told x.program x.root x.core ws t.bound) same
-          (subst (λ (c : Core). Told x.program x.root c us t.bound) (one_core source name x y)
-          (subst (λ (d : Instance). Told x.program d y.core us t.bound) (one_root source name x y)
-          (subst (λ (p : Program). Told p y.root y.core us t.bound) (one_program source name x y) h))))
+      pub reported_same : (vs us : Values) → us ≡ vs → Reported y.program y.root y.core us t.bound → Reported x.program x.root x.core vs s.bound
+      reported_same vs us same h =
+          subst (λ b. Reported x.program x.root x.core vs b) bound_once
+          (subst (λ ws. Reported x.program x.root x.core ws t.bound) same
+          (subst (λ (c : Core). Reported x.program x.root c us t.bound) (one_core source name x y)
+          (subst (λ (d : Instance). Reported x.program d y.core us t.bound) (one_root source name x y)
+          (subst (λ (p : Program). Reported p y.root y.core us t.bound) (one_program source name x y) h))))
 
 module _ (source name input : List ℕ) (room : Room) (gauge : Bool) where
   pub trees_once : (d e : End) → Execs source name input room gauge d → Execs source name input room gauge e → d ≡ e
   trees_once d e (Misspelt x at h) (Misspelt y to k) =
       ap (λ n. Err (F.BadInput n)) (IsPlace-unique (Spells x) input at to h (typed_alike source name x y (λ tb ks. IsPlace (SpellsValues tb ks) input to) k))
   trees_once d e (Misspelt x at h) (Small y us k less) = absurd (IsPlace-not_spelt (Spells x) input at us h (spelt_alike source name x y input us k))
-  trees_once d e (Misspelt x at h) (Ran t us f k fits told) = absurd (IsPlace-not_spelt (Spells x) input at us h (spelt_alike source name x t.entry input us k))
+  trees_once d e (Misspelt x at h) (Ran t us f k fits reported) = absurd (IsPlace-not_spelt (Spells x) input at us h (spelt_alike source name x t.entry input us k))
   trees_once d e (Small x vs h less) (Misspelt y to k) = absurd (IsPlace-not_spelt (Spells y) input to vs k (spelt_alike source name y x input vs h))
   trees_once d e (Small x vs h less) (Small y us k more) =
       let words : words_of y us ≡ words_of x vs = words_alike source name x y us ∙ ap (words_of x) (one_text source name x y input vs us h k) in
       ap (λ n. Err (F.TooSmall n room.words)) (sym words)
-  trees_once d e (Small x vs h less) (Ran t us f k fits told) =
+  trees_once d e (Small x vs h less) (Ran t us f k fits reported) =
       let words : words_of t.entry us ≡ words_of x vs = words_alike source name x t.entry us ∙ ap (words_of x) (one_text source name x t.entry input vs us h k) in
       absurd (omega (arith, less, fits, words))
-  trees_once d e (Ran s vs f h fits told) (Misspelt y to k) = absurd (IsPlace-not_spelt (Spells y) input to vs k (spelt_alike source name y s.entry input vs h))
-  trees_once d e (Ran s vs f h fits told) (Small y us k less) =
+  trees_once d e (Ran s vs f h fits reported) (Misspelt y to k) = absurd (IsPlace-not_spelt (Spells y) input to vs k (spelt_alike source name y s.entry input vs h))
+  trees_once d e (Ran s vs f h fits reported) (Small y us k less) =
       let words : words_of y us ≡ words_of s.entry vs = words_alike source name s.entry y us ∙ ap (words_of s.entry) (one_text source name s.entry y input vs us h k) in
       absurd (omega (arith, less, fits, words))
-  trees_once d e (Ran s vs f h fits told) (Ran t us g k also others) =
+  trees_once d e (Ran s vs f h fits reported) (Ran t us g k also others) =
       let same : us ≡ vs = one_text source name s.entry t.entry input vs us h k in
-      tells_once (running s) vs room.calls (frames_for s room) gauge (run_of s vs room).peak (run_of s vs room).answer d e told
-      (told_same source name s t room gauge e vs us same others)
+      reports_once (running s) vs room.calls (frames_for s room) gauge (run_of s vs room).peak (run_of s vs room).answer d e reported
+      (reported_same source name s t room gauge e vs us same others)
 
 -- ---- gen
 

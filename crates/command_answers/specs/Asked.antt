@@ -1,5 +1,5 @@
--- For the laws on `eval` and `exec`: what they are asked, by what is known of the source: its typed program, the instance
--- of the entry, and the arguments that the input spells. And what is told of it: of `reverse` on `Cons(1, Cons(2, Nil))`
+-- For the theorems on `eval` and `exec`: what they are asked, by what is known of the source: its typed program, the instance
+-- of the entry, and the arguments that the input spells. And what is reported of it: of `reverse` on `Cons(1, Cons(2, Nil))`
 -- the one line `Cons(2, Cons(1, Nil))`.
 use Rattle.std.specs.Prelude.{◌≡◌, ◌≤◌, ℕ, List, Ok, Err}
 use Rattle.command_library.specs.fip_language.declared.TrapKind.{TrapKind}
@@ -45,9 +45,9 @@ TrapsWith a calls least kind line col = (frames : ℕ) → least ≤ frames → 
 abbrev pub Prints : Asked → Values → End → Type 0
 Prints a vs e = e ≡ Ok (printed_lines a.program.types (a.rooted).root.results vs)
 
--- The trap is told.
-abbrev pub TellsTrap : TrapKind → ℕ → ℕ → End → Type 0
-TellsTrap kind line col e = e ≡ Err (F.Trap kind line col)
+-- The trap is reported.
+abbrev pub ReportsTrap : TrapKind → ℕ → ℕ → End → Type 0
+ReportsTrap kind line col e = e ≡ Err (F.Trap kind line col)
 
 -- The room has the words of the arguments' cells and of the header's credits, and so many frames.
 pub record Suffices (a : Asked) (least : ℕ) (room : Room) : Type 0 where

@@ -4,7 +4,7 @@
 -- The source breaks no rule, and the code is sound. Its types are those of the source's program. It has a function for
 -- each fip and fbip instance, in their order: of the instance's kind, with its parameters, credits and results, with as
 -- many registers as it has, and with its name where it is a root. What a function holds of the stack at the most is what
--- `check` tells of the instance. It has no more instructions and label maps than the instance's places allow, and no
+-- `check` reports of the instance. It has no more instructions and label maps than the instance's places allow, and no
 -- instruction lists more registers than its width allows. Some bytes, however many, are its file of the second version.
 -- And the code means the program: a run of a function, from where arguments of its parameters' types are loaded, ends as
 -- its instance means, whatever calls and frames are given: with the same values, in the same trap, or out of calls or

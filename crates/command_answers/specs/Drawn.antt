@@ -1,4 +1,4 @@
--- What `gen` tells of the keys that a seed draws: how many are drawn, how many different ones these are, and the least
+-- What `gen` reports of the keys that a seed draws: how many are drawn, how many different ones these are, and the least
 -- and the greatest of them. `gen 1 3` draws 1103527590, 377401575 and 662824084, three different ones.
 use Rattle.std.specs.Prelude.{ℕ, ℤ, pos, List, map}
 use Rattle.library_correctness.specs.Different.{different}

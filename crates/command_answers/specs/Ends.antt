@@ -48,7 +48,7 @@ Compiles source (Ok text) = IsListing source text
 Compiles source (Err failure) = HasLongCode source × (failure ≡ F.Refused (bare E61))
 
 -- as `exec` without the gauge, where the trace of a run of a code of the source can be stored; or E75, where it can't be
--- told, or is too long
+-- reported, or is too long
 pub data TracesTo (source name input : List ℕ) (room : Room) : End → Type 0 where
   Ended : (failure : Failure) → Execs source name input room false (Err failure) →
       TracesTo source name input room (Err failure)
@@ -131,7 +131,7 @@ Judges p bytes (Ok text) = IsProofOf bytes p × (text ≡ derived_text)
 Judges p bytes (Err (F.Refused r)) = IsRejectedOf bytes p r
 Judges p bytes (Err failure) = ⊥
 
--- `audit` on a source and the bytes of the proof file, where this is there. The report is told of a source whose types
+-- `audit` on a source and the bytes of the proof file, where this is there. The report is reported of a source whose types
 -- or matches aren't right, whatever the proof file is. No more rules are asked of one where they are.
 pub data Audits (source : List ℕ) : Option (List ℕ) → End → Type 0 where
   Reported : (r : _) (proof : Option (List ℕ)) → IsEarlyReport source r → Audits source proof (Err (F.Refused r))

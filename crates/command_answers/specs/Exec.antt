@@ -3,8 +3,8 @@
 --
 -- The input is the text of the entry's arguments, a line for each parameter; where it is none, it is bad at the least
 -- offset with which none goes on. The store must have the words for the cells of the arguments and of the header's
--- credits; where it has fewer, both numbers are told. Else the entry means something on these arguments, with the calls
--- that are given and the frames that a fip entry needs, or that are given: values, each printed in a line, and behind
+-- credits; where it has fewer, both numbers are reported. Else the entry means something on these arguments, with the calls
+-- that are given and the frames that a fip entry needs, or that are given: values, each printed in a line, and after
 -- them the lines of the gauge where these are asked for; or a trap, or that calls or frames ran out.
 --
 -- With `rev` on Cons(1, Cons(2, Cons(3, Nil))) and Nil and the gauge, these are four lines: the reversed list, `cells
@@ -42,7 +42,7 @@ pub record Start (source name : List ℕ) : Type 0 where
   pub members : List Member
   pub found : AreMembers entry.program.instances members
   pub bound : Option Stack
-  pub told : IsBoundOf entry bound
+  pub reported : IsBoundOf entry bound
 
 -- the words that the store must have
 abbrev pub words_of : {source name : List ℕ} → Entry source name → Values → ℕ
@@ -56,7 +56,7 @@ frames_for s room = frames_of room.frames s.bound
 abbrev pub run_of : {source name : List ℕ} → Start source name → Values → Room → M.Run
 run_of {name = name} s vs room = meaning (s.entry).core name NoClosed vs room.calls (frames_for s room)
 
--- ---- what is told
+-- ---- what is reported
 
 -- what runs: an instance of a program with these types, and what its runs hold of the stack at the most
 pub record Running : Type 0 where
@@ -73,17 +73,17 @@ gauge_by_trees r vs results peak =
     gauge_text (lowest_of (r.instance).params vs results) (highest_of (r.instance).credits vs)
     (stack_of_peak peak) r.bound
 
--- how an answer is told, where so many calls and frames were given; no answer of an accepted source is stuck
-abbrev pub TellsRun : Running → Values → ℕ → ℕ → Bool → Peak → Answer → End → Type 0
-TellsRun r vs calls frames gauge peak (Gives results left) e =
+-- how an answer is reported, where so many calls and frames were given; no answer of an accepted source is stuck
+abbrev pub ReportsRun : Running → Values → ℕ → ℕ → Bool → Peak → Answer → End → Type 0
+ReportsRun r vs calls frames gauge peak (Gives results left) e =
     e ≡ Ok (printed_lines r.types (r.instance).results results ++ if_asked gauge (gauge_by_trees r vs results peak))
-TellsRun r vs calls frames gauge peak (Trap kind line col) e = e ≡ Err (F.Trap kind line col)
-TellsRun r vs calls frames gauge peak Out e = e ≡ Err (F.OutOfCalls calls)
-TellsRun r vs calls frames gauge peak Deep e = e ≡ Err (F.OutOfFrames frames)
-TellsRun r vs calls frames gauge peak Stuck e = ⊥
+ReportsRun r vs calls frames gauge peak (Trap kind line col) e = e ≡ Err (F.Trap kind line col)
+ReportsRun r vs calls frames gauge peak Out e = e ≡ Err (F.OutOfCalls calls)
+ReportsRun r vs calls frames gauge peak Deep e = e ≡ Err (F.OutOfFrames frames)
+ReportsRun r vs calls frames gauge peak Stuck e = ⊥
 
-abbrev pub TellsAll : Running → Values → ℕ → ℕ → Bool → M.Run → End → Type 0
-TellsAll r vs calls frames gauge run e = TellsRun r vs calls frames gauge run.peak run.answer e
+abbrev pub ReportsAll : Running → Values → ℕ → ℕ → Bool → M.Run → End → Type 0
+ReportsAll r vs calls frames gauge run e = ReportsRun r vs calls frames gauge run.peak run.answer e
 
 abbrev pub running : {source name : List ℕ} → Start source name → Running
 running s = record { types = (s.entry).program.types; instance = (s.entry).root; bound = s.bound }
@@ -96,5 +96,5 @@ pub data Execs (source name input : List ℕ) (room : Room) (gauge : Bool) : End
   Small : (entry : Entry source name) (vs : Values) → Spells entry input vs → room.words < words_of entry vs →
       Execs source name input room gauge (Err (F.TooSmall (words_of entry vs) room.words))
   Ran : (s : Start source name) (vs : Values) (e : End) → Spells s.entry input vs → words_of s.entry vs ≤ room.words →
-      TellsAll (running s) vs room.calls (frames_for s room) gauge (run_of s vs room) e →
+      ReportsAll (running s) vs room.calls (frames_for s room) gauge (run_of s vs room) e →
       Execs source name input room gauge e

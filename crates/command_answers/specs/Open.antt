@@ -1,4 +1,4 @@
--- It serves the law that a command ends with one thing: where it may not.
+-- It serves the theorem that a command ends with one thing: where it may not.
 --
 -- Two codes of a source may differ in whether their files, or the traces of their runs, are short enough. So of two ends of
 -- `compile` on an accepted source that aren't the same one is E61, and of `trace` one is E75.

@@ -14,18 +14,18 @@ use Rattle.command_trace.specs.TraceAnswer.{IsLong}
 use Rattle.command_answers.specs.CodeOf.{IsSourceFile, IsSourceTrace}
 use Rattle.command_answers.specs.Exec.{End}
 
--- what an object tells, where it tells something
-abbrev pub IsTold : {A : Type 0} → Option A → A → Type 0
-IsTold None x = Unit {0}
-IsTold (Some y) x = y ≡ x
+-- what an object reports, where it reports something
+abbrev pub IsReported : {A : Type 0} → Option A → A → Type 0
+IsReported None x = Unit {0}
+IsReported (Some y) x = y ≡ x
 
--- On the input, or on some input where it told nothing, a code of the source has a run of the entry with this file of its
+-- On the input, or on some input where it reported nothing, a code of the source has a run of the entry with this file of its
 -- trace.
 abbrev pub IsTraceFile : (source name : List ℕ) → Room → Option (List ℕ) → List ℕ → Type 0
-IsTraceFile source name room input bytes = (text : List ℕ) × IsTold input text × (t : T.Trace)
+IsTraceFile source name room input bytes = (text : List ℕ) × IsReported input text × (t : T.Trace)
     × IsSourceTrace source name text room t × (IsLong t → ⊥) × (bytes ≡ trace_text t)
 
--- What is stored, by the files before, and by what the input told: the command's file is there and has what is wanted.
+-- What is stored, by the files before, and by what the input reported: the command's file is there and has what is wanted.
 -- `compile` stores the file of a code of its source, `upgrade` that of the second version of the code that it fetched,
 -- `derive` the text of the derivation that is made for its source, and `trace` the file of the trace of a run of its
 -- source's code on the input.
@@ -54,7 +54,7 @@ pub record IsUnstored (c : Command) (input : Option (List ℕ)) (name : List ℕ
     pub bytes : List ℕ
     pub made : IsMadeBy c input old bytes
 
--- The files after an end, where no object failed: a text comes behind what is stored; else all are as they were.
+-- The files after an end, where no object failed: a text comes after what is stored; else all are as they were.
 abbrev pub Stores : Command → List File → List ℕ → Option (List ℕ) → End → Option (List File) → Type 0
 Stores c files input None e new = new ≡ Some files
 Stores c files input (Some name) (Ok text) new = IsStored c (Some input) name (Some files) new

@@ -1,4 +1,4 @@
-// The commands, and what each answers by one relation: definitions and their laws.
+// The commands, and what each answers by one relation: definitions and their theorems.
 #![tactic(auto)]
 
 pub mod theorems;

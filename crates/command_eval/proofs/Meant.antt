@@ -33,7 +33,7 @@ use Rattle.command_source.proofs.specialisation_correctness.Meant.{root_meant}
 use Rattle.command_source.specs.Entries.{IsRootedIn}
 use Rattle.command_source.specs.Roots.{root_named}
 use Rattle.command_eval.specs.Arguments.{IsNoText}
-use Rattle.command_eval.specs.EvalAnswer.{Entry, Evaluates, Misspelt, Answered, OrNoMemory, Tells}
+use Rattle.command_eval.specs.EvalAnswer.{Entry, Evaluates, Misspelt, Answered, OrNoMemory, Reports}
 use Rattle.command_eval.proofs.SoundTypes.{typed_sound}
 
 -- a root of a name has the name
@@ -75,13 +75,13 @@ module _ (source name : List ℕ) (p : Program) (i : ℕ) (h : IsRootedIn source
       ∙ ap (λ n. meaning types.flat.core n NoClosed vs calls frames) root.1
 
   module _ (input : List ℕ) (calls frames : ℕ) where
-    answered : (vs : Values) (e : Result (List ℕ) Failure) → SpellsValues p.types (parameter_types h.root) input vs → Tells p.types h.root.results calls frames (flat_meaning p i vs calls frames).answer e → Evaluates source name input calls frames e
-    answered vs e spelt tells = Answered entry vs e spelt (subst (λ (x : Run). Tells p.types h.root.results calls frames x.answer e) (means vs calls frames) tells)
+    answered : (vs : Values) (e : Result (List ℕ) Failure) → SpellsValues p.types (parameter_types h.root) input vs → Reports p.types h.root.results calls frames (flat_meaning p i vs calls frames).answer e → Evaluates source name input calls frames e
+    answered vs e spelt reports = Answered entry vs e spelt (subst (λ (x : Run). Reports p.types h.root.results calls frames x.answer e) (means vs calls frames) reports)
 
-    pub evaluates : (vs : Values) (o : Result (Vec ℕ Global) Failure) → SpellsValues p.types (parameter_types h.root) input vs → OrNoMemory (Tells p.types h.root.results calls frames (flat_meaning p i vs calls frames).answer) o → OrNoMemory (Evaluates source name input calls frames) o
-    evaluates vs (Ok text) spelt tells = answered vs (Ok text.items) spelt tells
-    evaluates vs (Err F.NoMemory) spelt tells = tt
-    evaluates vs (Err failure) spelt tells = answered vs (Err failure) spelt tells
+    pub evaluates : (vs : Values) (o : Result (Vec ℕ Global) Failure) → SpellsValues p.types (parameter_types h.root) input vs → OrNoMemory (Reports p.types h.root.results calls frames (flat_meaning p i vs calls frames).answer) o → OrNoMemory (Evaluates source name input calls frames) o
+    evaluates vs (Ok text) spelt reports = answered vs (Ok text.items) spelt reports
+    evaluates vs (Err F.NoMemory) spelt reports = tt
+    evaluates vs (Err failure) spelt reports = answered vs (Err failure) spelt reports
 
     pub no_text : (f : Failure) → IsNoText p.types (parameter_types h.root) input f → OrNoMemory (Evaluates source name input calls frames) (Err f)
     no_text (F.BadInput at) place = Misspelt entry at place
@@ -97,17 +97,17 @@ module _ (source name input : List ℕ) (calls frames : ℕ) (p : a_program) (i 
   types_are : types_of params ≡ parameter_types h.root
   types_are = ap types_of same ∙ ap parameter_types (root_is p i d h.root there h.there)
 
-  pub evaluated_told : (results : List ℕ) (rows : Rows) (o : Result (Vec ℕ Global) Failure) → results ≡ d.results → (IsSoundTable p.types → AreTypes p.types (types_of params) → (vs : Values) × SpellsValues p.types (types_of params) input vs × AreRows rows vs) → ((vs : Values) → AreRows rows vs → IsSoundAnswer p.types results (flat_meaning (V.program p) i vs calls frames).answer → OrNoMemory (Tells p.types results calls frames (flat_meaning (V.program p) i vs calls frames).answer) o) → OrNoMemory (Evaluates source name input calls frames) o
-  evaluated_told results rows o is given tells =
+  pub evaluated_reported : (results : List ℕ) (rows : Rows) (o : Result (Vec ℕ Global) Failure) → results ≡ d.results → (IsSoundTable p.types → AreTypes p.types (types_of params) → (vs : Values) × SpellsValues p.types (types_of params) input vs × AreRows rows vs) → ((vs : Values) → AreRows rows vs → IsSoundAnswer p.types results (flat_meaning (V.program p) i vs calls frames).answer → OrNoMemory (Reports p.types results calls frames (flat_meaning (V.program p) i vs calls frames).answer) o) → OrNoMemory (Evaluates source name input calls frames) o
+  evaluated_reported results rows o is given reports =
       let rs : results ≡ h.root.results = is ∙ ap (λ (x : Instance). x.results) (root_is p i d h.root there h.there) in
       let known : AreTypes p.types (types_of params) = subst (AreTypes p.types) (sym types_are) (parameters_known source name (V.program p) i h) in
       let r = given (table_sound source name (V.program p) i h) known in
       let spelt : SpellsValues p.types (parameter_types h.root) input r.0 = subst (λ ks. SpellsValues p.types ks input r.0) types_are r.1 in
       let sound : IsSoundAnswer p.types results (flat_meaning (V.program p) i r.0 calls frames).answer = subst (λ ks. IsSoundAnswer p.types ks (flat_meaning (V.program p) i r.0 calls frames).answer) (sym rs) (answers_soundly source name (V.program p) i h input r.0 calls frames spelt) in
       evaluates source name (V.program p) i h input calls frames r.0 o spelt
-      (subst (λ ks. OrNoMemory (Tells p.types ks calls frames (flat_meaning (V.program p) i r.0 calls frames).answer) o) rs (tells r.0 r.2 sound))
+      (subst (λ ks. OrNoMemory (Reports p.types ks calls frames (flat_meaning (V.program p) i r.0 calls frames).answer) o) rs (reports r.0 r.2 sound))
 
-  pub no_text_told : (f : Failure) → (IsSoundTable p.types → AreTypes p.types (types_of params) → IsNoText p.types (types_of params) input f) → OrNoMemory (Evaluates source name input calls frames) (Err f)
-  no_text_told f given =
+  pub no_text_reported : (f : Failure) → (IsSoundTable p.types → AreTypes p.types (types_of params) → IsNoText p.types (types_of params) input f) → OrNoMemory (Evaluates source name input calls frames) (Err f)
+  no_text_reported f given =
       let known : AreTypes p.types (types_of params) = subst (AreTypes p.types) (sym types_are) (parameters_known source name (V.program p) i h) in
       no_text source name (V.program p) i h input calls frames f (subst (λ ks. IsNoText p.types ks input f) types_are (given (table_sound source name (V.program p) i h) known))

@@ -23,7 +23,7 @@ use Rattle.command_source.proofs.source_report.Once.{parsed_once, accepted_once}
 use Rattle.command_source.proofs.source_report.Ready.{typed_formed}
 use Rattle.command_source.specs.Roots.{root_named}
 use Rattle.command_source.specs.Wanted.{Root, IsRoot, IsReady}
-use Rattle.command_eval.specs.EvalAnswer.{Entry, Evaluates, Misspelt, Answered, Spells, Tells}
+use Rattle.command_eval.specs.EvalAnswer.{Entry, Evaluates, Misspelt, Answered, Spells, Reports}
 use Rattle.command_eval.proofs.Meant.{typed_of}
 use Rattle.command_eval.proofs.SoundTypes.{typed_sound}
 
@@ -45,12 +45,12 @@ values_once tb ks bytes vs ws sound known h k =
     let same : Accepted vs ≡ Accepted ws = sym a ∙ b in
     cc
 
-tells_once : (tb : Table) (results : List ℕ) (calls frames : ℕ) (a : Answer) (d e : Result (List ℕ) Failure) → Tells tb results calls frames a d → Tells tb results calls frames a e → d ≡ e
-tells_once tb results calls frames (Gives vs left) d e h k = h ∙ sym k
-tells_once tb results calls frames (Trap kind line col) d e h k = h ∙ sym k
-tells_once tb results calls frames Out d e h k = h ∙ sym k
-tells_once tb results calls frames Deep d e h k = h ∙ sym k
-tells_once tb results calls frames Stuck d e h k = absurd h
+reports_once : (tb : Table) (results : List ℕ) (calls frames : ℕ) (a : Answer) (d e : Result (List ℕ) Failure) → Reports tb results calls frames a d → Reports tb results calls frames a e → d ≡ e
+reports_once tb results calls frames (Gives vs left) d e h k = h ∙ sym k
+reports_once tb results calls frames (Trap kind line col) d e h k = h ∙ sym k
+reports_once tb results calls frames Out d e h k = h ∙ sym k
+reports_once tb results calls frames Deep d e h k = h ∙ sym k
+reports_once tb results calls frames Stuck d e h k = absurd h
 
 module _ (source name : List ℕ) where
   module _ (x y : Entry source name) where
@@ -72,11 +72,11 @@ module _ (source name : List ℕ) where
     known : AreTypes x.program.types (parameter_types x.root)
     known = let formed = typed_formed source x.program (typed_of source x.program x.accepted) in (formed.instances x.root (root_among name x.program.instances x.root x.named)).parameters
 
-    told_alike : (calls frames : ℕ) (vs : Values) (e : Result (List ℕ) Failure) → Tells y.program.types y.root.results calls frames (meaning y.core name NoClosed vs calls frames).answer e → Tells x.program.types x.root.results calls frames (meaning x.core name NoClosed vs calls frames).answer e
-    told_alike calls frames vs e h =
-        subst (λ (c : Core). Tells x.program.types x.root.results calls frames (meaning c name NoClosed vs calls frames).answer e) one_core
-        (subst (λ (d : Instance). Tells x.program.types d.results calls frames (meaning y.core name NoClosed vs calls frames).answer e) one_root
-        (subst (λ (p : Program). Tells p.types y.root.results calls frames (meaning y.core name NoClosed vs calls frames).answer e) one_program h))
+    reported_alike : (calls frames : ℕ) (vs : Values) (e : Result (List ℕ) Failure) → Reports y.program.types y.root.results calls frames (meaning y.core name NoClosed vs calls frames).answer e → Reports x.program.types x.root.results calls frames (meaning x.core name NoClosed vs calls frames).answer e
+    reported_alike calls frames vs e h =
+        subst (λ (c : Core). Reports x.program.types x.root.results calls frames (meaning c name NoClosed vs calls frames).answer e) one_core
+        (subst (λ (d : Instance). Reports x.program.types d.results calls frames (meaning y.core name NoClosed vs calls frames).answer e) one_root
+        (subst (λ (p : Program). Reports p.types y.root.results calls frames (meaning y.core name NoClosed vs calls frames).answer e) one_program h))
 
     pub one_text : (input : List ℕ) (vs ws : Values) → Spells x input vs → Spells y input ws → ws ≡ vs
     one_text input vs ws h k = values_once x.program.types (parameter_types x.root) input ws vs (typed_sound source x.program (typed_of source x.program x.accepted)) known (typed_alike (λ tb ks. SpellsValues tb ks input ws) k) h
@@ -84,15 +84,15 @@ module _ (source name : List ℕ) where
   pub evaluated_once : (input : List ℕ) (calls frames : ℕ) (d e : Result (List ℕ) Failure) → Evaluates source name input calls frames d → Evaluates source name input calls frames e → d ≡ e
   evaluated_once input calls frames d e (Misspelt x at h) (Misspelt y to k) =
       ap (λ n. Err (F.BadInput n)) (IsPlace-unique (Spells x) input at to h (typed_alike x y (λ tb ks. IsPlace (SpellsValues tb ks) input to) k))
-  evaluated_once input calls frames d e (Misspelt x at h) (Answered y ws f spelt tells) =
+  evaluated_once input calls frames d e (Misspelt x at h) (Answered y ws f spelt reports) =
       absurd (IsPlace-not_spelt (Spells x) input at ws h (typed_alike x y (λ tb ks. SpellsValues tb ks input ws) spelt))
-  evaluated_once input calls frames d e (Answered x vs f spelt tells) (Misspelt y at k) =
+  evaluated_once input calls frames d e (Answered x vs f spelt reports) (Misspelt y at k) =
       absurd (IsPlace-not_spelt (Spells x) input at vs (typed_alike x y (λ tb ks. IsPlace (SpellsValues tb ks) input at) k) spelt)
-  evaluated_once input calls frames d e (Answered x vs f spelt tells) (Answered y ws g other says) =
-      let moved = told_alike x y calls frames ws e says in
+  evaluated_once input calls frames d e (Answered x vs f spelt reports) (Answered y ws g other says) =
+      let moved = reported_alike x y calls frames ws e says in
       let same = one_text x y input vs ws spelt other in
-      tells_once x.program.types x.root.results calls frames (meaning x.core name NoClosed vs calls frames).answer d e tells
-      (subst (λ us. Tells x.program.types x.root.results calls frames (meaning x.core name NoClosed us calls frames).answer e) same moved)
+      reports_once x.program.types x.root.results calls frames (meaning x.core name NoClosed vs calls frames).answer d e reports
+      (subst (λ us. Reports x.program.types x.root.results calls frames (meaning x.core name NoClosed us calls frames).answer e) same moved)
 
   entry_ready : Entry source name → IsReady source (Root name)
   entry_ready x = record { program = x.program; accepted = x.accepted; has = subst IsRoot (sym x.named) tt }
@@ -100,4 +100,4 @@ module _ (source name : List ℕ) where
   -- what is evaluated breaks no rule, and has the root
   pub evaluated_ready : (input : List ℕ) (calls frames : ℕ) (e : Result (List ℕ) Failure) → Evaluates source name input calls frames e → IsReady source (Root name)
   evaluated_ready input calls frames e (Misspelt x at h) = entry_ready x
-  evaluated_ready input calls frames e (Answered x vs f spelt tells) = entry_ready x
+  evaluated_ready input calls frames e (Answered x vs f spelt reports) = entry_ready x

@@ -1,4 +1,4 @@
--- What keeps an evaluation from its arguments: the input is no text of them, by its place; or memory is wanting.
+-- What keeps an evaluation from its arguments: the input is no text of them, by its place; or memory runs out.
 use Rattle.std.specs.Prelude.{ℕ, List}
 use Rattle.fip_language.specs.Prefix.{IsPlace}
 use Rattle.fip_language.specs.Table.{Table}

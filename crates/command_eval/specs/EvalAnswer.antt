@@ -1,8 +1,8 @@
 -- What an evaluation of a source ends with: the lines of the values that the source means, or what keeps it from them.
 --
--- The input is the text of the entry's arguments, a line for each parameter. Where it is no such text, it is told as
+-- The input is the text of the entry's arguments, a line for each parameter. Where it is no such text, it is reported as
 -- bad, at the least offset with which no text of them goes on. Else the meaning of the entry on these arguments, with
--- so many calls and frames, is told: its values, each in a line of its own; or the trap and its place, or that calls or
+-- so many calls and frames, is reported: its values, each in a line of its own; or the trap and its place, or that calls or
 -- frames ran out. No input is too large: where it has no more bytes than the store has words, its values have room,
 -- since no cell has more words than its text has bytes.
 --
@@ -37,14 +37,14 @@ pub record Entry (source name : List ℕ) : Type 0 where
   pub root : Instance
   pub named : root_named name program.instances ≡ Some root
 
--- How an answer is told, where values of these types are wanted and so many calls and frames were given. No answer of
+-- How an answer is reported, where values of these types are wanted and so many calls and frames were given. No answer of
 -- an accepted source is stuck.
-abbrev pub Tells : Table → List ℕ → ℕ → ℕ → Answer → Result (List ℕ) Failure → Type 0
-Tells types results calls frames (Gives vs left) e = e ≡ Ok (printed_lines types results vs)
-Tells types results calls frames (Trap kind line col) e = e ≡ Err (F.Trap kind line col)
-Tells types results calls frames Out e = e ≡ Err (F.OutOfCalls calls)
-Tells types results calls frames Deep e = e ≡ Err (F.OutOfFrames frames)
-Tells types results calls frames Stuck e = ⊥
+abbrev pub Reports : Table → List ℕ → ℕ → ℕ → Answer → Result (List ℕ) Failure → Type 0
+Reports types results calls frames (Gives vs left) e = e ≡ Ok (printed_lines types results vs)
+Reports types results calls frames (Trap kind line col) e = e ≡ Err (F.Trap kind line col)
+Reports types results calls frames Out e = e ≡ Err (F.OutOfCalls calls)
+Reports types results calls frames Deep e = e ≡ Err (F.OutOfFrames frames)
+Reports types results calls frames Stuck e = ⊥
 
 -- The bytes are the text of these arguments of the entry.
 abbrev pub Spells : {source name : List ℕ} → Entry source name → List ℕ → Values → Type 0
@@ -54,10 +54,10 @@ pub data Evaluates (source name input : List ℕ) (calls frames : ℕ) : Result 
   Misspelt : (entry : Entry source name) (at : ℕ) → IsPlace (Spells entry) input at →
       Evaluates source name input calls frames (Err (F.BadInput at))
   Answered : (entry : Entry source name) (vs : Values) (e : Result (List ℕ) Failure) → Spells entry input vs →
-      Tells entry.program.types entry.root.results calls frames
+      Reports entry.program.types entry.root.results calls frames
       (meaning entry.core name NoClosed vs calls frames).answer e → Evaluates source name input calls frames e
 
--- This is said of a result, whatever memory its bytes lie in; or memory is wanting.
+-- This is said of a result, whatever memory its bytes lie in; or memory runs out.
 abbrev pub OrNoMemory : (Result (List ℕ) Failure → Type 0) → Result (Vec ℕ Global) Failure → Type 0
 OrNoMemory Is (Ok text) = Is (Ok text.items)
 OrNoMemory Is (Err F.NoMemory) = Unit {0}

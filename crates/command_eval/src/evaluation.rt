@@ -10,7 +10,7 @@ ghost use Rattle.plain_eval.specs.Ended.{IsEnd};
 ghost use Rattle.command_source.specs.type_safety.Soundness.{IsSoundAnswer};
 ghost use Rattle.command_outcome.specs.Stages.{IsOfRun};
 ghost use Rattle.command_source.specs.Entries.{IsRootedIn};
-ghost use Rattle.command_eval.specs.EvalAnswer.{Evaluates, OrNoMemory, Tells};
+ghost use Rattle.command_eval.specs.EvalAnswer.{Evaluates, OrNoMemory, Reports};
 
 use crate::arguments::arguments;
 use command_outcome::Failure;
@@ -20,8 +20,8 @@ use fip_base::table::TypeTable;
 use plain_eval::{PlainEnded, Rows, eval, print_rows};
 use std::alloc::Global;
 
-// How an evaluation ended, told.
-fn told(
+// How an evaluation ended, reported.
+fn reported(
     alloc: Global,
     types: &TypeTable,
     results: &[u32],
@@ -29,8 +29,8 @@ fn told(
     calls: u64,
     frames: usize,
 ) -> Result<Vec<u8>, Failure>
-    ensures tells { (a : Answer) → IsEnd ended.now a → IsSoundAnswer types.now results.now a →
-        OrNoMemory (Tells types.now results.now calls frames a) result }
+    ensures reports { (a : Answer) → IsEnd ended.now a → IsSoundAnswer types.now results.now a →
+        OrNoMemory (Reports types.now results.now calls frames a) result }
     ensures stage { IfErr result IsOfRun }
 {
     match ended {
@@ -48,7 +48,7 @@ fn told(
     }
 }
 
-// What an instance means on arguments, told.
+// What an instance means on arguments, reported.
 fn evaluated(
     alloc: Global,
     program: &Evaluable,
@@ -57,14 +57,14 @@ fn evaluated(
     calls: u64,
     frames: usize,
 ) -> Result<Vec<u8>, Failure>
-    ensures tells { (vs : Values) → AreRows rows vs → IsSoundAnswer program.now.typed.program.types results.now
+    ensures reports { (vs : Values) → AreRows rows vs → IsSoundAnswer program.now.typed.program.types results.now
         (flat_meaning (V.program program.now.typed.program) program.now.entry vs calls frames).answer →
-        OrNoMemory (Tells program.now.typed.program.types results.now calls frames
+        OrNoMemory (Reports program.now.typed.program.types results.now calls frames
         (flat_meaning (V.program program.now.typed.program) program.now.entry vs calls frames).answer) result }
     ensures stage { IfErr result IsOfRun }
 {
     match eval(alloc, program.typed(), program.entry(), rows, calls, frames) {
-        Ok(ended) => told(
+        Ok(ended) => reported(
             alloc,
             &program.typed().program.types,
             results,

@@ -23,8 +23,8 @@ pub key_more : (text more : List ℕ) (count i key next : ℕ) → i < count →
 key_more text more count i key next less is put =
     let one : count - i ≡ suc (count - (i + 1)) = omega (arith, less) in
     let rest : List ℕ = keys_line (numbers (count - (i + 1)) next) (suc i) in
-    let behind : i + 1 ≡ suc i = omega arith in
-    ap (λ j. more ++ keys_line (numbers (count - (i + 1)) next) j) behind
+    let following : i + 1 ≡ suc i = omega arith in
+    ap (λ j. more ++ keys_line (numbers (count - (i + 1)) next) j) following
     ∙ ap (λ xs. xs ++ rest) put
     ∙ append_assoc text (codes "Cons(" ++ (decimal next ++ codes ", ")) rest
     ∙ ap (λ xs. text ++ xs) (append_assoc (codes "Cons(") (decimal next ++ codes ", ") rest ∙ ap (λ xs. codes "Cons(" ++ xs) (append_assoc (decimal next) (codes ", ") rest))

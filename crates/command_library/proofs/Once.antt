@@ -1,4 +1,4 @@
--- `gen` comes to one thing: its text has one entry, whose run is told in one way, and where it gives values these are
+-- `gen` comes to one thing: its text has one entry, whose run is reported in one way, and where it gives values these are
 -- what the entry means, however many frames its code needs.
 use Rattle.std.proofs.Common.{◌≡◌, ◌∙◌, ℕ, false, List, ap, sym, refl, arith}
 use Rattle.std.specs.Prelude.{Result, Ok, Err}

@@ -36,11 +36,11 @@ use Rattle.command_tasks.specs.command_run.machine_correctness.Starts.{Begins}
 use Rattle.command_tasks.proofs.command_run.machine_correctness.EvaluatedEnds.{answers_as_meant}
 use Rattle.command_tasks.proofs.command_run.machine_correctness.Texts.{printable}
 use Rattle.command_tasks.specs.command_run.CodeRun.{is_run_failure}
-use Rattle.command_tasks.specs.command_run.ExecAnswer.{Execs, Misspelt, Small, Ran, RunsOn, TellsRun, answer_of, frames_for, words_of}
+use Rattle.command_tasks.specs.command_run.ExecAnswer.{Execs, Misspelt, Small, Ran, RunsOn, ReportsRun, answer_of, frames_for, words_of}
 use Rattle.command_tasks.specs.command_run.GaugeText.{if_asked}
 use Rattle.command_tasks.specs.command_run.Leaving.{IsLastStore, LeavesOf}
 use Rattle.command_tasks.specs.command_run.declared.running.Left.{Left}
-use Rattle.command_tasks.specs.command_run.Starting.{IsStarted, TellsEnded, failure_for, gauge_lines}
+use Rattle.command_tasks.specs.command_run.Starting.{IsStarted, ReportsEnded, failure_for, gauge_lines}
 use Rattle.command_tasks.proofs.command_run.ExecOnce.{same_answer, answers_alike}
 use Rattle.command_tasks.proofs.command_run.Execs as X
 use Rattle.command_tasks.proofs.command_run.Entry as N
@@ -51,12 +51,12 @@ use Rattle.command_library.specs.GenAnswer.{tree_source, build, gen_room, Makes,
 use Rattle.command_library.specs.MadeTree.{gen_input, lines_of_results}
 use Rattle.command_library.proofs.Words.{printed_once}
 
--- how a run ended that gave no value is told
-pub failed_told : (tb : Table) (types : List ℕ) (room : Room) (behind : List ℕ) (s : Store) (given : List ℕ) (o : Ended) (failure : Failure) → failure_for o room.calls room.frames ≡ Some failure → TellsEnded tb types room behind s given o (Err failure)
-failed_told tb types room behind s given M.Value failure e = absurd (none-some failure e)
-failed_told tb types room behind s given (M.Trap kind line col) failure e = ap Err (sym (same_Some (F.Trap kind line col) failure e))
-failed_told tb types room behind s given M.Out failure e = ap Err (sym (same_Some (F.OutOfCalls room.calls) failure e))
-failed_told tb types room behind s given M.Deep failure e = ap Err (sym (same_Some (F.OutOfFrames room.frames) failure e))
+-- how a run ended that gave no value is reported
+pub failed_reported : (tb : Table) (types : List ℕ) (room : Room) (following : List ℕ) (s : Store) (given : List ℕ) (o : Ended) (failure : Failure) → failure_for o room.calls room.frames ≡ Some failure → ReportsEnded tb types room following s given o (Err failure)
+failed_reported tb types room following s given M.Value failure e = absurd (none-some failure e)
+failed_reported tb types room following s given (M.Trap kind line col) failure e = ap Err (sym (same_Some (F.Trap kind line col) failure e))
+failed_reported tb types room following s given M.Out failure e = ap Err (sym (same_Some (F.OutOfCalls room.calls) failure e))
+failed_reported tb types room following s given M.Deep failure e = ap Err (sym (same_Some (F.OutOfFrames room.frames) failure e))
 
 -- and it is the end of a run
 pub run_failed : (o : Ended) (calls frames : ℕ) (failure : Failure) → failure_for o calls frames ≡ Some failure → is_run_failure failure ≡ true
@@ -72,7 +72,7 @@ is_value (M.Trap kind line col) calls frames e = absurd (none-some (F.Trap kind 
 is_value M.Out calls frames e = absurd (none-some (F.OutOfCalls calls) (sym e))
 is_value M.Deep calls frames e = absurd (none-some (F.OutOfFrames frames) (sym e))
 
--- this is said of a failure, or memory is wanting
+-- this is said of a failure, or memory runs out
 pub or_memory : (Is : Result (List ℕ) Failure → Type 0) (failure : Failure) → Is (Err failure) → OrNoMemory Is (Err failure)
 or_memory Is F.NoMemory h = tt
 or_memory Is failure h = h
@@ -83,9 +83,9 @@ gives_not_deep a vs left e d = let no : Gives vs left ≡ Deep = sym e ∙ d in 
 pub no_text : (failure : Failure) (text : List ℕ) → ◌≡◌ {A = Result (List ℕ) Failure} (Err failure) (Ok text) → ⊥
 no_text failure text e = absurd cc
 
-text_not_deep : (tb : Table) (types : List ℕ) (calls frames : ℕ) (behind : Values → List ℕ) (a : Answer) (text : List ℕ) → TellsRun tb types calls frames behind a (Ok text) → a ≢ Deep
-text_not_deep tb types calls frames behind a text h e =
-    let no : ◌≡◌ {A = Result (List ℕ) Failure} (Ok text) (Err (F.OutOfFrames frames)) = subst (λ a. TellsRun tb types calls frames behind a (Ok text)) e h in
+text_not_deep : (tb : Table) (types : List ℕ) (calls frames : ℕ) (following : Values → List ℕ) (a : Answer) (text : List ℕ) → ReportsRun tb types calls frames following a (Ok text) → a ≢ Deep
+text_not_deep tb types calls frames following a text h e =
+    let no : ◌≡◌ {A = Result (List ℕ) Failure} (Ok text) (Err (F.OutOfFrames frames)) = subst (λ a. ReportsRun tb types calls frames following a (Ok text)) e h in
     absurd cc
 
 module _ (source : List ℕ) (seed count : ℕ) (input : List ℕ) (is : input ≡ gen_input seed count) where
@@ -109,7 +109,7 @@ module _ (source : List ℕ) (seed count : ℕ) (input : List ℕ) (is : input �
         let n : ℕ = frames_for runs.code gen_room in
         let texts : us ≡ vs = one_text source build x y input vs us spelt also in
         let here : answer_of y us gen_room.calls frames ≡ Gives rs left = answers_alike source build x y us gen_room.calls frames ∙ (ap (λ ws. answer_of x ws gen_room.calls frames) texts ∙ gives) in
-        let some : answer_of y us gen_room.calls n ≢ Deep = text_not_deep y.program.types y.root.results gen_room.calls n (λ ws. []) (answer_of y us gen_room.calls n) text runs.told in
+        let some : answer_of y us gen_room.calls n ≢ Deep = text_not_deep y.program.types y.root.results gen_room.calls n (λ ws. []) (answer_of y us gen_room.calls n) text runs.reported in
         let same : answer_of y us gen_room.calls frames ≡ answer_of y us gen_room.calls n = same_answer y.core build us gen_room.calls frames n (gives_not_deep (answer_of y us gen_room.calls frames) rs left here) some in
         Made y us rs left text within (subst (λ bs. Spells y bs us) is also) fits runs (sym same ∙ here)
 
@@ -158,16 +158,16 @@ module _ (source : List ℕ) (seed count : ℕ) (input : List ℕ) (is : input �
           meant : IsMeant tb f.results o last new.stack.given answer
           meant = answers_as_meant source entry.core r.checked ran.before ran.waits r.entry f st.values frames st.state gen_room.calls o last new.stack.given (N.code_of source build r ready h literals) ran.kinds begins header.some ran.runs
 
-          told : (vs : Values) → ArePrintable tb new.store.cells f.results new.stack.given vs → TellsEnded tb st.function.results gen_room (if_asked false (gauge_lines g st.has_frames.held)) new.store new.stack.given o (Ok (printed_lines tb f.results vs ++ []))
-          told vs p = subst (λ (q : PlainFunction). TellsEnded tb q.results gen_room [] new.store new.stack.given o (Ok (printed_lines tb f.results vs ++ []))) (sym own)
-              (subst (λ o. TellsEnded tb f.results gen_room [] new.store new.stack.given o (Ok (printed_lines tb f.results vs ++ []))) (sym value)
+          reported : (vs : Values) → ArePrintable tb new.store.cells f.results new.stack.given vs → ReportsEnded tb st.function.results gen_room (if_asked false (gauge_lines g st.has_frames.held)) new.store new.stack.given o (Ok (printed_lines tb f.results vs ++ []))
+          reported vs p = subst (λ (q : PlainFunction). ReportsEnded tb q.results gen_room [] new.store new.stack.given o (Ok (printed_lines tb f.results vs ++ []))) (sym own)
+              (subst (λ o. ReportsEnded tb f.results gen_room [] new.store new.stack.given o (Ok (printed_lines tb f.results vs ++ []))) (sym value)
               (λ us q. ap (λ ws. Ok (printed_lines tb f.results ws ++ [])) (sym (printed_once tb new.store.cells f.results new.stack.given vs us p q))))
 
           by : (a : Answer) → answer ≡ a → IsMeant tb f.results M.Value last new.stack.given a → Makes source seed count (Ok text)
           by (Gives vs left) e k =
               let p : ArePrintable tb new.store.cells f.results new.stack.given vs = printable tb new.store f.results new.stack.given vs k in
               let gives : answer_of entry st.values gen_room.calls frames ≡ Gives vs left = subst (λ n. (meaning entry.core n NoClosed st.values gen_room.calls frames).answer ≡ Gives vs left) header.named e in
-              let execs = X.execs source build input r ready h literals gen_room false m st o new g ran (Ok (printed_lines tb f.results vs ++ [])) (told vs p) in
+              let execs = X.execs source build input r ready h literals gen_room false m st o new g ran (Ok (printed_lines tb f.results vs ++ [])) (reported vs p) in
               subst (λ t. Makes source seed count (Ok t)) (sym (lines vs p)) (made_of entry st.values vs left frames (printed_lines tb f.results vs ++ []) spelt gives (Ok (printed_lines tb f.results vs ++ [])) refl execs)
           by (Trap kind line col) e k = absurd k
           by Out e k = absurd k

@@ -1,4 +1,4 @@
--- The parts that are still to be read: one more behind them, and the last of them.
+-- The parts that are still to be read: one more after them, and the last of them.
 use Rattle.std.proofs.Common.{◌≡◌, ◌≢◌, ◌∙◌, ℕ, zero, suc, ◌<◌, ℤ, List, [], ◌∷◌, ◌++◌, length, drop, Some, None, refl, sym, ap, subst, append_assoc, arith}
 use Rattle.std.specs.Prelude.{slice_get, slice_index}
 use Rattle.std.specs.Int.{w64, cast_signed}

@@ -1,10 +1,10 @@
 -- It serves the proofs on `gen`: what it comes to, as the run of a code of the library's text rbtree, entry build, on
 -- the keys of a seed.
 --
--- Were that text refused, its refusal would be told. Its input is three lines: the list of the keys, a list of as many
+-- Were that text refused, its refusal would be reported. Its input is three lines: the list of the keys, a list of as many
 -- pads Pad4(0, 0, 0, 0), and Leaf. The keys are the numbers of the seed, as for the turns of tasks. The run has the
 -- calls and frames that `exec` is given where nothing is said, and the greatest store; and what keeps `exec` from its
--- values is told. In place of the values four lines are printed, of the tree that the meaning of the entry gives on
+-- values is reported. In place of the values four lines are printed, of the tree that the meaning of the entry gives on
 -- these arguments: how many keys and how many nodes, and the least and the greatest key of a node, `none` where there
 -- is no node.
 --

@@ -7,7 +7,7 @@ ghost use Rattle.command_library.specs.MadeTree.{closing, keys_line, pads_line, 
 use fip_base::plain::NoMemory;
 use std::alloc::Global;
 
-// The key behind a key, and behind the seed.
+// The key after a key, and after the seed.
 fn next_key(key: u64) -> u64
     ensures next { result ≡ next_number key }
 {

@@ -1,5 +1,5 @@
 // What the commands do that need no file: the texts of the library, and the tree that is made of a seed's keys, a run
-// of the library's `build` on the text of these keys, and what is told of it.
+// of the library's `build` on the text of these keys, and what is reported of it.
 #![tactic(auto)]
 
 mod arguments;

@@ -1,4 +1,4 @@
-// What keeps a command from its result, and how it is told.
+// What keeps a command from its result, and how it is reported.
 ghost use Rattle.std.specs.Prelude.{◌≡◌, IfOk, string_bytes};
 ghost use Rattle.command_outcome.specs.Failures.{fault_text, failure_text, failure_status};
 

@@ -49,7 +49,7 @@ fn put_stack(alloc: Global, text: &mut Vec<u8>, stack: Option<Stack>) -> Result<
     Ok(())
 }
 
-/// Puts the line of a function behind a text: its name, its kind, the sizes of its header's credits, and what a run
+/// Puts the line of a function after a text: its name, its kind, the sizes of its header's credits, and what a run
 /// of it holds of the stack at the most, where that is known.
 pub fn put_function(
     alloc: Global,

@@ -1,5 +1,5 @@
--- What a machine's run came to: a run of the code to its end, and the gauge tells of all its states.
--- Idea: a run comes to one end, so the end of which the gauge tells is the end that the machine told.
+-- What a machine's run came to: a run of the code to its end, and the gauge reports of all its states.
+-- Idea: a run comes to one end, so the end of which the gauge reports is the end that the machine reported.
 use Rattle.std.proofs.Common.{◌≡◌, ◌∙◌, ℕ, List, [], Option, Some, None, refl, sym, ap, subst, arith}
 use Rattle.fip_language.specs.Gauge.{Seen}
 use Rattle.fip_language.specs.Meaning.{Answer, Gives, Trap, Out, Deep, Stuck}
@@ -19,37 +19,37 @@ use Rattle.fip_machine.specs.code_verify.Checked.{Checked}
 use Rattle.fip_machine.specs.declared.gauge.Gauge.{Gauge}
 use Rattle.fip_machine.specs.declared.machine.Ended.{Ended}
 use Rattle.fip_machine.specs.Ending.{RunsTo}
-use Rattle.fip_machine.specs.GaugeView.{Tells, TellsRun}
+use Rattle.fip_machine.specs.GaugeView.{Reports, ReportsRun}
 use Rattle.command_eval.specs.machine_correctness.code_rules.Codes.{PlainCode, PlainFunction, plain, results}
 use Rattle.command_eval.specs.machine_correctness.code_rules.StackNumbers.{HasStack}
 use Rattle.command_eval.specs.machine_correctness.tree_refinement.Agreement.{AreWordsOf}
 use Rattle.command_eval.specs.machine_correctness.tree_refinement.Runs.{IsSameEnd}
 use Rattle.command_eval.proofs.machine_correctness.tree_refinement.Running.{trees_end}
 use Rattle.session_semantics.specs.Talk.{frames_of}
-use Rattle.command_eval.specs.machine_correctness.Ended.{EndsJustAs, TellsJustOver}
-use Rattle.command_eval.proofs.machine_correctness.VerifiedEnds.{runs_just, tells_just_run}
+use Rattle.command_eval.specs.machine_correctness.Ended.{EndsJustAs, ReportsJustOver}
+use Rattle.command_eval.proofs.machine_correctness.VerifiedEnds.{runs_just, reports_just_run}
 use Rattle.command_eval.specs.machine_correctness.Starts.{IsSoundCode, Begins}
 use Rattle.command_eval.proofs.machine_correctness.EvaluatedEnds.{ended}
 use Rattle.command_eval.proofs.machine_correctness.Starting.{read, starts, free_is}
 use Rattle.command_run.specs.CodeRun as D
 use Rattle.command_run.specs.CodeRun.{all_seen}
 
--- a run that is over, of which the gauge tells
-record IsTold (r : Run) (g : Gauge) (ss : List Seen) : Type 0 where
+-- a run that is over, of which the gauge reports
+record IsReported (r : Run) (g : Gauge) (ss : List Seen) : Type 0 where
   pub end : End
   pub last : State
   pub left : ℕ
   pub steps : ℕ
   pub is : r ≡ Over end last left steps
-  pub tells : Tells g ss
+  pub reports : Reports g ss
 
-told_over : (r : Run) (g : Gauge) (ss : List Seen) → TellsJustOver r g ss → IsTold r g ss
-told_over (Going s left n) g ss h = absurd h
-told_over (Over (C.Value ws) s left n) g ss h = record { end = C.Value ws; last = s; left = left; steps = n; is = refl; tells = h }
-told_over (Over (C.Trap kind line col) s left n) g ss h = record { end = C.Trap kind line col; last = s; left = left; steps = n; is = refl; tells = h }
-told_over (Over C.Out s left n) g ss h = record { end = C.Out; last = s; left = left; steps = n; is = refl; tells = h }
-told_over (Over C.Deep s left n) g ss h = record { end = C.Deep; last = s; left = left; steps = n; is = refl; tells = h }
-told_over (Over C.Unsound s left n) g ss h = absurd h
+reported_over : (r : Run) (g : Gauge) (ss : List Seen) → ReportsJustOver r g ss → IsReported r g ss
+reported_over (Going s left n) g ss h = absurd h
+reported_over (Over (C.Value ws) s left n) g ss h = record { end = C.Value ws; last = s; left = left; steps = n; is = refl; reports = h }
+reported_over (Over (C.Trap kind line col) s left n) g ss h = record { end = C.Trap kind line col; last = s; left = left; steps = n; is = refl; reports = h }
+reported_over (Over C.Out s left n) g ss h = record { end = C.Out; last = s; left = left; steps = n; is = refl; reports = h }
+reported_over (Over C.Deep s left n) g ss h = record { end = C.Deep; last = s; left = left; steps = n; is = refl; reports = h }
+reported_over (Over C.Unsound s left n) g ss h = absurd h
 
 same_over : (e d : End) (s t : State) (l m j k : ℕ) (o : Ended) (last : State) (given : List ℕ) → Over e s l j ≡ Over d t m k → EndsJustAs d t o last given → EndsJustAs e s o last given
 same_over e d s t l m j k o last given is h =
@@ -68,16 +68,16 @@ pub record Came (v : Checked) (n : ℕ) (vs : Values) (calls frames : ℕ) (s : 
   pub run : D.Run (plain v.code) n vs calls frames
   pub begins : run.first ≡ s
   pub as' : EndsJustAs run.end run.last o last given
-  pub tells : Tells g (all_seen run)
+  pub reports : Reports g (all_seen run)
 
-pub came : (v : Checked) (before waits : Kinds) (n : ℕ) (f : PlainFunction) (vs : Values) (frames : ℕ) (s : State) (calls : ℕ) (o : Ended) (last : State) (given : List ℕ) (g : Gauge) → IsSoundCode v.code → AreKinds (plain v.code) before waits → Begins v.code n f vs frames s → RunsTo before (R.plain v.code) s calls o last given → TellsRun before (R.plain v.code) s calls g → Came v n vs calls frames s o last given g
-came v before waits n f vs frames s calls o last given g sound kinds b runs tells =
+pub came : (v : Checked) (before waits : Kinds) (n : ℕ) (f : PlainFunction) (vs : Values) (frames : ℕ) (s : State) (calls : ℕ) (o : Ended) (last : State) (given : List ℕ) (g : Gauge) → IsSoundCode v.code → AreKinds (plain v.code) before waits → Begins v.code n f vs frames s → RunsTo before (R.plain v.code) s calls o last given → ReportsRun before (R.plain v.code) s calls g → Came v n vs calls frames s o last given g
+came v before waits n f vs frames s calls o last given g sound kinds b runs reports =
     let c = plain v.code in
     let t = starts v.code before waits n f vs frames s sound kinds b in
     let just = runs_just v before waits n [] s calls o last given t.0 runs in
     let x = ended (after before (R.plain v.code) just.0 (begun s calls)) o last given just.1 in
-    let shown = tells_just_run v before waits n [] s calls g t.0 tells in
-    let y = told_over (after before (R.plain v.code) shown.0 (begun s calls)) g (seen before (R.plain v.code) shown.0 (begun s calls)) shown.1 in
+    let shown = reports_just_run v before waits n [] s calls g t.0 reports in
+    let y = reported_over (after before (R.plain v.code) shown.0 (begun s calls)) g (seen before (R.plain v.code) shown.0 (begun s calls)) shown.1 in
     let ends : Ends before (run_code c) s calls x.end x.last x.left x.steps = record { enough = just.0; is = ap (λ (q : R.PlainCode). after before q just.0 (begun s calls)) (read v.code) ∙ x.is } in
     let same : Ends before (run_code c) s calls y.end y.last y.left y.steps = record { enough = shown.0; is = ap (λ (q : R.PlainCode). after before q shown.0 (begun s calls)) (read v.code) ∙ y.is } in
     let once = ends_once c before waits before waits n [] s calls y.end x.end y.last x.last y.left x.left y.steps x.steps t.0 kinds same ends in
@@ -97,7 +97,7 @@ came v before waits n f vs frames s calls o last given g sound kinds b runs tell
       };
       begins = refl;
       as' = same_over y.end x.end y.last x.last y.left x.left y.steps x.steps o last given once x.as';
-      tells = subst (λ (q : R.PlainCode). Tells g (seen before q shown.0 (begun s calls))) (sym (read v.code)) y.tells;
+      reports = subst (λ (q : R.PlainCode). Reports g (seen before q shown.0 (begun s calls))) (sym (read v.code)) y.reports;
     }
 
 -- ---- its end

@@ -1,5 +1,5 @@
 -- A run of a code file comes to one thing: bytes spell one code, which has one function of a name and one stack number
--- of it; a text has one meaning; and runs on the same values are told alike, wherever their cells lie.
+-- of it; a text has one meaning; and runs on the same values are reported alike, wherever their cells lie.
 use Rattle.std.proofs.Common.{◌≡◌, ℕ, ◌<◌, ◌≤◌, Bool, List, [], ◌∷◌, ◌++◌, Option, Some, length, refl, sym, ap, ap₂, ◌∙◌, subst, arith}
 use Rattle.std.specs.Prelude.{Result, Ok, Err}
 use Rattle.std.proofs.lemmas.Option.{same_Some}
@@ -40,7 +40,7 @@ use Rattle.value_text.proofs.Exact.{accepts_text}
 use Rattle.value_text.proofs.Tables.{is_table, types_alive}
 use Rattle.command_eval.specs.command_source.Codes.{sound_view, IsSoundFile}
 use Rattle.command_run.specs.CodeRun as C
-use Rattle.command_run.specs.CodeRun.{Chosen, RunsCode, Misspelt, Small, Ran, TellsCode, all_seen, words_for}
+use Rattle.command_run.specs.CodeRun.{Chosen, RunsCode, Misspelt, Small, Ran, ReportsCode, all_seen, words_for}
 use Rattle.command_run.specs.GaugeText.{gauge_by_states, if_asked}
 use Rattle.command_run.proofs.FileTypes.{file_spelt}
 use Rattle.command_run.proofs.Gauging.{gauge_same}
@@ -84,23 +84,23 @@ same_what bytes name w x h k =
     let held : w.held ≡ x.held = has_once (sound_view w.code) w.number w.held x.held h.stack stack in
     (λ k. record { code = code k; number = number k; function = function k; held = held k })
 
--- ---- what is told
+-- ---- what is reported
 
 -- words stand for one list of values
 pub results_once : (tb : Table) (s : Store) (ts ws : List ℕ) (vs us : Values) → AreWordsOf tb s ts ws vs → AreWordsOf tb s ts ws us → vs ≡ us
 results_once tb s ts ws vs us h k = sym h.3 ∙ (ap values_of (same_parts tb s ts h.0 k.0 h.2 k.2 (sym h.1 ∙ k.1)) ∙ k.3)
 
--- ends that are alike are told the same, where the same stands behind values
-tells_alike : (tb : Table) (types : List ℕ) (calls frames : ℕ) (behind beside : List ℕ) (s u : State) (e d : R.End) (x y : Result (List ℕ) Failure) → IsAlike tb types s.store e u.store d → ((ws us : List ℕ) → e ≡ R.Value ws → d ≡ R.Value us → behind ≡ beside) → TellsCode tb types calls frames behind s e x → TellsCode tb types calls frames beside u d y → x ≡ y
-tells_alike tb types calls frames behind beside s u (R.Value ws) (R.Value us) x y h same k l =
+-- ends that are alike are reported the same, where the same stands after values
+reports_alike : (tb : Table) (types : List ℕ) (calls frames : ℕ) (following beside : List ℕ) (s u : State) (e d : R.End) (x y : Result (List ℕ) Failure) → IsAlike tb types s.store e u.store d → ((ws us : List ℕ) → e ≡ R.Value ws → d ≡ R.Value us → following ≡ beside) → ReportsCode tb types calls frames following s e x → ReportsCode tb types calls frames beside u d y → x ≡ y
+reports_alike tb types calls frames following beside s u (R.Value ws) (R.Value us) x y h same k l =
     let left : k.0 ≡ h.0 = results_once tb s.store types ws k.0 h.0 k.1 h.1 in
     let right : l.0 ≡ h.0 = results_once tb u.store types us l.0 h.0 l.1 h.2 in
     k.2 ∙ (ap₂ (λ vs lines. Ok (printed_lines tb types vs ++ lines)) (left ∙ sym right) (same ws us refl refl) ∙ sym l.2)
-tells_alike tb types calls frames behind beside s u (R.Trap kind line col) (R.Trap other row at) x y h same k l =
+reports_alike tb types calls frames following beside s u (R.Trap kind line col) (R.Trap other row at) x y h same k l =
     k ∙ ((λ i. Err (F.Trap (h.0 i) (h.1 i) (h.2 i))) ∙ sym l)
-tells_alike tb types calls frames behind beside s u R.Out R.Out x y h same k l = k ∙ sym l
-tells_alike tb types calls frames behind beside s u R.Deep R.Deep x y h same k l = k ∙ sym l
-tells_alike tb types calls frames behind beside s u e d x y h same k l = absurd h
+reports_alike tb types calls frames following beside s u R.Out R.Out x y h same k l = k ∙ sym l
+reports_alike tb types calls frames following beside s u R.Deep R.Deep x y h same k l = k ∙ sym l
+reports_alike tb types calls frames following beside s u e d x y h same k l = absurd h
 
 -- ---- two runs on the same values
 
@@ -125,10 +125,10 @@ module _ (c : S.PlainCode) (n : ℕ) (vs : Values) (calls frames : ℕ) (r q : C
       (frames_alike c r.before r.waits q.before q.waits n [] [] r.first q.first vs calls r.end q.end r.last q.last r.left q.left r.steps q.steps r.starts r.arguments q.starts q.arguments free_same r.ends q.ends)
       (words_alike c r.before r.waits q.before q.waits n [] [] r.first q.first vs calls r.end q.end r.last q.last r.left q.left r.steps q.steps r.starts r.arguments q.starts q.arguments free_same r.ends q.ends)
 
-  -- and they are told the same
-  pub runs_once : (types : List ℕ) (held : Option Stack) (gauge : Bool) (x y : Result (List ℕ) Failure) → S.results c n ≡ types → TellsCode c.types types calls frames (if_asked gauge (gauge_by_states (all_seen r) held)) r.last r.end x → TellsCode c.types types calls frames (if_asked gauge (gauge_by_states (all_seen q) held)) q.last q.end y → x ≡ y
+  -- and they are reported the same
+  pub runs_once : (types : List ℕ) (held : Option Stack) (gauge : Bool) (x y : Result (List ℕ) Failure) → S.results c n ≡ types → ReportsCode c.types types calls frames (if_asked gauge (gauge_by_states (all_seen r) held)) r.last r.end x → ReportsCode c.types types calls frames (if_asked gauge (gauge_by_states (all_seen q) held)) q.last q.end y → x ≡ y
   runs_once types held gauge x y is h k =
-      tells_alike c.types types calls frames (if_asked gauge (gauge_by_states (all_seen r) held)) (if_asked gauge (gauge_by_states (all_seen q) held)) r.last q.last r.end q.end x y
+      reports_alike c.types types calls frames (if_asked gauge (gauge_by_states (all_seen r) held)) (if_asked gauge (gauge_by_states (all_seen q) held)) r.last q.last r.end q.end x y
       (subst (λ ts. IsAlike c.types ts (r.last).store r.end (q.last).store q.end) is alike)
       (λ ws us first second. ap (if_asked gauge) (gauges_same held ws us first second)) h k
 
@@ -143,10 +143,10 @@ words_of w vs = words_for vs (w.function).credits
 abbrev RunBy : What → Values → Room → Type 0
 RunBy w vs room = C.Run (sound_view w.code) w.number vs room.calls (frames_of room.frames w.held)
 
--- the run on these values is told so
+-- the run on these values is reported so
 record IsDone (w : What) (room : Room) (gauge : Bool) (vs : Values) (e : Result (List ℕ) Failure) : Type 0 where
   run : RunBy w vs room
-  told : TellsCode (w.code).types (w.function).results room.calls (frames_of room.frames w.held) (if_asked gauge (gauge_by_states (all_seen run) w.held)) run.last run.end e
+  reported : ReportsCode (w.code).types (w.function).results room.calls (frames_of room.frames w.held) (if_asked gauge (gauge_by_states (all_seen run) w.held)) run.last run.end e
 
 data Came (w : What) (input : List ℕ) (room : Room) (gauge : Bool) (e : Result (List ℕ) Failure) : Type 0 where
   Bad : (at : ℕ) → IsPlace (Spelt w) input at → e ≡ Err (F.BadInput at) → Came w input room gauge e
@@ -156,7 +156,7 @@ data Came (w : What) (input : List ℕ) (room : Room) (gauge : Bool) (e : Result
 came : (bytes name input : List ℕ) (room : Room) (gauge : Bool) (e : Result (List ℕ) Failure) → RunsCode bytes name input room gauge e → (w : What) × IsWhat bytes name w × Came w input room gauge e
 came bytes name input room gauge _ (Misspelt c at place) = (what c, what_is c, Bad at place refl)
 came bytes name input room gauge _ (Small c vs spelt less) = (what c, what_is c, Few vs spelt less refl)
-came bytes name input room gauge e (Ran c vs r _ spelt fits told) = (what c, what_is c, Done vs spelt fits (record { run = r; told = told }))
+came bytes name input room gauge e (Ran c vs r _ spelt fits reported) = (what c, what_is c, Done vs spelt fits (record { run = r; reported = reported }))
 
 module _ (bytes name : List ℕ) (w : What) (is : IsWhat bytes name w) where
   abbrev code : S.PlainCode
@@ -193,7 +193,7 @@ module _ (bytes name : List ℕ) (w : What) (is : IsWhat bytes name w) where
       absurd (omega (arith, less, fits, same))
   came_once input room gauge d e (Done vs spelt fits done) (Done us also more other) =
       let there : IsDone w room gauge vs e = subst (λ vs. IsDone w room gauge vs e) (sym (values_once input vs us spelt also)) other in
-      runs_once code w.number vs room.calls (frames_of room.frames w.held) done.run there.run (w.function).results w.held gauge d e (ap S.results_of is.there) done.told there.told
+      runs_once code w.number vs room.calls (frames_of room.frames w.held) done.run there.run (w.function).results w.held gauge d e (ap S.results_of is.there) done.reported there.reported
 
 pub code_run_once : (bytes name input : List ℕ) (room : Room) (gauge : Bool) (d e : Result (List ℕ) Failure) → RunsCode bytes name input room gauge d → RunsCode bytes name input room gauge e → d ≡ e
 code_run_once bytes name input room gauge d e h k =

@@ -66,10 +66,10 @@ header_first Fip h hs some = refl
 header_first Fbip h hs some = refl
 header_first Fun h hs some = absurd (some refl)
 
-header_behind : (k : FunKind) (h g : Header) (hs : List Header) (m : ℕ) → slice_get hs m ≡ Some g → (j : ℕ) × (slice_get (and_if (is_ruled k) h hs) j ≡ Some g)
-header_behind Fip h g hs m e = (suc m, e)
-header_behind Fbip h g hs m e = (suc m, e)
-header_behind Fun h g hs m e = (m, e)
+header_after : (k : FunKind) (h g : Header) (hs : List Header) (m : ℕ) → slice_get hs m ≡ Some g → (j : ℕ) × (slice_get (and_if (is_ruled k) h hs) j ≡ Some g)
+header_after Fip h g hs m e = (suc m, e)
+header_after Fbip h g hs m e = (suc m, e)
+header_after Fun h g hs m e = (m, e)
 
 pub header_at : (ms : List Member) (i : ℕ) (ds : List Instance) (place : ℕ) (d : Instance) → slice_get ds place ≡ Some d → (d.kind ≡ Fun → ⊥) → (m : ℕ) × (k : ℕ) × (slice_get (headers_from ms i ds) m ≡ Some (header_of k d))
 header_at ms i [] place d e some = absurd (none-some d e)
@@ -79,7 +79,7 @@ header_at ms i (x ∷ ds) zero d e some =
     (0, registers ms i, header_first x.kind (header_of (registers ms i) x) (headers_from ms (suc i) ds) ruled ∙ ap (λ y. Some (header_of (registers ms i) y)) same)
 header_at ms i (x ∷ ds) (suc place) d e some =
     let r = header_at ms (suc i) ds place d e some in
-    let j = header_behind x.kind (header_of (registers ms i) x) (header_of r.1 d) (headers_from ms (suc i) ds) r.0 r.2 in
+    let j = header_after x.kind (header_of (registers ms i) x) (header_of r.1 d) (headers_from ms (suc i) ds) r.0 r.2 in
     (j.0, r.1, j.1)
 
 function_with : (fs : List Function) (m : ℕ) (h : Header) → slice_get (map header fs) m ≡ Some h → (g : Function) × (slice_get fs m ≡ Some g) × (header g ≡ h)

@@ -1,5 +1,5 @@
 -- `exec` comes to one thing: a source means one thing, its input spells one list of arguments, and each of its codes
--- holds of the stack what is told of the entry, so that it has as many frames. What the gauge tells of a run is told by
+-- holds of the stack what is reported of the entry, so that it has as many frames. What the gauge reports of a run is reported by
 -- the evaluation.
 use Rattle.std.proofs.Common.{◌≡◌, ◌≢◌, ◌∙◌, inl, inr, ◌+◌, ◌-◌, ◌≤◌, ℕ, zero, suc, Bool, List, [], ◌∷◌, ◌++◌, length, Option, Some, slice_get, refl, sym, ap, ap₂, subst, arith}
 use Rattle.std.specs.Prelude.{Result, Ok, Err}
@@ -31,7 +31,7 @@ use Rattle.command_eval.proofs.machine_correctness.source_report.Once.{accepted_
 use Rattle.command_eval.specs.EvalAnswer.{Entry, Spells}
 use Rattle.command_eval.proofs.Once.{one_program, one_root, one_core, typed_alike, one_text}
 use Rattle.command_run.specs.CodeRun.{all_seen, words_for}
-use Rattle.command_run.specs.ExecAnswer.{Execs, Misspelt, Small, Ran, RunsOn, TellsRun, answer_of, frames_for, peak_of, words_of}
+use Rattle.command_run.specs.ExecAnswer.{Execs, Misspelt, Small, Ran, RunsOn, ReportsRun, answer_of, frames_for, peak_of, words_of}
 use Rattle.command_run.specs.GaugeText.{gauge_by_states, gauge_text, highest_stack, if_asked, size_line, size_lines, stack_lines}
 use Rattle.command_run.proofs.Entry.{root_at}
 pub use Rattle.command_eval.proofs.command_source.Compiling.{member_there as member_at}
@@ -49,14 +49,14 @@ same_answer core name vs calls m n a b = elim (less_or_not m n) as (λ v. (meani
       sym (sym (ap (λ (r : Run). r.answer) (more_frames core name NoClosed vs calls n (m - n) b)) ∙ ap (λ d. (meaning core name NoClosed vs calls d).answer) all)
 ]
 
--- ---- what is told
+-- ---- what is reported
 
-tells_alike : (tb : Table) (results : List ℕ) (calls frames : ℕ) (behind other : Values → List ℕ) (a : Answer) (d e : Result (List ℕ) Failure) → ((vs : Values) (left : ℕ) → a ≡ Gives vs left → behind vs ≡ other vs) → TellsRun tb results calls frames behind a d → TellsRun tb results calls frames other a e → d ≡ e
-tells_alike tb results calls frames behind other (Gives vs left) d e same h k = h ∙ ap (λ text. Ok (printed_lines tb results vs ++ text)) (same vs left refl) ∙ sym k
-tells_alike tb results calls frames behind other (Trap kind line col) d e same h k = h ∙ sym k
-tells_alike tb results calls frames behind other Out d e same h k = h ∙ sym k
-tells_alike tb results calls frames behind other Deep d e same h k = h ∙ sym k
-tells_alike tb results calls frames behind other Stuck d e same h k = absurd h
+reports_alike : (tb : Table) (results : List ℕ) (calls frames : ℕ) (following other : Values → List ℕ) (a : Answer) (d e : Result (List ℕ) Failure) → ((vs : Values) (left : ℕ) → a ≡ Gives vs left → following vs ≡ other vs) → ReportsRun tb results calls frames following a d → ReportsRun tb results calls frames other a e → d ≡ e
+reports_alike tb results calls frames following other (Gives vs left) d e same h k = h ∙ ap (λ text. Ok (printed_lines tb results vs ++ text)) (same vs left refl) ∙ sym k
+reports_alike tb results calls frames following other (Trap kind line col) d e same h k = h ∙ sym k
+reports_alike tb results calls frames following other Out d e same h k = h ∙ sym k
+reports_alike tb results calls frames following other Deep d e same h k = h ∙ sym k
+reports_alike tb results calls frames following other Stuck d e same h k = absurd h
 
 -- the lines of sizes, where the numbers of each size are the same
 pub sizes_alike : (low low' high high' : ℕ → ℕ) → ((k : ℕ) → 1 ≤ k → low k ≡ low' k) → ((k : ℕ) → 1 ≤ k → high k ≡ high' k) → (n : ℕ) → n ≤ MOST_FIELDS → (rest : List ℕ) → size_lines low high n rest ≡ size_lines low' high' n rest
@@ -68,7 +68,7 @@ sizes_alike low low' high high' l h (suc n) le rest =
     ∙ ap (λ x. size_line k (low' k) x (size_lines low high n rest)) (h k one)
     ∙ ap (size_line k (low' k) (high' k)) (sizes_alike low low' high high' l h n (omega (arith, le)) rest)
 
--- what is told of states that are measured alike
+-- what is reported of states that are measured alike
 gauge_alike : (vs us : Values) (ps : List Param) (ks : List ℕ) (peak : Peak) (ss ts : List Seen) (held : Option Stack) → IsMeasured vs us ps ks peak ss → IsMeasured vs us ps ks peak ts → gauge_by_states ss held ≡ gauge_by_states ts held
 gauge_alike vs us ps ks peak ss ts held x y =
     ap (λ (s : Stack). gauge_text (λ k. lowest k ss) (λ k. highest k ss) s held) (ap₂ (λ f w. record { frames = f; words = w }) (x.frames ∙ sym y.frames) (x.words ∙ sym y.words))
@@ -78,7 +78,7 @@ module _ (source name : List ℕ) (x y : Entry source name) where
   pub answers_alike : (vs : Values) (calls frames : ℕ) → answer_of y vs calls frames ≡ answer_of x vs calls frames
   answers_alike vs calls frames = ap (λ (c : Core). (meaning c name NoClosed vs calls frames).answer) (one_core source name x y)
 
-  -- both codes hold of the stack what is told of the entry
+  -- both codes hold of the stack what is reported of the entry
   held_alike : (vs : Values) (room : Room) (gauge : Bool) (d e : Result (List ℕ) Failure) → (h : RunsOn x vs room gauge d) → (k : RunsOn y vs room gauge e) → (k.code).held ≡ (h.code).held
   held_alike vs room gauge d e h k =
       let of = (h.code).of' in
@@ -90,11 +90,11 @@ module _ (source name : List ℕ) (x y : Entry source name) where
       let there : slice_get y.program.instances root.place ≡ Some y.root = ap (λ (p : Program). slice_get p.instances root.place) (one_program source name x y) ∙ root.there ∙ ap Some (sym (one_root source name x y)) in
       k.bound ms other root.place m.0 there m.1 ∙ sym (h.bound ms found root.place m.0 root.there m.1)
 
-  pub behind_alike : (vs : Values) (calls frames : ℕ) (behind : Values → List ℕ) (e : Result (List ℕ) Failure) → TellsRun y.program.types y.root.results calls frames behind (answer_of y vs calls frames) e → TellsRun x.program.types x.root.results calls frames behind (answer_of x vs calls frames) e
-  behind_alike vs calls frames behind e h =
-      subst (λ (c : Core). TellsRun x.program.types x.root.results calls frames behind (meaning c name NoClosed vs calls frames).answer e) (one_core source name x y)
-      (subst (λ (d : Instance). TellsRun x.program.types d.results calls frames behind (meaning y.core name NoClosed vs calls frames).answer e) (one_root source name x y)
-      (subst (λ (p : Program). TellsRun p.types y.root.results calls frames behind (meaning y.core name NoClosed vs calls frames).answer e) (one_program source name x y) h))
+  pub after_alike : (vs : Values) (calls frames : ℕ) (following : Values → List ℕ) (e : Result (List ℕ) Failure) → ReportsRun y.program.types y.root.results calls frames following (answer_of y vs calls frames) e → ReportsRun x.program.types x.root.results calls frames following (answer_of x vs calls frames) e
+  after_alike vs calls frames following e h =
+      subst (λ (c : Core). ReportsRun x.program.types x.root.results calls frames following (meaning c name NoClosed vs calls frames).answer e) (one_core source name x y)
+      (subst (λ (d : Instance). ReportsRun x.program.types d.results calls frames following (meaning y.core name NoClosed vs calls frames).answer e) (one_root source name x y)
+      (subst (λ (p : Program). ReportsRun p.types y.root.results calls frames following (meaning y.core name NoClosed vs calls frames).answer e) (one_program source name x y) h))
 
   pub measured_alike : (vs us : Values) (calls frames : ℕ) (ss : List Seen) → IsMeasured vs us y.root.params y.root.credits (peak_of y vs calls frames) ss → IsMeasured vs us x.root.params x.root.credits (peak_of x vs calls frames) ss
   measured_alike vs us calls frames ss h =
@@ -108,13 +108,13 @@ module _ (source name : List ℕ) (x y : Entry source name) where
       let held : (k.code).held ≡ (h.code).held = held_alike vs room gauge d e h k in
       let same : n ≡ m = ap (frames_of room.frames) held in
       let lines : Option Stack → List ℕ = λ b. if_asked gauge (gauge_by_states (all_seen k.run) b) in
-      let other : TellsRun x.program.types x.root.results room.calls n (λ us. lines (k.code).held) (answer_of x vs room.calls n) e = behind_alike vs room.calls n (λ us. lines (k.code).held) e k.told in
-      let there : TellsRun x.program.types x.root.results room.calls m (λ us. lines (h.code).held) (answer_of x vs room.calls m) e = subst (λ b. TellsRun x.program.types x.root.results room.calls m (λ us. lines b) (answer_of x vs room.calls m) e) held (subst (λ f. TellsRun x.program.types x.root.results room.calls f (λ us. lines (k.code).held) (answer_of x vs room.calls f) e) same other) in
-      tells_alike x.program.types x.root.results room.calls m (λ us. if_asked gauge (gauge_by_states (all_seen h.run) (h.code).held)) (λ us. lines (h.code).held) (answer_of x vs room.calls m) d e
+      let other : ReportsRun x.program.types x.root.results room.calls n (λ us. lines (k.code).held) (answer_of x vs room.calls n) e = after_alike vs room.calls n (λ us. lines (k.code).held) e k.reported in
+      let there : ReportsRun x.program.types x.root.results room.calls m (λ us. lines (h.code).held) (answer_of x vs room.calls m) e = subst (λ b. ReportsRun x.program.types x.root.results room.calls m (λ us. lines b) (answer_of x vs room.calls m) e) held (subst (λ f. ReportsRun x.program.types x.root.results room.calls f (λ us. lines (k.code).held) (answer_of x vs room.calls f) e) same other) in
+      reports_alike x.program.types x.root.results room.calls m (λ us. if_asked gauge (gauge_by_states (all_seen h.run) (h.code).held)) (λ us. lines (h.code).held) (answer_of x vs room.calls m) d e
       (λ us left gives. ap (if_asked gauge) (gauge_alike vs us x.root.params x.root.credits (peak_of x vs room.calls m) (all_seen h.run) (all_seen k.run) (h.code).held (h.measured us left gives)
       (subst (λ f. IsMeasured vs us x.root.params x.root.credits (peak_of x vs room.calls f) (all_seen k.run)) same
       (measured_alike vs us room.calls n (all_seen k.run) (k.measured us left (answers_alike vs room.calls n ∙ ap (answer_of x vs room.calls) same ∙ gives))))))
-      h.told there
+      h.reported there
 
   pub words_alike : (vs : Values) → words_of y vs ≡ words_of x vs
   words_alike vs = ap (λ (d : Instance). words_for vs d.credits) (one_root source name x y)

@@ -26,7 +26,7 @@ use Rattle.command_eval.specs.machine_correctness.separation.Codes.{HasLiterals,
 use Rattle.fip_machine.specs.declared.gauge.Gauge.{Gauge}
 use Rattle.fip_machine.specs.declared.machine.Ended.{Ended}
 use Rattle.fip_machine.specs.Ending.{RunsTo}
-use Rattle.fip_machine.specs.GaugeView.{Tells, TellsRun}
+use Rattle.fip_machine.specs.GaugeView.{Reports, ReportsRun}
 use Rattle.fip_machine.specs.Machines.{Seen}
 use Rattle.fip_machine.specs.Tasks.{state_with}
 use Rattle.command_eval.specs.machine_correctness.code_rules.Codes.{PlainCode, PlainFunction, plain, plain_function, function_at, is_fip}
@@ -53,19 +53,19 @@ use Rattle.command_eval.proofs.machine_correctness.Peaks.{measured}
 use Rattle.command_eval.proofs.machine_correctness.Starting.{begins_of}
 use Rattle.command_run.specs.CodeRun as D
 use Rattle.command_run.specs.CodeRun.{all_seen, words_for}
-use Rattle.command_run.specs.ExecAnswer.{TellsRun as TellsMeant, Coded, IsBoundOf, RunsInPlace, RunsOn, Execs, Misspelt, Small, Ran}
+use Rattle.command_run.specs.ExecAnswer.{ReportsRun as ReportsMeant, Coded, IsBoundOf, RunsInPlace, RunsOn, Execs, Misspelt, Small, Ran}
 use Rattle.command_run.specs.GaugeText.{gauge_by_states, if_asked}
-use Rattle.command_run.specs.Starting.{IsStarted, KeepsFromLoading, KeepsFromStart, TellsEnded, gauge_lines}
+use Rattle.command_run.specs.Starting.{IsStarted, KeepsFromLoading, KeepsFromStart, ReportsEnded, gauge_lines}
 use Rattle.command_run.proofs.Came.{Came}
 use Rattle.command_run.proofs.Entry as N
 use Rattle.command_run.proofs.Entry.{IsEntry}
-use Rattle.command_run.proofs.Gauging.{gauge_tells}
+use Rattle.command_run.proofs.Gauging.{gauge_reports}
 use Rattle.command_run.proofs.Ran as P
-use Rattle.command_run.proofs.Told.{said, told_meant}
+use Rattle.command_run.proofs.Reported.{said, reported_meant}
 
 -- ---- in place
 
-flat_states : (g : Gauge) (vs : Values) (credits : List ℕ) (ss : List a_seen) (s : Stack) → Tells g ss → IsFlat g vs credits s → RunsInPlace vs credits ss (Some s)
+flat_states : (g : Gauge) (vs : Values) (credits : List ℕ) (ss : List a_seen) (s : Stack) → Reports g ss → IsFlat g vs credits s → RunsInPlace vs credits ss (Some s)
 flat_states g vs credits ss s t flat =
     let frames = flat.frames in
     let words = flat.words in
@@ -75,13 +75,13 @@ flat_states g vs credits ss s t flat =
       within = (subst (λ n. n ≤ s.frames) t.frames frames, subst (λ n. n ≤ s.words) t.words words);
     }
 
--- ---- the run of a code of the source, which is told as the source means
+-- ---- the run of a code of the source, which is reported as the source means
 
 record MeantSo (core : Core) (name : List ℕ) (tb : Table) (c : PlainCode) (n : ℕ) (f : PlainFunction) (vs : Values) (room : Room) (held : Option Stack) (gauge : Bool) (e : Result (List ℕ) Failure) : Type 0 where
   pub there : function_at c n ≡ Some f
   pub stack : HasStack c n held
   pub run : D.Run c n vs room.calls (frames_of room.frames held)
-  pub told : TellsMeant tb f.results room.calls (frames_of room.frames held) (λ _. if_asked gauge (gauge_by_states (all_seen run) held)) (meaning core name NoClosed vs room.calls (frames_of room.frames held)).answer e
+  pub reported : ReportsMeant tb f.results room.calls (frames_of room.frames held) (λ _. if_asked gauge (gauge_by_states (all_seen run) held)) (meaning core name NoClosed vs room.calls (frames_of room.frames held)).answer e
   pub measured : (results : Values) (left : ℕ) → (meaning core name NoClosed vs room.calls (frames_of room.frames held)).answer ≡ Gives results left → IsMeasured vs results f.params f.credits (meaning core name NoClosed vs room.calls (frames_of room.frames held)).peak (all_seen run)
   pub in_place : is_fip f.kind ≡ true → RunsInPlace vs f.credits (all_seen run) held
   pub never_deep : is_fip f.kind ≡ true → (meaning core name NoClosed vs room.calls (frames_of room.frames held)).answer ≢ Deep
@@ -94,10 +94,10 @@ module _ (source : List ℕ) (core : Core) (r : Chosen) (is : IsCodeOf source co
     abbrev answer : Answer
     answer = (meaning core f.name NoClosed vs room.calls frames).answer
 
-    meant_flat : (before waits : Kinds) (g : Gauge) (ss : List a_seen) → AreKinds (plain r.checked.code) before waits → TellsRun before (R.plain r.checked.code) s room.calls g → Tells g ss → is_fip f.kind ≡ true → (o : Option Stack) → HasStack (plain r.checked.code) r.entry o → RunsInPlace vs f.credits ss o
-    meant_flat before waits g ss kinds tells t fip None h = absurd (h (f, b.is, fip))
-    meant_flat before waits g ss kinds tells t fip (Some k) h =
-        flat_states g vs f.credits ss k t (gauge_flat r.checked before waits r.entry f vs frames s room.calls k g is.is_sound kinds b fip h.1 tells)
+    meant_flat : (before waits : Kinds) (g : Gauge) (ss : List a_seen) → AreKinds (plain r.checked.code) before waits → ReportsRun before (R.plain r.checked.code) s room.calls g → Reports g ss → is_fip f.kind ≡ true → (o : Option Stack) → HasStack (plain r.checked.code) r.entry o → RunsInPlace vs f.credits ss o
+    meant_flat before waits g ss kinds reports t fip None h = absurd (h (f, b.is, fip))
+    meant_flat before waits g ss kinds reports t fip (Some k) h =
+        flat_states g vs f.credits ss k t (gauge_flat r.checked before waits r.entry f vs frames s room.calls k g is.is_sound kinds b fip h.1 reports)
 
   fip_not_deep : (held : Option Stack) (stack : HasStack (plain r.checked.code) r.entry held) (b : Begins r.checked.code r.entry f vs (frames_of room.frames held) s) → is_fip f.kind ≡ true → (meaning core f.name NoClosed vs room.calls (frames_of room.frames held)).answer ≢ Deep
   fip_not_deep None stack b fip = absurd (stack (f, b.is, fip))
@@ -111,22 +111,22 @@ module _ (source : List ℕ) (core : Core) (r : Chosen) (is : IsCodeOf source co
       fip_of : HasStack (plain r.checked.code) r.entry (Some k) → is_fip f.kind ≡ true
       fip_of h = subst (λ (q : PlainFunction). is_fip q.kind ≡ true) (same_Some h.0.0 f (sym h.0.1 ∙ b.is)) h.0.2
 
-  meant_so : (held : Option Stack) (stack : HasStack (plain r.checked.code) r.entry held) (b : Begins r.checked.code r.entry f vs (frames_of room.frames held) s) (before waits : Kinds) (o : Ended) (last : State) (given : List ℕ) (g : Gauge) (e : Result (List ℕ) Failure) → AreKinds (plain r.checked.code) before waits → RunsTo before (R.plain r.checked.code) s room.calls o last given → TellsRun before (R.plain r.checked.code) s room.calls g → Came r.checked r.entry vs room.calls (frames_of room.frames held) s o last given g → TellsEnded r.checked.code.types f.results room (if_asked gauge (gauge_lines g held)) last.store given o e → MeantSo core f.name r.checked.code.types (plain r.checked.code) r.entry f vs room held gauge e
-  meant_so held stack b before waits o last given g e kinds runs tells came told =
+  meant_so : (held : Option Stack) (stack : HasStack (plain r.checked.code) r.entry held) (b : Begins r.checked.code r.entry f vs (frames_of room.frames held) s) (before waits : Kinds) (o : Ended) (last : State) (given : List ℕ) (g : Gauge) (e : Result (List ℕ) Failure) → AreKinds (plain r.checked.code) before waits → RunsTo before (R.plain r.checked.code) s room.calls o last given → ReportsRun before (R.plain r.checked.code) s room.calls g → Came r.checked r.entry vs room.calls (frames_of room.frames held) s o last given g → ReportsEnded r.checked.code.types f.results room (if_asked gauge (gauge_lines g held)) last.store given o e → MeantSo core f.name r.checked.code.types (plain r.checked.code) r.entry f vs room held gauge e
+  meant_so held stack b before waits o last given g e kinds runs reports came reported =
       let tb : Table = r.checked.code.types in
       let q = came.run in
       let frames : ℕ = frames_of room.frames held in
-      let lines : gauge_lines g held ≡ gauge_by_states (all_seen q) held = gauge_tells g (all_seen q) held came.tells in
+      let lines : gauge_lines g held ≡ gauge_by_states (all_seen q) held = gauge_reports g (all_seen q) held came.reports in
       let meant = answers_as_meant source core r.checked before waits r.entry f vs frames s room.calls o last given is kinds b some runs in
       record {
         there = b.is;
         stack = stack;
         run = q;
-        told = told_meant tb f.results room frames (if_asked gauge (gauge_by_states (all_seen q) held)) o last given (meaning core f.name NoClosed vs room.calls frames).answer e meant (deep_frames held stack b)
-            (subst (λ xs. TellsEnded tb f.results room (if_asked gauge xs) last.store given o e) lines told);
+        reported = reported_meant tb f.results room frames (if_asked gauge (gauge_by_states (all_seen q) held)) o last given (meaning core f.name NoClosed vs room.calls frames).answer e meant (deep_frames held stack b)
+            (subst (λ xs. ReportsEnded tb f.results room (if_asked gauge xs) last.store given o e) lines reported);
         measured = λ us rest gives. measured source core r.checked.code q.before q.waits r.entry f vs us frames q.first room.calls rest q.end q.last q.left q.steps is found (q.starts).kinds
             (begins_of r.checked.code q.before q.waits r.entry f vs frames q.first q.starts q.arguments b.is q.free) some gives q.ends;
-        in_place = λ fip. meant_flat held stack b before waits g (all_seen q) kinds tells came.tells fip held stack;
+        in_place = λ fip. meant_flat held stack b before waits g (all_seen q) kinds reports came.reports fip held stack;
         never_deep = fip_not_deep held stack b;
       }
 
@@ -167,7 +167,7 @@ module _ (source name input : List ℕ) (r : Chosen) (ready : IsReady source (Co
     stack = stack;
   }
 
-  -- what the run holds of the stack is what is told of the root
+  -- what the run holds of the stack is what is reported of the root
   bound_is : (held : Option Stack) → HasStack (sound_view (plain_code r.checked.code)) r.entry held → IsBoundOf entry held
   bound_is held stack ms found i m at there =
       let root = N.root_at name entry.program.instances entry.root entry.named in
@@ -176,20 +176,20 @@ module _ (source name input : List ℕ) (r : Chosen) (ready : IsReady source (Co
       let number : function_of entry.program.instances i ≡ Some r.entry = subst (λ j. function_of entry.program.instances j ≡ Some r.entry) one x.of'.function in
       has_once (sound_view (plain_code r.checked.code)) r.entry held m.stack stack (h.code.lowered.stacks ms found i r.entry m number there)
 
-  -- what is told by the function's header is told by the root's
+  -- what is reported by the function's header is reported by the root's
   on_root : (vs : Values) (held : Option Stack) (e : Result (List ℕ) Failure) → MeantSo entry.core f.name r.checked.code.types (sound_view (plain_code r.checked.code)) r.entry f vs room held gauge e → RunsOn entry vs room gauge e
   on_root vs held e x =
       let frames : ℕ = frames_of room.frames held in
-      let behind : Values → List ℕ = λ _. if_asked gauge (gauge_by_states (all_seen x.run) held) in
+      let following : Values → List ℕ = λ _. if_asked gauge (gauge_by_states (all_seen x.run) held) in
       let answer : List ℕ → Answer = λ n. (meaning entry.core n NoClosed vs room.calls frames).answer in
       let run : Core → List ℕ → Run = λ c n. meaning c n NoClosed vs room.calls frames in
-      let by_name = subst (λ n. TellsMeant r.checked.code.types f.results room.calls frames behind (answer n) e) header.named x.told in
-      let by_types = subst (λ tb. TellsMeant tb f.results room.calls frames behind (answer name) e) types_same by_name in
-      let by_results = subst (λ rs. TellsMeant entry.program.types rs room.calls frames behind (answer name) e) header.results by_types in
+      let by_name = subst (λ n. ReportsMeant r.checked.code.types f.results room.calls frames following (answer n) e) header.named x.reported in
+      let by_types = subst (λ tb. ReportsMeant tb f.results room.calls frames following (answer name) e) types_same by_name in
+      let by_results = subst (λ rs. ReportsMeant entry.program.types rs room.calls frames following (answer name) e) header.results by_types in
       record {
         code = coded held x.there x.stack;
         run = x.run;
-        told = by_results;
+        reported = by_results;
         measured = λ us rest gives.
             subst (λ ps. IsMeasured vs us ps entry.root.credits (run entry.core name).peak (all_seen x.run)) header.params
             (subst (λ ks. IsMeasured vs us f.params ks (run entry.core name).peak (all_seen x.run)) header.credits
@@ -204,8 +204,8 @@ module _ (source name input : List ℕ) (r : Chosen) (ready : IsReady source (Co
   spells vs k = subst (λ ks. SpellsValues entry.program.types ks input vs) params_same (subst (λ tb. SpellsValues tb (types_of f.params) input vs) types_same k)
 
   -- the machine's function is this one
-  pub execs : (m : Seen) (st : IsStarted r input room m) (o : Ended) (new : Seen) (g : Gauge) → P.Ran r input room m st o new g → (e : Result (List ℕ) Failure) → TellsEnded r.checked.code.types st.function.results room (if_asked gauge (gauge_lines g st.has_frames.held)) new.store new.stack.given o e → Execs source name input room gauge e
-  execs m st o new g ran e told =
+  pub execs : (m : Seen) (st : IsStarted r input room m) (o : Ended) (new : Seen) (g : Gauge) → P.Ran r input room m st o new g → (e : Result (List ℕ) Failure) → ReportsEnded r.checked.code.types st.function.results room (if_asked gauge (gauge_lines g st.has_frames.held)) new.store new.stack.given o e → Execs source name input room gauge e
+  execs m st o new g ran e reported =
       let held : Option Stack = st.has_frames.held in
       let last : State = state_with new.stack st.state.lent new.store in
       let own : st.function ≡ f = same_Some st.function f (sym st.there ∙ there_is) in
@@ -215,8 +215,8 @@ module _ (source name input : List ℕ) (r : Chosen) (ready : IsReady source (Co
       subst (λ (q : PlainFunction). Begins r.checked.code r.entry q st.values (frames_of room.frames held) st.state) own
       (subst (λ n. Begins r.checked.code r.entry st.function st.values n st.state) st.has_frames.are st.begins) in
       let came : Came r.checked r.entry st.values room.calls (frames_of room.frames held) st.state o last new.stack.given g = subst (λ n. Came r.checked r.entry st.values room.calls n st.state o last new.stack.given g) st.has_frames.are ran.came in
-      let said : TellsEnded r.checked.code.types f.results room (if_asked gauge (gauge_lines g held)) new.store new.stack.given o e = subst (λ (q : PlainFunction). TellsEnded r.checked.code.types q.results room (if_asked gauge (gauge_lines g held)) new.store new.stack.given o e) own told in
-      let so = meant_so source entry.core r (N.code_of source name r ready h literals) (N.members_found source name r ready h literals) f st.values room gauge st.state header.some held st.has_frames.stack begins ran.before ran.waits o last new.stack.given g e ran.kinds ran.runs ran.tells came said in
+      let said : ReportsEnded r.checked.code.types f.results room (if_asked gauge (gauge_lines g held)) new.store new.stack.given o e = subst (λ (q : PlainFunction). ReportsEnded r.checked.code.types q.results room (if_asked gauge (gauge_lines g held)) new.store new.stack.given o e) own reported in
+      let so = meant_so source entry.core r (N.code_of source name r ready h literals) (N.members_found source name r ready h literals) f st.values room gauge st.state header.some held st.has_frames.stack begins ran.before ran.waits o last new.stack.given g e ran.kinds ran.runs ran.reports came said in
       let x = subst (λ c. MeantSo entry.core f.name r.checked.code.types c r.entry f st.values room held gauge e) (sym (view_same r.checked.code)) so in
       Ran entry st.values e (spells st.values spelt) (subst (λ ks. words_for st.values ks ≤ room.words) header.credits fits) (on_root st.values held e x)
 
@@ -236,10 +236,10 @@ module _ (source name input : List ℕ) (r : Chosen) (ready : IsReady source (Co
   pub keeps_exec : (failure : Failure) → KeepsFromStart r input room failure → OrNoMemory (Execs source name input room gauge) (Err failure)
   keeps_exec failure k = keeps failure (k.keeps f there_is)
 
-  -- how a run ended, told
-  pub finished : (m : Seen) (st : IsStarted r input room m) (o : Ended) (new : Seen) (g : Gauge) → P.Ran r input room m st o new g → (res : Result (Vec ℕ Global) Failure) → OrNoMemory (TellsEnded r.checked.code.types h.named.function.results room (if_asked gauge (gauge_lines g st.has_frames.held)) new.store new.stack.given o) res → OrNoMemory (Execs source name input room gauge) res
-  finished m st o new g ran res told =
+  -- how a run ended, reported
+  pub finished : (m : Seen) (st : IsStarted r input room m) (o : Ended) (new : Seen) (g : Gauge) → P.Ran r input room m st o new g → (res : Result (Vec ℕ Global) Failure) → OrNoMemory (ReportsEnded r.checked.code.types h.named.function.results room (if_asked gauge (gauge_lines g st.has_frames.held)) new.store new.stack.given o) res → OrNoMemory (Execs source name input room gauge) res
+  finished m st o new g ran res reported =
       let held : Option Stack = st.has_frames.held in
       let own : f ≡ st.function = same_Some f st.function (sym there_is ∙ st.there) in
-      said (TellsEnded r.checked.code.types f.results room (if_asked gauge (gauge_lines g held)) new.store new.stack.given o) (Execs source name input room gauge)
-      (λ e k. execs m st o new g ran e (subst (λ (q : PlainFunction). TellsEnded r.checked.code.types q.results room (if_asked gauge (gauge_lines g held)) new.store new.stack.given o e) own k)) res told
+      said (ReportsEnded r.checked.code.types f.results room (if_asked gauge (gauge_lines g held)) new.store new.stack.given o) (Execs source name input room gauge)
+      (λ e k. execs m st o new g ran e (subst (λ (q : PlainFunction). ReportsEnded r.checked.code.types q.results room (if_asked gauge (gauge_lines g held)) new.store new.stack.given o e) own k)) res reported

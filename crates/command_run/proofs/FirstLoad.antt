@@ -22,8 +22,8 @@ first_load tb types credits input words new ws table known h =
     let o = h.order in
     let same : o.values ≡ values_of h.loaded.trees = one_meaning tb types input o.values (values_of h.loaded.trees) table known o.spelled h.loaded.spelled in
     let start : length h.old.cells ≡ 0 = ap length h.empty in
-    let cells : new.cells ≡ loaded_places 0 o.values credits = o.behind.cells ∙ ap₂ (λ front n. front ++ loaded_places n o.values credits) h.empty start in
-    let flags : new.released ≡ replicate (length (loaded_places 0 o.values credits)) false = o.behind.released ∙ ap₂ (λ front n. front ++ replicate (length (loaded_places n o.values credits)) false) h.unreleased start in
+    let cells : new.cells ≡ loaded_places 0 o.values credits = o.following.cells ∙ ap₂ (λ front n. front ++ loaded_places n o.values credits) h.empty start in
+    let flags : new.released ≡ replicate (length (loaded_places 0 o.values credits)) false = o.following.released ∙ ap₂ (λ front n. front ++ replicate (length (loaded_places n o.values credits)) false) h.unreleased start in
     let named : ws ≡ loaded_words 0 o.values credits = o.named ∙ ap (λ n. loaded_words n o.values credits) start in (
       subst (λ vs. store_of new.cells new.released ≡ first_store vs credits) same (store_same o.values credits (store_of new.cells new.released) cells flags),
       subst (λ vs. ws ≡ first_words vs credits) same (named ∙ words_same o.values credits),

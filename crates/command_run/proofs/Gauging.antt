@@ -1,15 +1,15 @@
--- The gauge's lines, one behind another, and that they tell of the states of a run.
+-- The gauge's lines, one after another, and that they tell of the states of a run.
 use Rattle.std.proofs.Common.{◌≡◌, ◌∙◌, ◌≤◌, ◌+◌, ◌-◌, ◌++◌, ℕ, zero, suc, List, [], Option, refl, sym, ap, ap₂, append_assoc, append-nil, arith}
 use Rattle.std.specs.Prelude.{Result, Ok, Err, OnOk}
 use Rattle.fip_language.specs.Gauge.{Seen, lowest, highest, highest_frames, highest_words}
 use Rattle.fip_base.specs.declared.plain.Stack.{Stack}
 use Rattle.command_outcome.specs.Texts.{cells_text}
 use Rattle.fip_machine.specs.declared.gauge.Gauge.{Gauge}
-use Rattle.fip_machine.specs.GaugeView.{Tells}
+use Rattle.fip_machine.specs.GaugeView.{Reports}
 use Rattle.command_run.specs.GaugeText.{size_line, size_lines, stack_lines, gauge_by_states, highest_stack}
 use Rattle.command_run.specs.Starting.{low_of, high_of, stack_of, gauge_lines}
 
--- ---- a line behind another
+-- ---- a line after another
 
 line_on : (k low high : ℕ) (rest : List ℕ) → size_line k low high rest ≡ size_line k low high [] ++ rest
 line_on k low zero rest = refl
@@ -33,7 +33,7 @@ pub lines_put : {E : Type 0} (r : Result (Unit {0}) E) (new old whole stack : Li
 lines_put (Ok u) new old whole stack h e = h ∙ e
 lines_put (Err x) new old whole stack h e = tt
 
--- ---- what it tells
+-- ---- what it reports
 
 sizes_same : (low high low' high' : ℕ → ℕ) (n : ℕ) (rest : List ℕ) → n ≤ 16 → ((k : ℕ) → 1 ≤ k → k ≤ 16 → low k ≡ low' k) → ((k : ℕ) → 1 ≤ k → k ≤ 16 → high k ≡ high' k) → size_lines low high n rest ≡ size_lines low' high' n rest
 sizes_same low high low' high' zero rest le a b = refl
@@ -44,8 +44,8 @@ sizes_same low high low' high' (suc n) rest le a b =
     ap₂ (λ l h. size_line (16 - n) l h (size_lines low high n rest)) (a (16 - n) one few) (b (16 - n) one few)
     ∙ ap (λ xs. size_line (16 - n) (low' (16 - n)) (high' (16 - n)) xs) tails
 
-pub gauge_tells : (g : Gauge) (ss : List Seen) (bound : Option Stack) → Tells g ss → gauge_lines g bound ≡ gauge_by_states ss bound
-gauge_tells g ss bound t =
+pub gauge_reports : (g : Gauge) (ss : List Seen) (bound : Option Stack) → Reports g ss → gauge_lines g bound ≡ gauge_by_states ss bound
+gauge_reports g ss bound t =
     let made : (f w : ℕ) → Stack = λ f w. record { frames = f; words = w } in
     let stack : stack_of g ≡ highest_stack ss = ap₂ made t.frames t.words in
     sizes_same (low_of g) (high_of g) (λ k. lowest k ss) (λ k. highest k ss) 16 (stack_lines (stack_of g) bound) (omega arith) t.lowest t.highest

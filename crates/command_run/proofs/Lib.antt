@@ -9,7 +9,7 @@ pub mod Beginning
 pub mod Small
 pub mod Came
 pub mod Ran
-pub mod Told
+pub mod Reported
 pub mod Entry
 pub mod RunsCode
 pub mod Execs

@@ -1,4 +1,4 @@
--- The lines of values, one behind another.
+-- The lines of values, one after another.
 use Rattle.std.proofs.Common.{◌≡◌, ◌⊎◌, ◌∙◌, ◌++◌, ℕ, zero, suc, List, [], ◌∷◌, length, inl, inr, refl, sym, ap, subst, append_assoc, append-nil, arith}
 use Rattle.std.specs.Fmt.{signed_decimal}
 use Rattle.fip_language.specs.PrintedText.{shape_at, printed, printed_fields, printed_more, printed_lines}
@@ -9,7 +9,7 @@ use Rattle.cell_store.specs.Cells.{Cells}
 use Rattle.value_text.specs.Standing.{Stands, StandAll}
 use Rattle.command_eval.specs.machine_correctness.Meant.{ArePrintable}
 
--- the text goes on behind a value
+-- the text goes on after a value
 mutual
   printed_on : (tb : Table) (k : ℕ) (v : Value) (a b : List ℕ) → printed tb k v a ++ b ≡ printed tb k v (a ++ b)
   printed_on tb zero (Int i) a b = append_assoc (signed_decimal i) a b

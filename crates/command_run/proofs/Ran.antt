@@ -10,7 +10,7 @@ use Rattle.fip_machine.specs.code_verify.Checked.{Checked}
 use Rattle.fip_machine.specs.declared.gauge.Gauge.{Gauge}
 use Rattle.fip_machine.specs.declared.machine.Ended.{Ended}
 use Rattle.fip_machine.specs.Ending.{KnowsRun, RunsTo}
-use Rattle.fip_machine.specs.GaugeView.{TellsRun}
+use Rattle.fip_machine.specs.GaugeView.{ReportsRun}
 use Rattle.fip_machine.specs.Machines.{Seen}
 use Rattle.fip_machine.specs.Tasks.{state_with, IsFresh}
 use Rattle.fip_machine.specs.machine_cells.Small.{IsSmall}
@@ -27,14 +27,14 @@ abbrev pub SaysRun : Seen → Seen → ℕ → Ended → Type 0
 SaysRun m new calls o = (kinds : Kinds) (lent : List Typed) → KnowsRun m.stack.code kinds (state_with m.stack lent m.store) calls → m.stack.ended ≡ None → IsSmall m.store.cells → m.pushed ≡ [] → RunsTo kinds (R.plain m.stack.code.code) (state_with m.stack lent m.store) calls o (state_with new.stack lent new.store) new.stack.given
 
 abbrev pub SaysGauge : Seen → ℕ → Gauge → Type 0
-SaysGauge m calls g = (kinds : Kinds) (lent : List Typed) → KnowsRun m.stack.code kinds (state_with m.stack lent m.store) calls → IsFresh m.stack → IsSmall m.store.cells → m.pushed ≡ [] → TellsRun kinds (R.plain m.stack.code.code) (state_with m.stack lent m.store) calls g
+SaysGauge m calls g = (kinds : Kinds) (lent : List Typed) → KnowsRun m.stack.code kinds (state_with m.stack lent m.store) calls → IsFresh m.stack → IsSmall m.store.cells → m.pushed ≡ [] → ReportsRun kinds (R.plain m.stack.code.code) (state_with m.stack lent m.store) calls g
 
 pub record Ran (r : Chosen) (input : List ℕ) (room : Room) (m : Seen) (st : IsStarted r input room m) (o : Ended) (new : Seen) (g : Gauge) : Type 0 where
   pub before : Kinds
   pub waits : Kinds
   pub kinds : AreKinds (plain r.checked.code) before waits
   pub runs : RunsTo before (R.plain r.checked.code) st.state room.calls o (state_with new.stack (st.state).lent new.store) new.stack.given
-  pub tells : TellsRun before (R.plain r.checked.code) st.state room.calls g
+  pub reports : ReportsRun before (R.plain r.checked.code) st.state room.calls g
   pub came : Came r.checked r.entry st.values room.calls st.frames st.state o (state_with new.stack (st.state).lent new.store) new.stack.given g
   pub small : IsSmall new.store.cells
 
@@ -56,13 +56,13 @@ module _ (r : Chosen) (input : List ℕ) (room : Room) (m : Seen) (st : IsStarte
       (subst (λ (s : State). RunsTo found.0 (R.plain m.stack.code.code) s room.calls o last new.stack.given) st.stands
       (says found.0 (st.state).lent known_there (st.fresh).going st.small st.pushed))
 
-  tells : TellsRun found.0 (R.plain r.checked.code) st.state room.calls g
-  tells = subst (λ (v : Checked). TellsRun found.0 (R.plain v.code) st.state room.calls g) st.code
-      (subst (λ (s : State). TellsRun found.0 (R.plain m.stack.code.code) s room.calls g) st.stands
+  reports : ReportsRun found.0 (R.plain r.checked.code) st.state room.calls g
+  reports = subst (λ (v : Checked). ReportsRun found.0 (R.plain v.code) st.state room.calls g) st.code
+      (subst (λ (s : State). ReportsRun found.0 (R.plain m.stack.code.code) s room.calls g) st.stands
       (shows found.0 (st.state).lent known_there st.fresh st.small st.pushed))
 
   came_to : Came r.checked r.entry st.values room.calls st.frames st.state o last new.stack.given g
-  came_to = came r.checked found.0 found.1 r.entry st.function st.values st.frames st.state room.calls o last new.stack.given g sound found.2 st.begins runs tells
+  came_to = came r.checked found.0 found.1 r.entry st.function st.values st.frames st.state room.calls o last new.stack.given g sound found.2 st.begins runs reports
 
   first_small : IsSmall came_to.run.first.store.cells
   first_small = subst (λ (s : State). IsSmall s.store.cells) (st.stands ∙ sym came_to.begins) st.small
@@ -74,4 +74,4 @@ module _ (r : Chosen) (input : List ℕ) (room : Room) (m : Seen) (st : IsStarte
       (ends_small q.before (run_code (plain r.checked.code)) q.ends.enough q.first room.calls q.end q.last q.left q.steps q.ends.is first_small)
 
   pub ran : Ran r input room m st o new g
-  ran = record { before = found.0; waits = found.1; kinds = found.2; runs = runs; tells = tells; came = came_to; small = last_small }
+  ran = record { before = found.0; waits = found.1; kinds = found.2; runs = runs; reports = reports; came = came_to; small = last_small }

@@ -26,37 +26,37 @@ use Rattle.command_eval.specs.machine_correctness.tree_refinement.Agreement.{Are
 use Rattle.value_text.specs.Loaded.{types_of}
 use Rattle.command_eval.specs.EvalAnswer.{OrNoMemory}
 use Rattle.command_run.specs.CodeRun as D
-use Rattle.command_run.specs.CodeRun.{RunsCode, Misspelt, Small, Ran, TellsCode, all_seen, words_for}
+use Rattle.command_run.specs.CodeRun.{RunsCode, Misspelt, Small, Ran, ReportsCode, all_seen, words_for}
 use Rattle.command_run.specs.GaugeText.{gauge_by_states, if_asked}
-use Rattle.command_run.specs.Starting.{IsStarted, KeepsFromLoading, KeepsFromStart, TellsEnded, gauge_lines}
+use Rattle.command_run.specs.Starting.{IsStarted, KeepsFromLoading, KeepsFromStart, ReportsEnded, gauge_lines}
 use Rattle.command_run.proofs.Came.{Came, run_words, run_deep}
-use Rattle.command_run.proofs.Gauging.{gauge_tells}
+use Rattle.command_run.proofs.Gauging.{gauge_reports}
 use Rattle.command_run.proofs.Ran as P
-use Rattle.command_run.proofs.Told.{said, told_code}
+use Rattle.command_run.proofs.Reported.{said, reported_code}
 
--- the function of the code, and a run of it that is told
+-- the function of the code, and a run of it that is reported
 record RanSo (tb : Table) (c : PlainCode) (n : ℕ) (f : PlainFunction) (vs : Values) (room : Room) (held : Option Stack) (gauge : Bool) (e : Result (List ℕ) Failure) : Type 0 where
   pub there : function_at c n ≡ Some f
   pub stack : HasStack c n held
   pub run : D.Run c n vs room.calls (frames_of room.frames held)
-  pub told : TellsCode tb f.results room.calls (frames_of room.frames held) (if_asked gauge (gauge_by_states (all_seen run) held)) run.last run.end e
+  pub reported : ReportsCode tb f.results room.calls (frames_of room.frames held) (if_asked gauge (gauge_by_states (all_seen run) held)) run.last run.end e
 
 -- the run with as many frames as are said
-ran_so : (r : Chosen) (f : PlainFunction) (vs : Values) (room : Room) (held : Option Stack) (gauge : Bool) (s : State) (o : Ended) (last : State) (given : List ℕ) (g : Gauge) (e : Result (List ℕ) Failure) → function_at (plain r.checked.code) r.entry ≡ Some f → HasStack (plain r.checked.code) r.entry held → Came r.checked r.entry vs room.calls (frames_of room.frames held) s o last given g → TellsEnded r.checked.code.types f.results room (if_asked gauge (gauge_lines g held)) last.store given o e → RanSo r.checked.code.types (plain r.checked.code) r.entry f vs room held gauge e
-ran_so r f vs room held gauge s o last given g e there stack came told =
+ran_so : (r : Chosen) (f : PlainFunction) (vs : Values) (room : Room) (held : Option Stack) (gauge : Bool) (s : State) (o : Ended) (last : State) (given : List ℕ) (g : Gauge) (e : Result (List ℕ) Failure) → function_at (plain r.checked.code) r.entry ≡ Some f → HasStack (plain r.checked.code) r.entry held → Came r.checked r.entry vs room.calls (frames_of room.frames held) s o last given g → ReportsEnded r.checked.code.types f.results room (if_asked gauge (gauge_lines g held)) last.store given o e → RanSo r.checked.code.types (plain r.checked.code) r.entry f vs room held gauge e
+ran_so r f vs room held gauge s o last given g e there stack came reported =
     let c = plain r.checked.code in
     let q = came.run in
     let tb : Table = r.checked.code.types in
-    let lines : gauge_lines g held ≡ gauge_by_states (all_seen q) held = gauge_tells g (all_seen q) held came.tells in
+    let lines : gauge_lines g held ≡ gauge_by_states (all_seen q) held = gauge_reports g (all_seen q) held came.reports in
     let types : results c r.entry ≡ f.results = ap results_of there in
     record {
       there = there;
       stack = stack;
       run = q;
-      told = told_code tb f.results room (frames_of room.frames held) (if_asked gauge (gauge_by_states (all_seen q) held)) q.end q.last o last given e came.as'
+      reported = reported_code tb f.results room (frames_of room.frames held) (if_asked gauge (gauge_by_states (all_seen q) held)) q.end q.last o last given e came.as'
           (λ ws is. subst (λ ts. (us : Values) × AreWordsOf tb q.last.store ts ws us) types (run_words c r.entry vs room.calls (frames_of room.frames held) q ws is))
           (run_deep c r.entry vs room.calls room.frames held stack q)
-          (subst (λ xs. TellsEnded tb f.results room (if_asked gauge xs) last.store given o e) lines told);
+          (subst (λ xs. ReportsEnded tb f.results room (if_asked gauge xs) last.store given o e) lines reported);
     }
 
 module _ (bytes name input : List ℕ) (r : Chosen) (h : IsFunctionOf bytes name r) (room : Room) (gauge : Bool) where
@@ -81,14 +81,14 @@ module _ (bytes name input : List ℕ) (r : Chosen) (h : IsFunctionOf bytes name
     stack = stack;
   }
 
-  pub runs_code : (m : Seen) (st : IsStarted r input room m) (o : Ended) (new : Seen) (g : Gauge) → P.Ran r input room m st o new g → (e : Result (List ℕ) Failure) → TellsEnded r.checked.code.types st.function.results room (if_asked gauge (gauge_lines g st.has_frames.held)) new.store new.stack.given o e → RunsCode bytes name input room gauge e
-  runs_code m st o new g ran e told =
+  pub runs_code : (m : Seen) (st : IsStarted r input room m) (o : Ended) (new : Seen) (g : Gauge) → P.Ran r input room m st o new g → (e : Result (List ℕ) Failure) → ReportsEnded r.checked.code.types st.function.results room (if_asked gauge (gauge_lines g st.has_frames.held)) new.store new.stack.given o e → RunsCode bytes name input room gauge e
+  runs_code m st o new g ran e reported =
       let held : Option Stack = st.has_frames.held in
       let f : PlainFunction = st.function in
       let came : Came r.checked r.entry st.values room.calls (frames_of room.frames held) st.state o (state_with new.stack st.state.lent new.store) new.stack.given g = subst (λ n. Came r.checked r.entry st.values room.calls n st.state o (state_with new.stack st.state.lent new.store) new.stack.given g) st.has_frames.are ran.came in
-      let so = ran_so r f st.values room held gauge st.state o (state_with new.stack st.state.lent new.store) new.stack.given g e st.there st.has_frames.stack came told in
+      let so = ran_so r f st.values room held gauge st.state o (state_with new.stack st.state.lent new.store) new.stack.given g e st.there st.has_frames.stack came reported in
       let x : RanSo r.checked.code.types (sound_view (plain_code r.checked.code)) r.entry f st.values room held gauge e = subst (λ c. RanSo r.checked.code.types c r.entry f st.values room held gauge e) (sym (view_same r.checked.code)) so in
-      Ran (chosen f held x.there (named f st.there) x.stack) st.values x.run e st.spelt st.fits x.told
+      Ran (chosen f held x.there (named f st.there) x.stack) st.values x.run e st.spelt st.fits x.reported
 
   -- what keeps it from its start
   keeps : (f : PlainFunction) (held : Option Stack) (failure : Failure) → function_at (sound_view (plain_code r.checked.code)) r.entry ≡ Some f → f.name ≡ name → HasStack (sound_view (plain_code r.checked.code)) r.entry held → KeepsFromLoading r.checked.code.types (types_of f.params) f.credits input room.words failure → OrNoMemory (RunsCode bytes name input room gauge) (Err failure)
@@ -109,10 +109,10 @@ module _ (bytes name input : List ℕ) (r : Chosen) (h : IsFunctionOf bytes name
       let same = sym (view_same r.checked.code) in
       keeps f k.held failure (subst (λ (c : PlainCode). function_at c r.entry ≡ Some f) same there) (named f there) (subst (λ (c : PlainCode). HasStack c r.entry k.held) same k.stack) (k.keeps f there)
 
-  -- how a run ended, told
-  pub finished : (m : Seen) (st : IsStarted r input room m) (o : Ended) (new : Seen) (g : Gauge) → P.Ran r input room m st o new g → (res : Result (Vec ℕ Global) Failure) → OrNoMemory (TellsEnded r.checked.code.types h.named.function.results room (if_asked gauge (gauge_lines g st.has_frames.held)) new.store new.stack.given o) res → OrNoMemory (RunsCode bytes name input room gauge) res
-  finished m st o new g ran res told =
+  -- how a run ended, reported
+  pub finished : (m : Seen) (st : IsStarted r input room m) (o : Ended) (new : Seen) (g : Gauge) → P.Ran r input room m st o new g → (res : Result (Vec ℕ Global) Failure) → OrNoMemory (ReportsEnded r.checked.code.types h.named.function.results room (if_asked gauge (gauge_lines g st.has_frames.held)) new.store new.stack.given o) res → OrNoMemory (RunsCode bytes name input room gauge) res
+  finished m st o new g ran res reported =
       let held : Option Stack = st.has_frames.held in
       let own : plain_function h.named.function ≡ st.function = same_Some (plain_function h.named.function) st.function (sym (slice_get-map plain_function r.checked.code.functions.items r.entry ∙ ap (option_map plain_function) h.named.there) ∙ st.there) in
-      said (TellsEnded r.checked.code.types h.named.function.results room (if_asked gauge (gauge_lines g held)) new.store new.stack.given o) (RunsCode bytes name input room gauge)
-      (λ e k. runs_code m st o new g ran e (subst (λ (q : PlainFunction). TellsEnded r.checked.code.types q.results room (if_asked gauge (gauge_lines g held)) new.store new.stack.given o e) own k)) res told
+      said (ReportsEnded r.checked.code.types h.named.function.results room (if_asked gauge (gauge_lines g held)) new.store new.stack.given o) (RunsCode bytes name input room gauge)
+      (λ e k. runs_code m st o new g ran e (subst (λ (q : PlainFunction). ReportsEnded r.checked.code.types q.results room (if_asked gauge (gauge_lines g held)) new.store new.stack.given o e) own k)) res reported

@@ -2,10 +2,10 @@
 -- instructions do, whoever wrote the code.
 --
 -- The input is the text of the function's arguments, a line for each parameter, by the types of the code; where it is
--- none, it is told as bad, at the least offset with which none goes on. The store must have the words for the cells of
--- the arguments and of the header's credits: k + 1 for each cell of size k; where it has fewer, both numbers are told.
+-- none, it is reported as bad, at the least offset with which none goes on. The store must have the words for the cells of
+-- the arguments and of the header's credits: k + 1 for each cell of size k; where it has fewer, both numbers are reported.
 -- Else the function runs, from a state in which just these cells lie in the store; a fip one has the frames that it
--- needs. The run ends: with words, which stand for values that are printed, and behind them the lines of the gauge over
+-- needs. The run ends: with words, which stand for values that are printed, and after them the lines of the gauge over
 -- all its states, where these are asked for; or with a trap, or out of calls or frames.
 --
 -- The file of the reversal of a list prints `Cons(2, Cons(1, Nil))` on the input `Cons(1, Cons(2, Nil))` and `Nil`;
@@ -89,20 +89,20 @@ frames_for c room = frames_of room.frames c.held
 abbrev pub RunOf : {bytes name : List ℕ} → Chosen bytes name → Values → Room → Type 0
 RunOf c vs room = Run (sound_view c.code) c.number vs room.calls (frames_for c room)
 
--- how the end of a run is told, in its last state, where words of results have these types, so many calls and frames
--- were given, and these lines stand behind values; no run of sound code ends because an instruction can't be done
-abbrev pub TellsCode : Table → List ℕ → ℕ → ℕ → List ℕ → State → End → Result (List ℕ) Failure → Type 0
-TellsCode types results calls frames behind last (Value words) e =
-    (vs : Values) × AreWordsOf types last.store results words vs × (e ≡ Ok (printed_lines types results vs ++ behind))
-TellsCode types results calls frames behind last (Trap kind line col) e = e ≡ Err (F.Trap kind line col)
-TellsCode types results calls frames behind last Out e = e ≡ Err (F.OutOfCalls calls)
-TellsCode types results calls frames behind last Deep e = e ≡ Err (F.OutOfFrames frames)
-TellsCode types results calls frames behind last Unsound e = ⊥
+-- how the end of a run is reported, in its last state, where words of results have these types, so many calls and frames
+-- were given, and these lines stand after values; no run of sound code ends because an instruction can't be done
+abbrev pub ReportsCode : Table → List ℕ → ℕ → ℕ → List ℕ → State → End → Result (List ℕ) Failure → Type 0
+ReportsCode types results calls frames following last (Value words) e =
+    (vs : Values) × AreWordsOf types last.store results words vs × (e ≡ Ok (printed_lines types results vs ++ following))
+ReportsCode types results calls frames following last (Trap kind line col) e = e ≡ Err (F.Trap kind line col)
+ReportsCode types results calls frames following last Out e = e ≡ Err (F.OutOfCalls calls)
+ReportsCode types results calls frames following last Deep e = e ≡ Err (F.OutOfFrames frames)
+ReportsCode types results calls frames following last Unsound e = ⊥
 
--- The function runs, and the end of the run is told, with its gauge.
-abbrev pub TellsOf : {bytes name : List ℕ} (c : Chosen bytes name) (vs : Values) (room : Room) → RunOf c vs room →
+-- The function runs, and the end of the run is reported, with its gauge.
+abbrev pub ReportsOf : {bytes name : List ℕ} (c : Chosen bytes name) (vs : Values) (room : Room) → RunOf c vs room →
     Bool → Result (List ℕ) Failure → Type 0
-TellsOf c vs room r gauge e = TellsCode (c.code).types (c.function).results room.calls (frames_for c room)
+ReportsOf c vs room r gauge e = ReportsCode (c.code).types (c.function).results room.calls (frames_for c room)
     (if_asked gauge (gauge_by_states (all_seen r) c.held)) r.last r.end e
 
 pub data RunsCode (bytes name input : List ℕ) (room : Room) (gauge : Bool) : Result (List ℕ) Failure → Type 0 where
@@ -111,7 +111,7 @@ pub data RunsCode (bytes name input : List ℕ) (room : Room) (gauge : Bool) : R
   Small : (c : Chosen bytes name) (vs : Values) → SpellsFor c input vs → room.words < words_of c vs →
       RunsCode bytes name input room gauge (Err (F.TooSmall (words_of c vs) room.words))
   Ran : (c : Chosen bytes name) (vs : Values) (r : RunOf c vs room) (e : Result (List ℕ) Failure) →
-      SpellsFor c input vs → words_of c vs ≤ room.words → TellsOf c vs room r gauge e →
+      SpellsFor c input vs → words_of c vs ≤ room.words → ReportsOf c vs room r gauge e →
       RunsCode bytes name input room gauge e
 
 -- ---- after which something is left

@@ -1,8 +1,8 @@
--- The run of a function on an input from its loaded state, place by place: that of which `trace` tells, and whose last
+-- The run of a function on an input from its loaded state, place by place: that of which `trace` reports, and whose last
 -- state `exec`, `run`, `gen` and `trace` leave.
 --
 -- In the store of the loaded state lie just the cells of the values that the input spells, in the order of the ) in
--- their text, and behind them one for each credit of the function's header; none is released. The function has their
+-- their text, and after them one for each credit of the function's header; none is released. The function has their
 -- words, and as many frames are free as it needs, where it is fip, or as are given.
 --
 -- The reversal of Cons(1, Cons(2, Nil)) and Nil begins with two cells, Cons(2, Nil) at 0 and Cons(1, ..) at 3, and the

@@ -48,7 +48,7 @@ pub record IsInNewStore (tb : Table) (types credits bytes : List ℕ) (words : �
     pub order : IsInOrder tb types credits bytes old new ws
     pub store : IsStore (store_of new.cells new.released)
 
--- What keeps from it: the text is none, or its cells and those of the credits need more words; or memory is wanting.
+-- What keeps from it: the text is none, or its cells and those of the credits need more words; or memory runs out.
 abbrev pub KeepsFromLoading : Table → List ℕ → List ℕ → List ℕ → ℕ → Failure → Type 0
 KeepsFromLoading tb types credits bytes words (F.BadInput at) = IsPlace (SpellsValues tb types) bytes at
 KeepsFromLoading tb types credits bytes words (F.TooSmall needed given) =
@@ -108,17 +108,17 @@ gauge_lines g bound = gauge_text (low_of g) (high_of g) (stack_of g) bound
 
 -- ---- the end
 
--- what a run that ended so is told as, where it gave no value
+-- what a run that ended so is reported as, where it gave no value
 abbrev pub failure_for : Ended → ℕ → ℕ → Option Failure
 failure_for M.Value calls frames = None
 failure_for (M.Trap kind line col) calls frames = Some (F.Trap kind line col)
 failure_for M.Out calls frames = Some (F.OutOfCalls calls)
 failure_for M.Deep calls frames = Some (F.OutOfFrames frames)
 
--- The end is told so, where the words of the results have these types, and these lines stand behind them.
-abbrev pub TellsEnded : Table → List ℕ → Room → List ℕ → Store → List ℕ → Ended → Result (List ℕ) Failure → Type 0
-TellsEnded tb types room behind s given M.Value e =
-    (vs : Values) → ArePrintable tb s.cells types given vs → e ≡ Ok (printed_lines tb types vs ++ behind)
-TellsEnded tb types room behind s given (M.Trap kind line col) e = e ≡ Err (F.Trap kind line col)
-TellsEnded tb types room behind s given M.Out e = e ≡ Err (F.OutOfCalls room.calls)
-TellsEnded tb types room behind s given M.Deep e = e ≡ Err (F.OutOfFrames room.frames)
+-- The end is reported so, where the words of the results have these types, and these lines stand after them.
+abbrev pub ReportsEnded : Table → List ℕ → Room → List ℕ → Store → List ℕ → Ended → Result (List ℕ) Failure → Type 0
+ReportsEnded tb types room following s given M.Value e =
+    (vs : Values) → ArePrintable tb s.cells types given vs → e ≡ Ok (printed_lines tb types vs ++ following)
+ReportsEnded tb types room following s given (M.Trap kind line col) e = e ≡ Err (F.Trap kind line col)
+ReportsEnded tb types room following s given M.Out e = e ≡ Err (F.OutOfCalls room.calls)
+ReportsEnded tb types room following s given M.Deep e = e ≡ Err (F.OutOfFrames room.frames)

@@ -15,7 +15,7 @@ use fip_base::table::TypeTable;
 use fip_language::limits::MOST_FIELDS;
 use fip_machine::Gauge;
 use std::alloc::Global;
-use value_text::print_behind;
+use value_text::print_after;
 
 /// The lines of the values of these types that words stand for.
 pub fn values_text(
@@ -30,7 +30,7 @@ pub fn values_text(
 {
     let mut text = Vec::new(alloc);
     for (ty, word) in types.iter().zip(words.iter()) {
-        text = print_behind(alloc, table, cells, *ty, *word, text)?;
+        text = print_after(alloc, table, cells, *ty, *word, text)?;
         text.push(b'\n')?;
     }
     Ok(text)
@@ -69,7 +69,7 @@ fn put_stack(
     Ok(())
 }
 
-/// Puts the gauge's lines behind a text, with the bound where it is known.
+/// Puts the gauge's lines after a text, with the bound where it is known.
 pub(crate) fn put_gauge(
     alloc: Global,
     text: &mut Vec<u8>,

@@ -21,7 +21,7 @@ ghost use Rattle.command_run.specs.ExecAnswer.{Execs};
 ghost use Rattle.command_run.specs.GaugeText.{if_asked};
 ghost use Rattle.command_run.specs.Leaving.{IsLeftBy, IsLastStore};
 ghost use Rattle.command_run.specs.Rooms.{IsAllowed};
-ghost use Rattle.command_run.specs.Starting.{failure_for, gauge_lines, TellsEnded};
+ghost use Rattle.command_run.specs.Starting.{failure_for, gauge_lines, ReportsEnded};
 
 use crate::loading::{bound_of, started};
 use crate::printing::{put_gauge, values_text};
@@ -57,7 +57,7 @@ pub fn failure_of(ended: Ended, calls: u64, frames: u64) -> Option<Failure>
     }
 }
 
-// The lines of the results of a run that ended with a value, and behind them the gauge's where they are asked for.
+// The lines of the results of a run that ended with a value, and after them the gauge's where they are asked for.
 fn results_text(
     alloc: Global,
     ready: &Ready,
@@ -81,8 +81,8 @@ fn results_text(
     Ok(text)
 }
 
-// How a run ended, told.
-fn told(
+// How a run ended, reported.
+fn reported(
     alloc: Global,
     ready: &Ready,
     machine: &Machine<'_>,
@@ -91,10 +91,10 @@ fn told(
     room: Room,
     gauge: bool,
 ) -> Result<Vec<u8>, Failure>
-    ensures tells { (f : a_function) (held : Option a_stack) →
+    ensures reports { (f : a_function) (held : Option a_stack) →
         slice_get ready.now.checked.code.functions.items ready.now.entry ≡ Some f →
         HasStack (plain ready.now.checked.code) ready.now.entry held → IsSmall machine.now.store.cells →
-        OrNoMemory (TellsEnded ready.now.checked.code.types f.results (room_of room)
+        OrNoMemory (ReportsEnded ready.now.checked.code.types f.results (room_of room)
         (if_asked gauge (gauge_lines seen.now held)) machine.now.store machine.now.stack.given ended) result }
     ensures stage { IfErr result IsOfRun }
 {
@@ -167,7 +167,7 @@ fn run_leaving(
     };
     let mut seen = Gauge::new();
     let ended = machine.run(room.calls, &mut seen);
-    let end = told(alloc, ready, &machine, ended, &seen, room, gauge);
+    let end = reported(alloc, ready, &machine, ended, &seen, room, gauge);
     if is_run_end(&end) {
         (end, Some(machine.into_sealed()))
     } else {
@@ -175,7 +175,7 @@ fn run_leaving(
     }
 }
 
-/// Runs the function on the text of its arguments: the lines of its results, with the gauge's behind them where they
+/// Runs the function on the text of its arguments: the lines of its results, with the gauge's after them where they
 /// are asked for. A bad input where the bytes are no text of the parameters' types; else too small where the cells of
 /// the input and of the header's credits need more words than the room has; else what the run ends with, where it isn't
 /// a value: a trap, out of calls, or out of frames, which a fip function never is. The code and the cells are left just

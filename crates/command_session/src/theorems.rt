@@ -1,4 +1,4 @@
-// The laws of sessions of a source. Each is the contract of a function that does nothing.
+// The theorems of sessions of a source. Each is the contract of a function that does nothing.
 ghost use Rattle.std.specs.Prelude.{◌≤◌, List, ℕ};
 ghost use Rattle.command_run.specs.code_file.Plain.{plain_code};
 ghost use Rattle.command_run.specs.code_rules.Breaks.{IsSound};
@@ -16,7 +16,7 @@ ghost use Rattle.session_code.specs.session_correctness.tree_refinement.fip_lang
 /// that of an instance, with its parameters, results, credits and frames, and wherever it begins on values, beside the
 /// cells of what else is held, it comes to what the instance means. For who keeps a store alive between calls.
 pub fn what_is_made_of_a_source_serves_its_sessions()
-    ensures law { (source : List ℕ) (o : Setting) (code : Code) → IsAccepted source o.program →
+    ensures theorem { (source : List ℕ) (o : Setting) (code : Code) → IsAccepted source o.program →
         AreMembers (o.program).instances o.members → IsSound (plain code) → HasLiterals (plain code) →
         IsLoweredFrom o.program (plain_code code) → o.frames ≤ MOST_FRAMES → IsServed o code }
 {}

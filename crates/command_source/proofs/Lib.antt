@@ -1,4 +1,4 @@
-pub mod Told
+pub mod Reported
 pub mod Judging
 pub mod Roots
 pub mod Once

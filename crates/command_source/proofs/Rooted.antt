@@ -1,4 +1,4 @@
--- A root that isn't plain has a function of its name in code that is headed as its program tells.
+-- A root that isn't plain has a function of its name in code that is headed as its program reports.
 use Rattle.std.proofs.Common.{◌≡◌, ◌∙◌, ◌<◌, ℕ, suc, Bool, true, false, List, [], ◌∷◌, length, map, if◌then◌else◌, true≢false, refl, sym, ap, subst, inl, inr, arith}
 use Rattle.std.specs.Prelude.{Option, Some, None, Result, Ok, Err, IfErr, OnErr, bytes_eq}
 use Rattle.std.proofs.lemmas.Option.{none-some, same_Some}
@@ -102,7 +102,7 @@ root_has_function source name p code accepted lowered compiled = by (root_named 
     by None e h = absurd h
     by (Some d) e h = one d e h
 
--- so where it is asked for a function of that name, only want of memory can be told
+-- so where it is asked for a function of that name, only want of memory can be reported
 pub named_wants : {T : Type 0} (name : List ℕ) (code other : Code) (o : Result T Failure) → other ≡ code → OnErr o (names_one name (S.plain other).functions ≡ false) → names_one name (S.plain code).functions ≡ true → IfErr o (λ f. f ≡ F.NoMemory)
 named_wants name code other (Ok t) same h k = tt
 named_wants name code other (Err f) same h k = absurd (true≢false (sym k ∙ subst (λ c. names_one name (S.plain c).functions ≡ false) same h))

@@ -4,7 +4,7 @@
 --
 -- For the reversal of a list the file is
 --     0 MATCH![0 1|](VAR[1|],CALL[1 3|2:1](VAR[3|],REUSE[1|2:1](SCALAR[|],VAR[1|])))
--- and behind it a line feed.
+-- and after it a line feed.
 use Rattle.std.specs.Prelude.{◌≡◌, ◌⊎◌, ◌<◌, ◌≤◌, ℕ, List, length}
 use Rattle.fip_language.specs.declared.limits.TheConstants.{MOST_FILE_BYTES}
 use Rattle.fip_language.specs.declared.rule.Rule.TheVariants.{E74}

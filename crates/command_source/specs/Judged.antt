@@ -1,4 +1,4 @@
--- What `audit` tells. Of a source whose types or matches aren't right it is the report. Else no more rules are asked,
+-- What `audit` reports. Of a source whose types or matches aren't right it is the report. Else no more rules are asked,
 -- and a proof file is judged for the source's program: its bytes are the text of a derivation of it; or they are no
 -- derivation's text (E72, whose detail is an offset); or they are the text of one, but none of this program (E73).
 --
@@ -42,11 +42,11 @@ pub record IsProofOf (bytes : List ℕ) (p : Program) : Type 0 where
   pub file : IsProofFile bytes
   pub derives : IsDerivation p file.derivation
 
--- These entries are no derivation of the program: so it is told.
+-- These entries are no derivation of the program: so it is reported.
 abbrev pub IsNoDerivation : Program → List Entry → Refusal → Type 0
 IsNoDerivation p es r = (IsDerivation p es → ⊥) × (r ≡ bare E73)
 
--- The file isn't accepted: so it is told.
+-- The file isn't accepted: so it is reported.
 abbrev pub IsRejectedOf : List ℕ → Program → Refusal → Type 0
 IsRejectedOf bytes p r =
     IsBadProof bytes r ⊎ (IsProofFile bytes × (IsProofOf bytes p → ⊥) × (r ≡ bare E73))

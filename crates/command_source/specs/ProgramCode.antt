@@ -61,13 +61,13 @@ abbrev pub AreNarrow : Program → List PlainFunction → Type 0
 AreNarrow p fs = (i n : ℕ) (d : Instance) (f : PlainFunction) → slice_get p.instances i ≡ Some d →
     function_of p.instances i ≡ Some n → slice_get fs n ≡ Some f → HaveFew (most_operands p.instances d) f.instrs
 
--- Each function holds of the stack at the most what the groups tell of its instance, or nothing is told of either.
+-- Each function holds of the stack at the most what the groups tell of its instance, or nothing is reported of either.
 abbrev pub HaveStacks : Program → PlainCode → Type 0
 HaveStacks p code = (members : List Member) → AreMembers p.instances members → (i n : ℕ) (m : Member) →
     function_of p.instances i ≡ Some n → slice_get members i ≡ Some m → HasStack (sound_view code) n m.stack
 
 -- The code's types are the program's; its functions are headed as the program's instances tell, and hold of the stack
--- what is told of these; their instructions are lowered from these, and no more than their places allow, nor wider than
+-- what is reported of these; their instructions are lowered from these, and no more than their places allow, nor wider than
 -- these are.
 pub record IsLoweredFrom (p : Program) (code : PlainCode) : Type 0 where
   pub types : code.types ≡ p.types

@@ -42,7 +42,7 @@ Misses Lawful p r = ⊥
 Misses (Root name) p r = MissesRoot (root_named name p.instances) name r
 Misses (Compiled name) p r = MissesCode (root_named name p.instances) name r
 
--- The source's report as it is told: with the line and the column of its offset.
+-- The source's report as it is reported: with the line and the column of its offset.
 abbrev pub IsReport : List ℕ → Refusal → Type 0
 IsReport source r = (q : Refusal) × Reports source q × (r ≡ placed source q)
 

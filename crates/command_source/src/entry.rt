@@ -217,8 +217,8 @@ fn ask_compiled(alloc: Global, instances: &[Instance], entry: &str) -> Result<()
     }
 }
 
-// The function of a root's name, which a code that was lowered has. Where a code hasn't, it is told as unsound, at the
-// function that would stand behind its last one.
+// The function of a root's name, which a code that was lowered has. Where a code hasn't, it is reported as unsound, at the
+// function that would stand after its last one.
 fn chosen(verified: Verified, entry: &str) -> Result<Ready, Failure>
     ensures same { IfOk result (λ r. r.checked.code ≡ verified.code) }
     ensures named { IfOk result (λ r. IsNamed entry.now r.checked.code.functions.items r.entry) }
@@ -243,7 +243,7 @@ fn verified_entry(alloc: Global, lowered: Lowered, entry: &str) -> Result<Ready,
     ensures same { IfOk result (λ r. r.checked.code ≡ lowered.code) }
     ensures sound { IfOk result (λ r. IsSound (plain r.checked.code)) }
     ensures named { IfOk result (λ r. IsNamed entry.now r.checked.code.functions.items r.entry) }
-    ensures wanting { IsSound (plain lowered.code) → names_one entry.now (plain lowered.code).functions ≡ true →
+    ensures out_of_memory { IsSound (plain lowered.code) → names_one entry.now (plain lowered.code).functions ≡ true →
         IfErr result (λ f. f ≡ NoMemory) }
     ensures stage { IfErr result IsOfSource }
 {

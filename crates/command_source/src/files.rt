@@ -27,7 +27,7 @@ use fip_base::refusal::Rule;
 use fip_language::limits::MOST_FILE_BYTES;
 use std::alloc::Global;
 
-/// A file to be stored, and the text that is printed behind it.
+/// A file to be stored, and the text that is printed after it.
 #[derive(Drop)]
 pub struct Compiled {
     pub file: Vec<u8>,
@@ -85,7 +85,11 @@ pub fn file_of(alloc: Global, front: &Front) -> Result<Compiled, Failure>
 /// The code file of a source that breaks no rule, and the lines of `check`: what `file_of` makes of the code of `front`.
 /// The refusals are those of `front`, and after them E61. The code that was made is handed out, also with E61; none where
 /// `front` gives none.
-pub fn compile(alloc: Global, source: &[u8], made: &mut Option<Verified>) -> Result<Compiled, Failure>
+pub fn compile(
+    alloc: Global,
+    source: &[u8],
+    made: &mut Option<Verified>,
+) -> Result<Compiled, Failure>
     ensures listed { IfOk result (λ c. IsListing source.now c.text.items) }
     ensures sound { IfOk result (λ c. (code : PlainCode) × IsSoundFile c.file.items code) }
     ensures stored { IfOk result (λ c. IsCompiledFile source.now c.file.items) }

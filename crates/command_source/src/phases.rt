@@ -52,9 +52,9 @@ pub fn typed_of(alloc: Global, source: &[u8]) -> Result<Typed, Failure>
     }
 }
 
-// How a source is told that a phase gives nothing of: its report, with the line and the column of its offset.
+// How a source is reported that a phase gives nothing of: its report, with the line and the column of its offset.
 fn failure_of(source: &[u8], error: PhaseError) -> Failure
-    ensures told { Says source.now error → IsRefusedBy (IsReport source.now) result }
+    ensures as_reported { Says source.now error → IsRefusedBy (IsReport source.now) result }
     ensures early { Says source.now error → IsUnmatched source.now error →
         IsRefusedBy (IsEarlyReport source.now) result }
     ensures stage { IsOfSource result }
@@ -107,7 +107,7 @@ pub(crate) fn verified_front(alloc: Global, lowered: Lowered) -> Result<Front, F
     ensures groups { IfOk result (λ f. f.groups ≡ lowered.groups) }
     ensures code { IfOk result (λ f. f.verified.code ≡ lowered.code) }
     ensures sound { IfOk result (λ f. IsSound (plain f.verified.code)) }
-    ensures wanting { IsSound (plain lowered.code) → IfErr result (λ f. f ≡ NoMemory) }
+    ensures out_of_memory { IsSound (plain lowered.code) → IfErr result (λ f. f ≡ NoMemory) }
     ensures stage { IfErr result IsOfSource }
 {
     let Lowered {

@@ -6,12 +6,12 @@ ghost use Rattle.command_source.specs.Places as P;
 use fip_base::plain::Place;
 use fip_base::refusal::Refusal;
 
-// The place behind a byte.
-fn behind_byte(place: Place, byte: u8) -> Place
+// The place after a byte.
+fn after_byte(place: Place, byte: u8) -> Place
     requires line { place.line + 1 < 2 ^ 64 }
     requires col { place.col + 1 < 2 ^ 64 }
     requires text { place.at + 1 < 2 ^ 64 }
-    ensures behind { result ≡ P.behind_byte place byte }
+    ensures following { result ≡ P.after_byte place byte }
 {
     if byte == b'\n' {
         Place {
@@ -28,9 +28,9 @@ fn behind_byte(place: Place, byte: u8) -> Place
     }
 }
 
-// The place behind the first bytes of a source.
-fn behind_bytes(bytes: &[u8]) -> Place
-    ensures behind { result ≡ P.behind_bytes first_place bytes.now }
+// The place after the first bytes of a source.
+fn after_bytes(bytes: &[u8]) -> Place
+    ensures following { result ≡ P.after_bytes first_place bytes.now }
 {
     let mut place = Place {
         line: 1,
@@ -38,17 +38,17 @@ fn behind_bytes(bytes: &[u8]) -> Place
         at: 0,
     };
     for byte in bytes {
-        place = behind_byte(place, *byte);
+        place = after_byte(place, *byte);
     }
     place
 }
 
-/// The line and the column of an offset in a source, both from 1, the column in bytes; behind the end they are those
+/// The line and the column of an offset in a source, both from 1, the column in bytes; after the end they are those
 /// of the end.
 pub fn place_at(source: &[u8], offset: usize) -> Place
     ensures place { result ≡ P.place_at source.now offset }
 {
-    let place = behind_bytes(&source[..offset.min(source.len())]);
+    let place = after_bytes(&source[..offset.min(source.len())]);
     Place {
         line: place.line,
         col: place.col,

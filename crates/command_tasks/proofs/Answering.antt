@@ -1,4 +1,4 @@
--- The lines of tasks, one behind another.
+-- The lines of tasks, one after another.
 use Rattle.std.proofs.Common.{◌≡◌, ◌∙◌, ◌++◌, ◌≤◌, ◌+◌, ℕ, zero, suc, List, [], ◌∷◌, length, take, Some, None, refl, sym, ap, subst, append_assoc, append-nil, arith}
 use Rattle.std.specs.Prelude.{Result, Ok, Err, IfOk, codes, slice_get}
 use Rattle.std.proofs.lemmas.Option.{none-some, same_Some}
@@ -17,32 +17,32 @@ use Rattle.command_session.specs.command_run.machine_correctness.Meant.{IsMeant,
 use Rattle.command_session.proofs.command_run.machine_correctness.Texts.{printable}
 use Rattle.command_session.specs.command_run.Starting.{failure_for}
 use Rattle.command_session.specs.command_run.session_semantics.Turns.{joined}
-use Rattle.command_tasks.specs.Telling.{TellsAnswer, IsTaskLine, AreTaskLines}
+use Rattle.command_tasks.specs.Telling.{ReportsAnswer, IsTaskLine, AreTaskLines}
 use Rattle.command_tasks.proofs.Joining.{joined_on}
 
 -- ---- one answer
 
--- a run that ended without a value is told by its failure
-pub failure_told : (tb : Table) (types : List ℕ) (calls frames : ℕ) (x : Ended) (last : State) (given : List ℕ) (m : Answer) (f : Failure) (text : List ℕ) → failure_for x calls frames ≡ Some f → text ≡ failure_text f → IsMeant tb types x last given m → TellsAnswer tb types calls frames m text
-failure_told tb types calls frames M.Value last given m f text e t h = absurd (none-some f e)
-failure_told tb types calls frames (M.Trap kind row col) last given (Gives vs left) f text e t h = absurd h
-failure_told tb types calls frames (M.Trap kind row col) last given (Trap k r c) f text e t h = let same : text ≡ failure_text f = t in cc
-failure_told tb types calls frames (M.Trap kind row col) last given Out f text e t h = absurd h
-failure_told tb types calls frames (M.Trap kind row col) last given Deep f text e t h = absurd h
-failure_told tb types calls frames (M.Trap kind row col) last given Stuck f text e t h = absurd h
-failure_told tb types calls frames M.Out last given m f text e t h = subst (λ a. TellsAnswer tb types calls frames a text) (sym h) (t ∙ ap failure_text (sym (same_Some _ f e)))
-failure_told tb types calls frames M.Deep last given m f text e t h = subst (λ a. TellsAnswer tb types calls frames a text) (sym h) (t ∙ ap failure_text (sym (same_Some _ f e)))
+-- a run that ended without a value is reported by its failure
+pub failure_reported : (tb : Table) (types : List ℕ) (calls frames : ℕ) (x : Ended) (last : State) (given : List ℕ) (m : Answer) (f : Failure) (text : List ℕ) → failure_for x calls frames ≡ Some f → text ≡ failure_text f → IsMeant tb types x last given m → ReportsAnswer tb types calls frames m text
+failure_reported tb types calls frames M.Value last given m f text e t h = absurd (none-some f e)
+failure_reported tb types calls frames (M.Trap kind row col) last given (Gives vs left) f text e t h = absurd h
+failure_reported tb types calls frames (M.Trap kind row col) last given (Trap k r c) f text e t h = let same : text ≡ failure_text f = t in cc
+failure_reported tb types calls frames (M.Trap kind row col) last given Out f text e t h = absurd h
+failure_reported tb types calls frames (M.Trap kind row col) last given Deep f text e t h = absurd h
+failure_reported tb types calls frames (M.Trap kind row col) last given Stuck f text e t h = absurd h
+failure_reported tb types calls frames M.Out last given m f text e t h = subst (λ a. ReportsAnswer tb types calls frames a text) (sym h) (t ∙ ap failure_text (sym (same_Some _ f e)))
+failure_reported tb types calls frames M.Deep last given m f text e t h = subst (λ a. ReportsAnswer tb types calls frames a text) (sym h) (t ∙ ap failure_text (sym (same_Some _ f e)))
 
 -- one with a value by its results
-pub value_told : (tb : Table) (types : List ℕ) (calls frames : ℕ) (x : Ended) (last : State) (given : List ℕ) (m : Answer) (text : List ℕ) → failure_for x calls frames ≡ None → ((vs : Values) → ArePrintable tb last.store.cells types given vs → text ≡ joined tb types vs line_end) → IsMeant tb types x last given m → TellsAnswer tb types calls frames m text
-value_told tb types calls frames M.Value last given (Gives vs left) text e t h = t vs (printable tb last.store types given vs h)
-value_told tb types calls frames M.Value last given (Trap k r c) text e t h = absurd h
-value_told tb types calls frames M.Value last given Out text e t h = absurd h
-value_told tb types calls frames M.Value last given Deep text e t h = absurd h
-value_told tb types calls frames M.Value last given Stuck text e t h = absurd h
-value_told tb types calls frames (M.Trap kind row col) last given m text e t h = absurd cc
-value_told tb types calls frames M.Out last given m text e t h = absurd cc
-value_told tb types calls frames M.Deep last given m text e t h = absurd cc
+pub value_reported : (tb : Table) (types : List ℕ) (calls frames : ℕ) (x : Ended) (last : State) (given : List ℕ) (m : Answer) (text : List ℕ) → failure_for x calls frames ≡ None → ((vs : Values) → ArePrintable tb last.store.cells types given vs → text ≡ joined tb types vs line_end) → IsMeant tb types x last given m → ReportsAnswer tb types calls frames m text
+value_reported tb types calls frames M.Value last given (Gives vs left) text e t h = t vs (printable tb last.store types given vs h)
+value_reported tb types calls frames M.Value last given (Trap k r c) text e t h = absurd h
+value_reported tb types calls frames M.Value last given Out text e t h = absurd h
+value_reported tb types calls frames M.Value last given Deep text e t h = absurd h
+value_reported tb types calls frames M.Value last given Stuck text e t h = absurd h
+value_reported tb types calls frames (M.Trap kind row col) last given m text e t h = absurd cc
+value_reported tb types calls frames M.Out last given m text e t h = absurd cc
+value_reported tb types calls frames M.Deep last given m text e t h = absurd cc
 
 -- ---- a line more
 
@@ -91,7 +91,7 @@ some_at (z ∷ xs) [] k x e h = absurd cc
 some_at (z ∷ xs) (y ∷ ys) zero x e h = (y, refl)
 some_at (z ∷ xs) (y ∷ ys) (suc k) x e h = some_at xs ys k x (cc) h
 
--- ---- a result whose text is told for any values
+-- ---- a result whose text is reported for any values
 
 pub all_of_ok : {A V E : Type 0} (r : Result A E) (P : V → Type 0) (Q : A → V → Type 0) (R : A → Type 0) → ((x : A) → ((v : V) → P v → Q x v) → R x) → ((v : V) → P v → IfOk r (λ x. Q x v)) → IfOk r R
 all_of_ok (Ok x) P Q R f h = f x h

@@ -21,7 +21,7 @@ use Rattle.task_lines.specs.Called.{AreCalls, Called}
 use Rattle.task_lines.specs.declared.list.RunLimits.{RunLimits}
 use Rattle.command_tasks.specs.Called.{AreCallLines, KeepsList}
 use Rattle.command_tasks.specs.TasksAnswer.{TakesTurns}
-use Rattle.command_tasks.proofs.Entering.{bad_of, core, is_setting, lines_told, setting, tasks_of, twins_words}
+use Rattle.command_tasks.proofs.Entering.{bad_of, core, is_setting, lines_reported, setting, tasks_of, twins_words}
 use Rattle.command_tasks.proofs.Weighing.{words_of_calls}
 
 module _ (source : List ℕ) (p : Program) (ms : List Member) (code : Code) (accepted : IsAccepted source p) (found : AreMembers p.instances ms) (sound : IsSound (plain code)) (lowered : IsLoweredFrom p (plain_code code)) (room : Room) (limits : RunLimits) (calls : limits.calls ≡ room.calls) (frames : limits.frames ≡ room.frames) (few : room.frames ≤ MOST_FRAMES) (input : List ℕ) where
@@ -40,7 +40,7 @@ module _ (source : List ℕ) (p : Program) (ms : List Member) (code : Code) (acc
       taken (Err (F.TooSmall needed given)) (subst (λ n. Comes (setting source p ms code accepted found sound lowered room limits calls frames few) (lines_of input) (Err (F.TooSmall n given))) (sym same) (subst (λ m. Comes (setting source p ms code accepted found sound lowered room limits calls frames few) (lines_of input) (Err (F.TooSmall (words_of_tasks t.0) m))) (sym give) (Small t.0 t.1 many (subst (λ m. m < words_of_tasks t.0) give (subst (λ n. given < n) same less)))))
 
   pub answered : (cs : List Called) (needed given : ℕ) (text : List ℕ) → AreCalls code (lines_of input) cs → length (lines_of input) ≤ most_tasks → needed ≡ words_of_calls cs → given ≡ room.words → needed ≤ given → AreCallLines (core source p ms code accepted found sound lowered) code limits 0 cs text → TakesTurns source input room (Ok text)
-  answered cs needed given text are many need give le told =
+  answered cs needed given text are many need give le reported =
       let t = tasks_of source p ms code accepted found sound lowered (lines_of input) cs are in
       let same : needed ≡ words_of_tasks t.0 = need ∙ twins_words p code cs t.0 t.2 in
-      taken (Ok text) (Answered t.0 text t.1 many (subst (λ m. words_of_tasks t.0 ≤ m) give (subst (λ n. n ≤ given) same le)) (lines_told source p ms code accepted found sound lowered room limits calls frames few 0 cs t.0 text t.2 told))
+      taken (Ok text) (Answered t.0 text t.1 many (subst (λ m. words_of_tasks t.0 ≤ m) give (subst (λ n. n ≤ given) same le)) (lines_reported source p ms code accepted found sound lowered room limits calls frames few 0 cs t.0 text t.2 reported))

@@ -52,7 +52,7 @@ use Rattle.task_lines.specs.session_values.Readable.{IsReadable}
 use Rattle.task_lines.specs.declared.list.RunLimits.{RunLimits}
 use Rattle.command_tasks.specs.Called.{AreCallLines, AreNamed, IsCallLine, answer_of}
 use Rattle.command_tasks.specs.TasksAnswer.{IsSetting}
-use Rattle.command_tasks.specs.Telling.{TellsAnswer}
+use Rattle.command_tasks.specs.Telling.{ReportsAnswer}
 use Rattle.command_tasks.proofs.Frames.{free_given, never_deep}
 use Rattle.command_tasks.proofs.Weighing.{HaveCredits, all_typed, words_of_calls}
 use Rattle.value_text.specs.Loaded.{types_of}
@@ -64,10 +64,10 @@ header_first Fip h hs some = refl
 header_first Fbip h hs some = refl
 header_first Fun h hs some = absurd (some refl)
 
-header_behind : (k : FunKind) (h g : Header) (hs : List Header) (m : ℕ) → slice_get hs m ≡ Some g → (j : ℕ) × (slice_get (and_if (is_ruled k) h hs) j ≡ Some g)
-header_behind Fip h g hs m e = (suc m, e)
-header_behind Fbip h g hs m e = (suc m, e)
-header_behind Fun h g hs m e = (m, e)
+header_after : (k : FunKind) (h g : Header) (hs : List Header) (m : ℕ) → slice_get hs m ≡ Some g → (j : ℕ) × (slice_get (and_if (is_ruled k) h hs) j ≡ Some g)
+header_after Fip h g hs m e = (suc m, e)
+header_after Fbip h g hs m e = (suc m, e)
+header_after Fun h g hs m e = (m, e)
 
 header_at : (ms : List Member) (i : ℕ) (ds : List Instance) (place : ℕ) (d : Instance) → slice_get ds place ≡ Some d → (d.kind ≡ Fun → ⊥) → (m : ℕ) × (k : ℕ) × (slice_get (headers_from ms i ds) m ≡ Some (header_of k d))
 header_at ms i [] place d e some = absurd (none-some d e)
@@ -77,7 +77,7 @@ header_at ms i (x ∷ ds) zero d e some =
     (0, registers ms i, header_first x.kind (header_of (registers ms i) x) (headers_from ms (suc i) ds) ruled ∙ ap (λ y. Some (header_of (registers ms i) y)) same)
 header_at ms i (x ∷ ds) (suc place) d e some =
     let r = header_at ms (suc i) ds place d e some in
-    let j = header_behind x.kind (header_of (registers ms i) x) (header_of r.1 d) (headers_from ms (suc i) ds) r.0 r.2 in
+    let j = header_after x.kind (header_of (registers ms i) x) (header_of r.1 d) (headers_from ms (suc i) ds) r.0 r.2 in
     (j.0, r.1, j.1)
 
 function_with : (fs : List Function) (m : ℕ) (h : Header) → slice_get (map header fs) m ≡ Some h → (g : Function) × (slice_get fs m ≡ Some g) × (header g ≡ h)
@@ -93,15 +93,15 @@ record IsOf (ds : List Instance) (h : Header) : Type 0 where
   runs : instance.kind ≢ Fun
   is : h ≡ header_of number instance
 
-behind_one : (x : Instance) (ds : List Instance) (h : Header) → IsOf ds h → IsOf (x ∷ ds) h
-behind_one x ds h r = record { place = suc r.place; number = r.number; instance = r.instance; there = r.there; runs = r.runs; is = r.is }
+after_one : (x : Instance) (ds : List Instance) (h : Header) → IsOf ds h → IsOf (x ∷ ds) h
+after_one x ds h r = record { place = suc r.place; number = r.number; instance = r.instance; there = r.there; runs = r.runs; is = r.is }
 
 of_kind : (k : FunKind) (x : Instance) (ds : List Instance) (number : ℕ) (hs : List Header) (n : ℕ) (h : Header) → x.kind ≡ k → ((j : ℕ) → slice_get hs j ≡ Some h → IsOf ds h) → slice_get (and_if (is_ruled k) (header_of number x) hs) n ≡ Some h → IsOf (x ∷ ds) h
 of_kind Fip x ds number hs zero h e rest at = record { place = 0; number = number; instance = x; there = refl; runs = λ f. (let z : Fip ≡ Fun = sym e ∙ f in absurd cc); is = sym (same_Some (header_of number x) h at) }
-of_kind Fip x ds number hs (suc n) h e rest at = behind_one x ds h (rest n at)
+of_kind Fip x ds number hs (suc n) h e rest at = after_one x ds h (rest n at)
 of_kind Fbip x ds number hs zero h e rest at = record { place = 0; number = number; instance = x; there = refl; runs = λ f. (let z : Fbip ≡ Fun = sym e ∙ f in absurd cc); is = sym (same_Some (header_of number x) h at) }
-of_kind Fbip x ds number hs (suc n) h e rest at = behind_one x ds h (rest n at)
-of_kind Fun x ds number hs n h e rest at = behind_one x ds h (rest n at)
+of_kind Fbip x ds number hs (suc n) h e rest at = after_one x ds h (rest n at)
+of_kind Fun x ds number hs n h e rest at = after_one x ds h (rest n at)
 
 instance_at : (ms : List Member) (i : ℕ) (ds : List Instance) (n : ℕ) (h : Header) → slice_get (headers_from ms i ds) n ≡ Some h → IsOf ds h
 instance_at ms i [] n h e = absurd (none-some h e)
@@ -289,13 +289,13 @@ module _ (source : List ℕ) (p : Program) (ms : List Member) (code : Code) (acc
     pub is_setting : IsSetting source room setting
     is_setting = record { accepted = accepted; found = found; words = refl; calls = refl; frames = refl }
 
-    -- an answer is told alike, if so is that of a run that was too deep
-    told_so : (c : Called) (t : Task) (n : ℕ) (a : Answer) (line : List ℕ) → IsTwin p code c t → (a ≡ Deep → n ≡ free_frames setting t.entry) → TellsAnswer code.types c.function.results limits.calls n a line → TaskText setting t a line
-    told_so c t n (Gives vs left) line twin deep h = h ∙ (λ i. joined (lowered.types i) (twin.results i) vs line_end)
-    told_so c t n (Trap kind row col) line twin deep h = h
-    told_so c t n Out line twin deep h = h ∙ ap out_of_calls_text calls
-    told_so c t n Deep line twin deep h = h ∙ ap out_of_frames_text (deep refl)
-    told_so c t n Stuck line twin deep h = absurd h
+    -- an answer is reported alike, if so is that of a run that was too deep
+    reported_so : (c : Called) (t : Task) (n : ℕ) (a : Answer) (line : List ℕ) → IsTwin p code c t → (a ≡ Deep → n ≡ free_frames setting t.entry) → ReportsAnswer code.types c.function.results limits.calls n a line → TaskText setting t a line
+    reported_so c t n (Gives vs left) line twin deep h = h ∙ (λ i. joined (lowered.types i) (twin.results i) vs line_end)
+    reported_so c t n (Trap kind row col) line twin deep h = h
+    reported_so c t n Out line twin deep h = h ∙ ap out_of_calls_text calls
+    reported_so c t n Deep line twin deep h = h ∙ ap out_of_frames_text (deep refl)
+    reported_so c t n Stuck line twin deep h = absurd h
 
     -- what the source means by the call is what the program means by its task
     flat_of : (c : Called) (t : Task) (n : ℕ) → IsTwin p code c t → answer_of core limits n c ≡ (flat_meaning p t.entry t.values room.calls n).answer
@@ -316,7 +316,7 @@ module _ (source : List ℕ) (p : Program) (ms : List Member) (code : Code) (acc
         let n : is.frames ≡ room.frames = code_frames c t is.frames is.has.held twin kind is.has.stack is.has.are in
         let m : free_frames setting t.entry ≡ room.frames = free_given source setting accepted found t.entry t.header twin.there kind in
         let same : answer_of core limits is.frames c ≡ flat_answer setting t.entry t.values = flat_of c t is.frames twin ∙ ap (λ j. (flat_meaning p t.entry t.values room.calls j).answer) (n ∙ sym m) in
-        subst (λ a. TaskText setting t a line) same (told_so c t is.frames (answer_of core limits is.frames c) line twin (λ e. n ∙ sym m) is.told)
+        subst (λ a. TaskText setting t a line) same (reported_so c t is.frames (answer_of core limits is.frames c) line twin (λ e. n ∙ sym m) is.reported)
     text_by c t line Fip twin kind is =
         let i = t.entry in
         let vs = t.values in
@@ -328,10 +328,10 @@ module _ (source : List ℕ) (p : Program) (ms : List Member) (code : Code) (acc
         let b = more_frames p i vs room.calls free is.frames shallow in
         let both : flat_meaning p i vs room.calls is.frames ≡ flat_meaning p i vs room.calls free = sym a ∙ ap (flat_meaning p i vs room.calls) (let z : is.frames + free ≡ free + is.frames = omega arith in z) ∙ b in
         let same : answer_of core limits is.frames c ≡ flat_answer setting i vs = flat ∙ ap (λ x. x.answer) both in
-        subst (λ x. TaskText setting t x line) same (told_so c t is.frames (answer_of core limits is.frames c) line twin (λ e. absurd (never e)) is.told)
+        subst (λ x. TaskText setting t x line) same (reported_so c t is.frames (answer_of core limits is.frames c) line twin (λ e. absurd (never e)) is.reported)
 
-    pub lines_told : (n : ℕ) (cs : List Called) (ts : List Task) (text : List ℕ) → AreTwins p code cs ts → AreCallLines core code limits n cs text → TaskLines setting n ts text
-    lines_told n [] [] text twins h = h
-    lines_told n [] (t ∷ ts) text twins h = absurd twins
-    lines_told n (c ∷ cs) [] text twins h = absurd twins
-    lines_told n (c ∷ cs) (t ∷ ts) text twins h = (h.0, h.1, text_by c t h.0 (t.header).kind twins.0 refl h.2, h.3, lines_told (suc n) cs ts h.1 twins.1 h.4)
+    pub lines_reported : (n : ℕ) (cs : List Called) (ts : List Task) (text : List ℕ) → AreTwins p code cs ts → AreCallLines core code limits n cs text → TaskLines setting n ts text
+    lines_reported n [] [] text twins h = h
+    lines_reported n [] (t ∷ ts) text twins h = absurd twins
+    lines_reported n (c ∷ cs) [] text twins h = absurd twins
+    lines_reported n (c ∷ cs) (t ∷ ts) text twins h = (h.0, h.1, text_by c t h.0 (t.header).kind twins.0 refl h.2, h.3, lines_reported (suc n) cs ts h.1 twins.1 h.4)

@@ -1,4 +1,4 @@
--- Values with what separates them, one behind another.
+-- Values with what separates them, one after another.
 use Rattle.std.proofs.Common.{Iter, ◌≡◌, ◌⊎◌, ◌∙◌, ◌++◌, ℕ, zero, suc, Bool, true, false, List, [], ◌∷◌, length, inl, inr, refl, sym, ap, subst, append_assoc, append-nil, arith}
 use Rattle.std.specs.Prelude.{codes, if◌then◌else◌}
 use Rattle.std.specs.Fmt.{signed_decimal}
@@ -11,7 +11,7 @@ use Rattle.value_text.specs.Standing.{Stands, StandAll}
 use Rattle.command_session.specs.command_run.machine_correctness.Meant.{ArePrintable}
 use Rattle.command_session.specs.command_run.session_semantics.Turns.{joined}
 
--- the text goes on behind a value
+-- the text goes on after a value
 mutual
   printed_on : (tb : Table) (k : ℕ) (v : Value) (a b : List ℕ) → printed tb k v a ++ b ≡ printed tb k v (a ++ b)
   printed_on tb zero (Int i) a b = append_assoc (signed_decimal i) a b
@@ -36,7 +36,7 @@ joined_on tb (k ∷ []) (More v vs) a b = printed_on tb k v a b
 joined_on tb (k ∷ j ∷ ks) End a b = refl
 joined_on tb (k ∷ j ∷ ks) (More v vs) a b = printed_on tb k v (codes "; " ++ joined tb (j ∷ ks) vs a) b ∙ ap (λ x. printed tb k v (codes "; " ++ x)) (joined_on tb (j ∷ ks) vs a b)
 
--- the values behind the first, each behind what separates it
+-- the values after the first, each after what separates it
 abbrev pub later : Table → List ℕ → Values → List ℕ
 later tb [] vs = []
 later tb (k ∷ ks) End = []

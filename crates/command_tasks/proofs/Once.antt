@@ -111,7 +111,7 @@ module _ (p : Program) (sound : IsSoundProgram p) where
 
 -- ---- a task has one answer
 
--- An answer is told in one text, if so is one of a run that was too deep.
+-- An answer is reported in one text, if so is one of a run that was too deep.
 text_once : (o q : Setting) (t : Task) (a : Answer) (x y : List ℕ) → o.program ≡ q.program → o.calls ≡ q.calls → (a ≡ Deep → free_frames o t.entry ≡ free_frames q t.entry) → TaskText o t a x → TaskText q t a y → x ≡ y
 text_once o q t (Gives vs left) x y p c deep h k = h ∙ ap (λ (r : Program). joined r.types t.header.results vs line_end) p ∙ sym k
 text_once o q t (Trap kind row col) x y p c deep h k = h ∙ sym k
@@ -146,8 +146,8 @@ module _ (source : List ℕ) (p : Program) (accepted : IsAccepted source p) (roo
         let both : m + n ≡ n + m = omega arith in
         (ap (λ r. r.answer) (sym a ∙ ap (flat_meaning p t.entry t.values room.calls) both ∙ b), λ deep. absurd (there deep))
 
-    told_once : (line : List ℕ) (t : Task) (x y : List ℕ) → IsTask p line t → TaskText (setting ms) t (answer_of (setting ms) t.entry t.values) x → TaskText (setting ns) t (answer_of (setting ns) t.entry t.values) y → x ≡ y
-    told_once line t x y is h k =
+    reported_once : (line : List ℕ) (t : Task) (x y : List ℕ) → IsTask p line t → TaskText (setting ms) t (answer_of (setting ms) t.entry t.values) x → TaskText (setting ns) t (answer_of (setting ns) t.entry t.values) y → x ≡ y
+    reported_once line t x y is h k =
         let same = alike line t t.header.kind is refl in
         text_once (setting ms) (setting ns) t (answer_of (setting ns) t.entry t.values) x y refl refl same.1 (subst (λ a. TaskText (setting ms) t a x) same.0 h) k
 
@@ -155,22 +155,22 @@ module _ (source : List ℕ) (p : Program) (accepted : IsAccepted source p) (roo
     lines_once n lines [] x y are h k = h ∙ sym k
     lines_once n [] (t ∷ ts) x y are h k = absurd are
     lines_once n (line ∷ lines) (t ∷ ts) x y are h k =
-        let first : h.0 ≡ k.0 = told_once line t h.0 k.0 are.0 h.2 k.2 in
+        let first : h.0 ≡ k.0 = reported_once line t h.0 k.0 are.0 h.2 k.2 in
         let rest : h.1 ≡ k.1 = lines_once (suc n) lines ts h.1 k.1 are.1 h.4 k.4 in
         h.3 ∙ (λ i. decimal n ++ (codes ": " ++ (first i ++ rest i))) ∙ sym k.3
 
     comes_once : (lines : List (List ℕ)) (d e : Result (List ℕ) Failure) → Comes (setting ms) lines d → Comes (setting ns) lines e → d ≡ e
     comes_once lines d e (Bad j h) (Bad k i) = ap (λ n. Err (F.BadTask n)) (bad_once p sound 0 lines j k h i)
     comes_once lines d e (Bad j h) (Small ts are few less) = absurd (bad_or_tasks p sound 0 lines j ts h are (omega (arith, few)))
-    comes_once lines d e (Bad j h) (Answered ts text are few fits told) = absurd (bad_or_tasks p sound 0 lines j ts h are (omega (arith, few)))
+    comes_once lines d e (Bad j h) (Answered ts text are few fits reported) = absurd (bad_or_tasks p sound 0 lines j ts h are (omega (arith, few)))
     comes_once lines d e (Small ss are few less) (Bad k i) = absurd (bad_or_tasks p sound 0 lines k ss i are (omega (arith, few)))
     comes_once lines d e (Small ss are few less) (Small ts also small more) = ap (λ xs. Err (F.TooSmall (words_of_tasks xs) room.words)) (tasks_once p sound lines ss ts are also)
-    comes_once lines d e (Small ss are few less) (Answered ts text also small fits told) = let same = ap words_of_tasks (tasks_once p sound lines ss ts are also) in absurd (omega (arith, less, fits, same))
-    comes_once lines d e (Answered ss text are few fits told) (Bad k i) = absurd (bad_or_tasks p sound 0 lines k ss i are (omega (arith, few)))
-    comes_once lines d e (Answered ss text are few fits told) (Small ts also small less) = let same = ap words_of_tasks (tasks_once p sound lines ss ts are also) in absurd (omega (arith, less, fits, same))
-    comes_once lines d e (Answered ss x are few fits told) (Answered ts y also small within others) =
+    comes_once lines d e (Small ss are few less) (Answered ts text also small fits reported) = let same = ap words_of_tasks (tasks_once p sound lines ss ts are also) in absurd (omega (arith, less, fits, same))
+    comes_once lines d e (Answered ss text are few fits reported) (Bad k i) = absurd (bad_or_tasks p sound 0 lines k ss i are (omega (arith, few)))
+    comes_once lines d e (Answered ss text are few fits reported) (Small ts also small less) = let same = ap words_of_tasks (tasks_once p sound lines ss ts are also) in absurd (omega (arith, less, fits, same))
+    comes_once lines d e (Answered ss x are few fits reported) (Answered ts y also small within others) =
         let same : ts ≡ ss = tasks_once p sound lines ts ss also are in
-        ap (λ t. Ok t) (lines_once 0 lines ss x y are told (subst (λ us. TaskLines (setting ns) 0 us y) same others))
+        ap (λ t. Ok t) (lines_once 0 lines ss x y are reported (subst (λ us. TaskLines (setting ns) 0 us y) same others))
 
 -- ---- what the source comes to
 

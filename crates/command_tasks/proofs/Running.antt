@@ -39,7 +39,7 @@ use Rattle.fip_tasks.specs.task_semantics.Schedules.{Shared}
 use Rattle.fip_tasks.specs.task_semantics.Laid.{Task}
 use Rattle.fip_tasks.specs.machine_semantics.States.{State}
 use Rattle.command_tasks.specs.Called.{AreCallLines, AreNamed, IsCallLine, answer_of}
-use Rattle.command_tasks.specs.Telling.{AreTaskLines, CanRun, EndAs, TellsAnswer, result_types, results_of}
+use Rattle.command_tasks.specs.Telling.{AreTaskLines, CanRun, EndAs, ReportsAnswer, result_types, results_of}
 use Rattle.task_correctness.specs.Answered.{AreStartsAt, IsStartAt}
 use Rattle.task_correctness.proofs.VerifiedAnywhere.{apart_started}
 use Rattle.task_correctness.proofs.Started.{function_of}
@@ -167,11 +167,11 @@ module _ (source : List ℕ) (core : Core) (v : Checked) (limits : RunLimits) (c
       let room = enough c b (plain_function c.function) mine.is fip b.frames s.frames.held s.frames.stack s.frames.are in
       not_deep source core v.code c.entry (plain_function c.function) c.values b.frames own limits.calls room.0 code mine some fip room.1 room.2
 
-  line_of : (k : ℕ) (c : Called) (l : Lying) (b : Start) (line : List ℕ) → slice_get ls k ≡ Some l → 0 < length c.function.name → IsStarted v.code limits c l b → TellsAnswer v.code.types (result_types v.code b.entry) b.calls b.frames (answer_of core limits b.frames c) line → IsCallLine core v.code limits c line
-  line_of k c l b line is some s told = record {
+  line_of : (k : ℕ) (c : Called) (l : Lying) (b : Start) (line : List ℕ) → slice_get ls k ≡ Some l → 0 < length c.function.name → IsStarted v.code limits c l b → ReportsAnswer v.code.types (result_types v.code b.entry) b.calls b.frames (answer_of core limits b.frames c) line → IsCallLine core v.code limits c line
+  line_of k c l b line is some s reported = record {
     frames = b.frames;
     has = s.frames;
-    told = subst (λ n. TellsAnswer v.code.types c.function.results n b.frames (answer_of core limits b.frames c) line) s.calls (subst (λ ts. TellsAnswer v.code.types ts b.calls b.frames (answer_of core limits b.frames c) line) (types_at k c l b is s) told);
+    reported = subst (λ n. ReportsAnswer v.code.types c.function.results n b.frames (answer_of core limits b.frames c) line) s.calls (subst (λ ts. ReportsAnswer v.code.types ts b.calls b.frames (answer_of core limits b.frames c) line) (types_at k c l b is s) reported);
     never_deep = deep_at k c l b is some s;
   }
 

@@ -1,4 +1,4 @@
--- Turns behind a schedule are a longer schedule.
+-- Turns after a schedule are a longer schedule.
 use Rattle.std.proofs.Common.{◌≡◌, ℕ, List, [], ◌∷◌, ◌++◌, replicate, refl, sym, subst}
 use Rattle.fip_tasks.specs.machine_semantics.Codes.{PlainCode, plain}
 use Rattle.fip_tasks.specs.machine_semantics.Steps.{Kinds}

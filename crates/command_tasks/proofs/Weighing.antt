@@ -14,7 +14,7 @@ use Rattle.fip_language.specs.Table.{Table, HasType, HaveTypes}
 use Rattle.fip_language.specs.declared.limits.TheConstants.{MOST_FIELDS, MOST_FILE_BYTES}
 use Rattle.fip_language.specs.Values.{Value, Int, Node, Values, End, More, count_of, words_needed, words_needed_by_all, words_of_node}
 use Rattle.task_correctness.specs.run_loading.Loading.{words_of_credits}
-use Rattle.command_session.specs.command_run.session_semantics.Lines.{Symbol, Blank, Open, Close, Comma, Equals, Question, Minus, Underscore, Digit, Small, Capital, Other, Written, Number, Named, Parts, NoParts, MoreParts, WrittenText, PartsText, FurtherText, NumberText, DigitsText, MoreGivenText, AllGivenText, BeginsCapital, SignText, after_number, behind, fresh_of, lines_of, put_before, skip, symbol, symbols}
+use Rattle.command_session.specs.command_run.session_semantics.Lines.{Symbol, Blank, Open, Close, Comma, Equals, Question, Minus, Underscore, Digit, Small, Capital, Other, Written, Number, Named, Parts, NoParts, MoreParts, WrittenText, PartsText, FurtherText, NumberText, DigitsText, MoreGivenText, AllGivenText, BeginsCapital, SignText, after_number, following, fresh_of, lines_of, put_before, skip, symbol, symbols}
 use Rattle.command_session.specs.command_run.session_semantics.Typed.{IsValue, AreValues}
 use Rattle.task_lines.specs.Called.{AreCalls, Called, IsCall, needed_by_all}
 use Rattle.task_lines.specs.Listed.{IsListOf}
@@ -43,20 +43,20 @@ skip_short (Small b ∷ cs) = omega arith
 skip_short (Capital b ∷ cs) = omega arith
 skip_short (Other ∷ cs) = omega arith
 
-behind_short : (cs : List Symbol) → length (behind cs) ≤ length cs
-behind_short [] = omega arith
-behind_short (Underscore ∷ cs) = (let h = behind_short cs in omega (arith, h))
-behind_short (Digit d ∷ cs) = (let h = behind_short cs in omega (arith, h))
-behind_short (Small b ∷ cs) = (let h = behind_short cs in omega (arith, h))
-behind_short (Capital b ∷ cs) = (let h = behind_short cs in omega (arith, h))
-behind_short (Blank ∷ cs) = omega arith
-behind_short (Open ∷ cs) = omega arith
-behind_short (Close ∷ cs) = omega arith
-behind_short (Comma ∷ cs) = omega arith
-behind_short (Equals ∷ cs) = omega arith
-behind_short (Question ∷ cs) = omega arith
-behind_short (Minus ∷ cs) = omega arith
-behind_short (Other ∷ cs) = omega arith
+following_short : (cs : List Symbol) → length (following cs) ≤ length cs
+following_short [] = omega arith
+following_short (Underscore ∷ cs) = (let h = following_short cs in omega (arith, h))
+following_short (Digit d ∷ cs) = (let h = following_short cs in omega (arith, h))
+following_short (Small b ∷ cs) = (let h = following_short cs in omega (arith, h))
+following_short (Capital b ∷ cs) = (let h = following_short cs in omega (arith, h))
+following_short (Blank ∷ cs) = omega arith
+following_short (Open ∷ cs) = omega arith
+following_short (Close ∷ cs) = omega arith
+following_short (Comma ∷ cs) = omega arith
+following_short (Equals ∷ cs) = omega arith
+following_short (Question ∷ cs) = omega arith
+following_short (Minus ∷ cs) = omega arith
+following_short (Other ∷ cs) = omega arith
 
 after_short : (cs : List Symbol) → length (after_number cs) ≤ length cs
 after_short [] = omega arith
@@ -76,8 +76,8 @@ after_short (Other ∷ cs) = omega arith
 sign_short : (sign : Symbol) (cs rest : List Symbol) → SignText sign cs rest → suc (length rest) ≤ length cs
 sign_short sign cs rest h = (let a = skip_short cs in let b = ap length h in omega (arith, a, b))
 
-capital_short : (cs : List Symbol) → BeginsCapital cs → suc (length (behind cs)) ≤ length cs
-capital_short (Capital b ∷ cs) h = (let r = behind_short cs in omega (arith, r))
+capital_short : (cs : List Symbol) → BeginsCapital cs → suc (length (following cs)) ≤ length cs
+capital_short (Capital b ∷ cs) h = (let r = following_short cs in omega (arith, r))
 capital_short [] h = absurd h
 capital_short (Underscore ∷ cs) h = absurd h
 capital_short (Digit d ∷ cs) h = absurd h
@@ -136,7 +136,7 @@ mutual
   value_short tb (suc k) (Named name ws) (Node c vs) cs rest h t =
       let a = skip_short cs in
       let b = capital_short (skip cs) t.0 in
-      let d = parts_short tb h.0.fields ws vs (behind (skip cs)) rest h.3 t.2 in
+      let d = parts_short tb h.0.fields ws vs (following (skip cs)) rest h.3 t.2 in
       omega (arith, a, b, d)
 
   parts_short : (tb : Table) (ks : List ℕ) (ws : Parts) (vs : Values) (cs rest : List Symbol) → AreValues tb ks ws vs → PartsText cs ws rest → words_of_node (count_of vs) + words_needed_by_all vs + length rest ≤ suc (length cs)
@@ -192,7 +192,7 @@ call_short code line c h =
     let a = given_short code.types (types_of c.function.params) h.parts c.values t.1 t.2 h.typed t.5 in
     let s = sign_short Open t.0 t.1 t.4 in
     let n = ap length t.3.then' in
-    let b = behind_short (skip (symbols line)) in
+    let b = following_short (skip (symbols line)) in
     let k = skip_short (symbols line) in
     let l = length-map line symbol in
     omega (arith, a, s, n, b, k, l)

@@ -13,7 +13,7 @@ use Rattle.command_session.specs.command_run.session_semantics.Lines.{lines_of}
 use Rattle.command_session.specs.command_run.code_rules.Codes.{plain, is_fip}
 use Rattle.task_lines.specs.Called.{Called, IsFirstBad}
 use Rattle.task_lines.specs.declared.list.RunLimits.{RunLimits}
-use Rattle.command_tasks.specs.Telling.{TellsAnswer}
+use Rattle.command_tasks.specs.Telling.{ReportsAnswer}
 
 -- each function that is called has a name
 abbrev pub AreNamed : List Called → Type 0
@@ -27,7 +27,7 @@ answer_of core limits frames c = (meaning core c.function.name NoClosed c.values
 pub record IsCallLine (core : Core) (code : Code) (limits : RunLimits) (c : Called) (line : List ℕ) : Type 0 where
   pub frames : ℕ
   pub has : HasFrames (plain code) c.entry limits.frames frames
-  pub told : TellsAnswer code.types c.function.results limits.calls frames (answer_of core limits frames c) line
+  pub reported : ReportsAnswer code.types c.function.results limits.calls frames (answer_of core limits frames c) line
   pub never_deep : is_fip c.function.kind ≡ true → answer_of core limits frames c ≢ Deep
 
 -- those of the calls from number n on

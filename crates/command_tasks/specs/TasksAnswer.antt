@@ -1,7 +1,7 @@
 -- What `tasks` comes to on a source that breaks no rule, once the input is read.
 --
 -- Each line of the input is a task: a function of the source and values in brackets. The first line that is none is
--- told, or line 1,001; else, where the store has fewer words than the cells of all values and of the functions' credits
+-- reported, or line 1,001; else, where the store has fewer words than the cells of all values and of the functions' credits
 -- take, both numbers. Else each task has a line, with its number: what the source means by its function on its values,
 -- with the calls that are given, and the frames that a fip function needs or that are given. Whose turn it is when
 -- changes none of that, so neither the seed nor the number of turns is spoken of.

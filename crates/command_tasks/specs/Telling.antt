@@ -1,4 +1,4 @@
--- For private contracts alone: how tasks stand behind some turns, and what is told of those that ended.
+-- For private contracts alone: how tasks stand after some turns, and what is reported of those that ended.
 use Rattle.std.specs.Prelude.{◌≡◌, ℕ, suc, List, [], ◌∷◌, ◌++◌, Option, Some, None, codes, slice_get}
 use Rattle.std.specs.Fmt.{decimal}
 use Rattle.cell_code.specs.declared.code.Code.{Code}
@@ -35,18 +35,18 @@ results_of (Some f) = f.results
 abbrev pub result_types : Code → ℕ → List ℕ
 result_types code n = results_of (slice_get code.functions.items n)
 
--- how an answer is told in a task's line, which had so many calls and frames
-abbrev pub TellsAnswer : Table → List ℕ → ℕ → ℕ → Answer → List ℕ → Type 0
-TellsAnswer tb types calls frames (Gives vs left) line = line ≡ joined tb types vs line_end
-TellsAnswer tb types calls frames (Trap kind row col) line = line ≡ trap_text kind row col
-TellsAnswer tb types calls frames Out line = line ≡ out_of_calls_text calls
-TellsAnswer tb types calls frames Deep line = line ≡ out_of_frames_text frames
-TellsAnswer tb types calls frames Stuck line = ⊥
+-- how an answer is reported in a task's line, which had so many calls and frames
+abbrev pub ReportsAnswer : Table → List ℕ → ℕ → ℕ → Answer → List ℕ → Type 0
+ReportsAnswer tb types calls frames (Gives vs left) line = line ≡ joined tb types vs line_end
+ReportsAnswer tb types calls frames (Trap kind row col) line = line ≡ trap_text kind row col
+ReportsAnswer tb types calls frames Out line = line ≡ out_of_calls_text calls
+ReportsAnswer tb types calls frames Deep line = line ≡ out_of_frames_text frames
+ReportsAnswer tb types calls frames Stuck line = ⊥
 
 -- the line of task n, which was started so and means this answer
 abbrev pub IsTaskLine : Code → ℕ → Start → Answer → List ℕ → Type 0
 IsTaskLine code n b m text = (line : List ℕ)
-    × TellsAnswer code.types (result_types code b.entry) b.calls b.frames m line
+    × ReportsAnswer code.types (result_types code b.entry) b.calls b.frames m line
     × (text ≡ decimal n ++ (codes ": " ++ line))
 
 -- the lines of the tasks from number n on
@@ -61,7 +61,7 @@ abbrev pub Answers : Code → Turns → Start → Answer → Standing → Ended 
 Answers code t b m a x =
     IsMeant code.types (result_types code b.entry) x (state_with a.stack [] t.store) a.stack.given m
 
--- Each task that was started so, and that has ended, behind whatever turns, answers what it means.
+-- Each task that was started so, and that has ended, after whatever turns, answers what it means.
 abbrev pub EndAs : Checked → Kinds → Shared → List Start → List Answer → Type 0
 EndAs v kinds first starts means = (t : Turns) → ShowsSome v kinds first t → (k : ℕ) (b : Start) (m : Answer)
     (a : Standing) (x : Ended) → slice_get starts k ≡ Some b → slice_get means k ≡ Some m →

@@ -12,7 +12,7 @@ use fip_base::plain::NoMemory;
 use fip_tasks::{Start, Tasks};
 use std::alloc::Global;
 
-/// Runs each task to its end, in order, and tells in a line for each what it comes to.
+/// Runs each task to its end, in order, and reports in a line for each what it comes to.
 pub fn answers(
     alloc: Global,
     code: &Code,

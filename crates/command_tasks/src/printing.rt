@@ -8,7 +8,7 @@ ghost use Rattle.fip_tasks.specs.Turns.{Standing};
 ghost use Rattle.fip_tasks.specs.machine_cells.Small.{IsSmall};
 ghost use Rattle.command_session.specs.command_run.machine_correctness.Meant.{ArePrintable};
 ghost use Rattle.command_session.specs.command_run.session_semantics.Turns.{joined};
-ghost use Rattle.command_tasks.specs.Telling.{Answers, IsTaskLine, TellsAnswer, result_types};
+ghost use Rattle.command_tasks.specs.Telling.{Answers, IsTaskLine, ReportsAnswer, result_types};
 
 use cell_code::Code;
 use cell_store::Sealed;
@@ -18,9 +18,9 @@ use fip_base::table::TypeTable;
 use fip_machine::Ended;
 use fip_tasks::{Start, Tasks};
 use std::alloc::{AllocError, Global};
-use value_text::print_behind;
+use value_text::print_after;
 
-// A text with what separates values behind it, unless none stands before.
+// A text with what separates values after it, unless none stands before.
 fn separated(text: Vec<u8>, is_first: bool) -> Result<Vec<u8>, NoMemory>
     ensures text { IfOk result (λ t. t.items ≡ text.items ++ (if is_first then [] else codes "; ")) }
 {
@@ -46,7 +46,7 @@ fn values_text(
     let mut is_first = true;
     for (ty, word) in types.iter().zip(words.iter()) {
         text = separated(text, is_first)?;
-        text = print_behind(alloc, table, cells, *ty, *word, text)?;
+        text = print_after(alloc, table, cells, *ty, *word, text)?;
         is_first = false;
     }
     Ok(text)
@@ -82,7 +82,7 @@ fn results_text(
     Ok(text)
 }
 
-// What is told of a task that ended so.
+// What is reported of a task that ended so.
 fn answer_text(
     alloc: Global,
     code: &Code,
@@ -92,9 +92,9 @@ fn answer_text(
     ended: Ended,
 ) -> Result<Vec<u8>, NoMemory>
     requires there { k < length tasks.now.tasks }
-    ensures tells { (a : Standing) (m : Answer) → slice_get tasks.now.tasks k ≡ Some a →
+    ensures reports { (a : Standing) (m : Answer) → slice_get tasks.now.tasks k ≡ Some a →
         IsSmall tasks.now.store.cells → Answers code.now tasks.now start.now m a ended → IfOk result (λ t.
-        TellsAnswer code.now.types (result_types code.now start.now.entry) start.now.calls start.now.frames m t.items) }
+        ReportsAnswer code.now.types (result_types code.now start.now.entry) start.now.calls start.now.frames m t.items) }
 {
     match failure_of(ended, start.calls, start.frames as u64) {
         Some(failure) => failure.text(alloc),
@@ -109,7 +109,7 @@ fn number_text(alloc: Global, k: usize) -> Result<String, AllocError>
     format!(in alloc; "{k}: ")
 }
 
-/// Puts the line of a task that ended so behind a text: its number, and its results or the text of its end.
+/// Puts the line of a task that ended so after a text: its number, and its results or the text of its end.
 pub fn put_task(
     alloc: Global,
     code: &Code,

@@ -1,4 +1,4 @@
-// The laws of lists of tasks. Each is the contract of a function that does nothing.
+// The theorems of lists of tasks. Each is the contract of a function that does nothing.
 ghost use Rattle.std.specs.Prelude.{◌≡◌, ℕ, List, Result};
 ghost use Rattle.command_words.specs.Words.{Room};
 ghost use Rattle.command_outcome.specs.declared.failure.Failure.{Failure};

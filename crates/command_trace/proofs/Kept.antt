@@ -9,7 +9,7 @@ use Rattle.fip_language.specs.Table.{Table}
 use Rattle.fip_language.specs.Values.{Values}
 use Rattle.fip_base.specs.declared.plain.Stack.{Stack}
 use Rattle.cell_trace.specs.declared.trace.Trace.{Trace as Memory}
-use Rattle.cell_trace.specs.Traced.{Tells, IsTooLong, standing_from}
+use Rattle.cell_trace.specs.Traced.{Reports, IsTooLong, standing_from}
 use Rattle.command_words.specs.Words.{Room}
 use Rattle.command_outcome.specs.Stages.{IsOfRun}
 use Rattle.command_outcome.specs.declared.failure.Failure.{Failure}
@@ -49,7 +49,7 @@ use Rattle.command_run.specs.command_eval.EvalAnswer.{OrNoMemory}
 use Rattle.command_run.specs.CodeRun.{is_run_failure}
 use Rattle.command_run.proofs.Leaving.{input_run}
 use Rattle.command_run.specs.ExecAnswer.{Coded, Execs}
-use Rattle.command_run.specs.Starting.{IsStarted, TellsEnded, failure_for}
+use Rattle.command_run.specs.Starting.{IsStarted, ReportsEnded, failure_for}
 use Rattle.trace_files.specs.Plain.{plain_trace}
 use Rattle.command_trace.specs.TraceAnswer.{IsRunTrace, IsTraceOf, IsLong, Traces, TracesRun, Ended as Ends, Stored, TooLong, KeptOrNoMemory}
 use Rattle.command_trace.proofs.Valued.{Valued, valued}
@@ -117,7 +117,7 @@ module _ (source name input : List ℕ) (r : Chosen) (ready : IsReady source (Co
   pub kept_trace : (u : Memory) (file : List ℕ) → Says m room.calls (λ kinds code s. HasTrace kinds code s room.calls 16777216 u) → file ≡ trace_text (plain_trace u) → (t : Trace) × IsRunTrace (plain r.checked.code) r.entry input room t × (IsLong t → ⊥) × (file ≡ trace_text t)
   kept_trace u file says is =
       let k = said (λ kinds code s. HasTrace kinds code s room.calls 16777216 u) says in
-      let Q : ℕ → Type 0 = λ steps. Tells (standing_from 0 (st.state).store.cells) (notes found.0 (R.plain r.checked.code) st.state room.calls steps) steps 16777216 u in
+      let Q : ℕ → Type 0 = λ steps. Reports (standing_from 0 (st.state).store.cells) (notes found.0 (R.plain r.checked.code) st.state room.calls steps) steps 16777216 u in
       let x = valued r.checked found.0 found.1 r.entry st.function st.values st.frames st.state room.calls Q sound found.2 st.begins k.0 k.1 in
       let t = trace_of found.0 (R.plain r.checked.code) st.state room.calls x.run.steps in
       let same : plain_trace u ≡ t = trace_is found.0 (R.plain r.checked.code) st.state room.calls x.run.steps 16777216 u x.holds in
@@ -140,7 +140,7 @@ pub failed : (source name input : List ℕ) (room : Room) (failure : Failure) �
 failed source name input room F.NoMemory h = tt
 failed source name input room failure h = Ends failure h
 
--- where a run is told no value, nothing is said of its trace
+-- where a run is reported no value, nothing is said of its trace
 pub kept_own : (c : PlainCode) (n : ℕ) (input : List ℕ) (room : Room) (failure : Failure) → IsOfRun failure → TracesRun c n input room (Err failure)
 kept_own c n input room (F.Refused r) h = absurd h
 kept_own c n input room failure h = tt
@@ -163,15 +163,15 @@ run_failed (M.Trap kind line col) calls frames failure e = ap is_run_failure (sy
 run_failed M.Out calls frames failure e = ap is_run_failure (sym (same_Some (F.OutOfCalls calls) failure e))
 run_failed M.Deep calls frames failure e = ap is_run_failure (sym (same_Some (F.OutOfFrames frames) failure e))
 
--- and is told
-pub tells_failure : (tb : Table) (types : List ℕ) (room : Room) (behind : List ℕ) (s : Store) (given : List ℕ) (o : Ended) (failure : Failure) → o ≢ M.Value → failure_for o room.calls room.frames ≡ Some failure → TellsEnded tb types room behind s given o (Err failure)
-tells_failure tb types room behind s given M.Value failure n e = absurd (n refl)
-tells_failure tb types room behind s given (M.Trap kind line col) failure n e = ap Err (sym (same_Some (F.Trap kind line col) failure e))
-tells_failure tb types room behind s given M.Out failure n e = ap Err (sym (same_Some (F.OutOfCalls room.calls) failure e))
-tells_failure tb types room behind s given M.Deep failure n e = ap Err (sym (same_Some (F.OutOfFrames room.frames) failure e))
+-- and is reported
+pub reports_failure : (tb : Table) (types : List ℕ) (room : Room) (following : List ℕ) (s : Store) (given : List ℕ) (o : Ended) (failure : Failure) → o ≢ M.Value → failure_for o room.calls room.frames ≡ Some failure → ReportsEnded tb types room following s given o (Err failure)
+reports_failure tb types room following s given M.Value failure n e = absurd (n refl)
+reports_failure tb types room following s given (M.Trap kind line col) failure n e = ap Err (sym (same_Some (F.Trap kind line col) failure e))
+reports_failure tb types room following s given M.Out failure n e = ap Err (sym (same_Some (F.OutOfCalls room.calls) failure e))
+reports_failure tb types room following s given M.Deep failure n e = ap Err (sym (same_Some (F.OutOfFrames room.frames) failure e))
 
-pub tells_value : (tb : Table) (types : List ℕ) (room : Room) (s : Store) (given : List ℕ) (o : Ended) (text : List ℕ) → o ≡ M.Value → ((vs : Values) → ArePrintable tb s.cells types given vs → text ≡ printed_lines tb types vs) → TellsEnded tb types room [] s given o (Ok text)
-tells_value tb types room s given o text is lines = subst (λ e. TellsEnded tb types room [] s given e (Ok text)) (sym is) (λ vs p. ap Ok (lines vs p ∙ sym (append-nil (printed_lines tb types vs))))
+pub reports_value : (tb : Table) (types : List ℕ) (room : Room) (s : Store) (given : List ℕ) (o : Ended) (text : List ℕ) → o ≡ M.Value → ((vs : Values) → ArePrintable tb s.cells types given vs → text ≡ printed_lines tb types vs) → ReportsEnded tb types room [] s given o (Ok text)
+reports_value tb types room s given o text is lines = subst (λ e. ReportsEnded tb types room [] s given e (Ok text)) (sym is) (λ vs p. ap Ok (lines vs p ∙ sym (append-nil (printed_lines tb types vs))))
 
 pub or_memory : (P : Result (List ℕ) Failure → Type 0) (failure : Failure) → P (Err failure) → OrNoMemory P (Err failure)
 or_memory P F.NoMemory h = tt

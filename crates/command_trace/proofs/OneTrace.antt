@@ -97,10 +97,10 @@ module _ (c : PlainCode) (n : ℕ) (input : List ℕ) (room : Room) (sound : IsS
   same_trace t u e d =
       let first = same_first in
       let steps = same_steps in
-      let told = same_events c r.run.before r.run.waits q.run.before q.run.waits r.run.kinds q.run.kinds (results c n) [] r.run.steps (begun r.run.first room.calls) sound literals
+      let reported = same_events c r.run.before r.run.waits q.run.before q.run.waits r.run.kinds q.run.kinds (results c n) [] r.run.steps (begun r.run.first room.calls) sound literals
       (begun_good c (results c n) [] r.run.first room.calls (start_alive c r.run.before r.run.waits n [] r.run.first starts)) in
       let all : events r.run.before (run_code c) r.run.steps (begun r.run.first room.calls) ≡ events q.run.before (run_code c) q.run.steps (begun q.run.first room.calls) =
-      told ∙ (λ i. events q.run.before (run_code c) (steps i) (begun (first i) room.calls)) in
+      reported ∙ (λ i. events q.run.before (run_code c) (steps i) (begun (first i) room.calls)) in
       e ∙ ((λ i. record { cells = loaded_from 0 (first i).store.cells; events = all i; steps = steps i }) ∙ sym d)
 
 pub one_trace : (c : PlainCode) (n : ℕ) (input : List ℕ) (room : Room) (t u : Trace) → IsSound c → HasLiterals c → IsSoundTable c.types → IsRunTrace c n input room t → IsRunTrace c n input room u → t ≡ u

@@ -3,20 +3,20 @@ use Rattle.std.proofs.Common.{◌≡◌, ◌∙◌, inl, inr, ℕ, zero, suc, �
 use Rattle.std.specs.Prelude.{codes}
 use Rattle.std.proofs.lemmas.List.{length-map}
 use Rattle.fip_language.specs.Store.{Cell}
-use Rattle.fip_machine.specs.cell_store.Told.{Told, Overwritten, Released}
+use Rattle.fip_machine.specs.cell_store.Reported.{Reported, Overwritten, Released}
 use Rattle.cell_trace.specs.declared.trace.LoadedCell.{LoadedCell}
 use Rattle.cell_trace.specs.declared.trace.Event.{Event as a_event}
 use Rattle.cell_trace.specs.declared.trace.Event.TheVariants as E
 use Rattle.cell_trace.specs.declared.trace.Trace.{Trace as Memory}
 use Rattle.cell_trace.specs.Traced as K
-use Rattle.cell_trace.specs.Traced.{Standing, Noted, standing_from, cells_bytes, told_bytes, events_bytes, file_bytes, Tells, IsTooLong}
+use Rattle.cell_trace.specs.Traced.{Standing, Noted, standing_from, cells_bytes, reported_bytes, events_bytes, file_bytes, Reports, IsTooLong}
 use Rattle.trace_files.specs.machine_semantics.Cells.{Change, Write, Release}
 use Rattle.trace_files.specs.machine_semantics.Codes.{PlainCode}
 use Rattle.trace_files.specs.machine_semantics.Runs.{begun}
 use Rattle.trace_files.specs.machine_semantics.States.{State}
 use Rattle.trace_files.specs.machine_semantics.Steps.{Kinds}
 use Rattle.trace_files.specs.machine_semantics.Traces.{Event, events}
-use Rattle.fip_machine.specs.machine_cells.Telling.{as_told}
+use Rattle.fip_machine.specs.machine_cells.Telling.{as_reported}
 use Rattle.fip_machine.specs.Traces.{noted, notes}
 use Rattle.trace_files.specs.run_loading.Replaying.{loaded_from, trace_of}
 use Rattle.trace_files.specs.run_loading.TraceText.{Loaded, big_endian, words_text, cells_text, change_text, events_text, trace_text}
@@ -28,12 +28,12 @@ use Rattle.command_trace.specs.TraceAnswer.{IsLong}
 abbrev as_loaded : Standing → Loaded
 as_loaded c = record { place = c.place; tag = c.cell.tag; fields = c.cell.fields }
 
-abbrev as_change : Told → Change
+abbrev as_change : Reported → Change
 as_change (Overwritten place tag fields) = Write place tag fields
 as_change (Released place) = Release place
 
 abbrev as_event : Noted → Event
-as_event e = record { step = e.step; change = as_change e.told }
+as_event e = record { step = e.step; change = as_change e.reported }
 
 cells_loaded : (cs : List LoadedCell) → map plain_cell cs ≡ map as_loaded (map K.plain_cell cs)
 cells_loaded [] = refl
@@ -52,7 +52,7 @@ standing_loaded p [] = refl
 standing_loaded p (None ∷ os) = standing_loaded (suc p) os
 standing_loaded p (Some c ∷ os) = ap (λ ds. record { place = p; tag = c.tag; fields = c.fields } ∷ ds) (standing_loaded (suc p) os)
 
-back : (c : Change) → as_change (as_told c) ≡ c
+back : (c : Change) → as_change (as_reported c) ≡ c
 back (Write place tag fields) = refl
 back (Release place) = refl
 
@@ -60,7 +60,7 @@ noted_back : (es : List Event) → map as_event (map noted es) ≡ es
 noted_back [] = refl
 noted_back (e ∷ es) = λ i. record { step = e.step; change = back e.change i } ∷ noted_back es i
 
-pub trace_is : (kinds : Kinds) (code : PlainCode) (s : State) (calls steps limit : ℕ) (t : Memory) → Tells (standing_from 0 s.store.cells) (notes kinds code s calls steps) steps limit t → plain_trace t ≡ trace_of kinds code s calls steps
+pub trace_is : (kinds : Kinds) (code : PlainCode) (s : State) (calls steps limit : ℕ) (t : Memory) → Reports (standing_from 0 s.store.cells) (notes kinds code s calls steps) steps limit t → plain_trace t ≡ trace_of kinds code s calls steps
 trace_is kinds code s calls steps limit t h =
     let cells : map plain_cell t.cells.items ≡ loaded_from 0 s.store.cells = cells_loaded t.cells.items ∙ ap (map as_loaded) h.cells_are ∙ standing_loaded 0 s.store.cells in
     let evs : map plain_event t.events.items ≡ events kinds code steps (begun s calls) = events_kept t.events.items ∙ ap (map as_event) h.events_are ∙ noted_back (events kinds code steps (begun s calls)) in
@@ -97,7 +97,7 @@ cells_long p (Some c ∷ os) =
     let m = cells_long (suc p) os in
     omega (arith, a, b, d, e, f, g, h, k, m)
 
-change_long : (c : Change) → length (change_text c) + 8 ≡ told_bytes (as_told c)
+change_long : (c : Change) → length (change_text c) + 8 ≡ reported_bytes (as_reported c)
 change_long (Write place tag fields) =
     let p = big_endian 4 place in
     let t = big_endian 4 tag in
@@ -145,7 +145,7 @@ is_long kinds code s calls steps (inl h) = let l = file_long kinds code s calls 
 is_long kinds code s calls steps (inr (inl h)) = let l = length-map (events kinds code steps (begun s calls)) noted in inr (inl (omega (arith, h, l)))
 is_long kinds code s calls steps (inr (inr h)) = inr (inr h)
 
-pub not_long : (kinds : Kinds) (code : PlainCode) (s : State) (calls steps : ℕ) (t : Memory) → Tells (standing_from 0 s.store.cells) (notes kinds code s calls steps) steps 16777216 t → IsLong (trace_of kinds code s calls steps) → ⊥
+pub not_long : (kinds : Kinds) (code : PlainCode) (s : State) (calls steps : ℕ) (t : Memory) → Reports (standing_from 0 s.store.cells) (notes kinds code s calls steps) steps 16777216 t → IsLong (trace_of kinds code s calls steps) → ⊥
 not_long kinds code s calls steps t h (inl more) = let l = file_long kinds code s calls steps in let k = h.short in omega (arith, more, l, k)
 not_long kinds code s calls steps t h (inr (inl more)) = let l = length-map (events kinds code steps (begun s calls)) noted in let k = h.few in omega (arith, more, l, k)
 not_long kinds code s calls steps t h (inr (inr more)) = let k = h.counted in omega (arith, more, k)

@@ -1,7 +1,7 @@
 -- What `replay` comes to on the bytes of a file: the lines of the cells of its trace, as they are after so many steps;
 -- or the offset with which it is no trace's.
 --
--- On no bytes it is told as a bad trace at 0, on 16,777,217 bytes as one at 16777216.
+-- On no bytes it is reported as a bad trace at 0, on 16,777,217 bytes as one at 16777216.
 use Rattle.std.specs.Prelude.{◌≡◌, ℕ, List}
 use Rattle.command_outcome.specs.declared.failure.Failure.{Failure}
 use Rattle.command_outcome.specs.declared.failure.Failure.TheVariants as F

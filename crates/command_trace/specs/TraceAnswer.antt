@@ -3,10 +3,10 @@
 -- It ends as `exec` without the gauge does: with the lines of the values that the source means, or with what keeps it
 -- from them. With values it stores the file of a trace: that of the run of a code of the source on the input, from the
 -- state in which its values are loaded, which gives words. Where the file of just this trace would have more than
--- 16,777,216 bytes, or there are more events or steps than it can tell, E75 is told instead, and nothing is stored. A
--- store that is too small is told before.
+-- 16,777,216 bytes, or there are more events or steps than it can tell, E75 is reported instead, and nothing is stored. A
+-- store that is too small is reported before.
 --
--- The trace of `rev` on Cons(1, Nil) and Nil tells the one cell, the step in which it gets Cons(1, Nil) once more, and
+-- The trace of `rev` on Cons(1, Nil) and Nil reports the one cell, the step in which it gets Cons(1, Nil) once more, and
 -- the seven steps of the run; and the line `Cons(1, Nil)` is printed.
 use Rattle.std.specs.Prelude.{◌≡◌, ◌⊎◌, ◌<◌, ◌≤◌, ◌^◌, ℕ, false, List, length, Option, Some, None, Result, Ok, Err}
 use Rattle.fip_language.specs.declared.limits.TheConstants.{MOST_FILE_BYTES}
@@ -41,7 +41,7 @@ pub record IsTraceOf (source name input : List ℕ) (room : Room) (t : Trace) : 
 abbrev pub IsLong : Trace → Type 0
 IsLong t = (MOST_FILE_BYTES < length (trace_text t)) ⊎ ((4294967295 < length t.events) ⊎ (2 ^ 64 ≤ t.steps))
 
--- the file that is stored, and the text that is printed behind it
+-- the file that is stored, and the text that is printed after it
 pub record Kept : Type 0 where
   pub file : List ℕ
   pub text : List ℕ
@@ -55,7 +55,7 @@ pub data Traces (source name input : List ℕ) (room : Room) : Result Kept Failu
   TooLong : (t : Trace) → IsTraceOf source name input room t → IsLong t →
       Traces source name input room (Err (F.Refused (bare E75)))
 
--- What just this code's run comes to: the file is that of its trace, which isn't too long, or E75 is told of a trace that
+-- What just this code's run comes to: the file is that of its trace, which isn't too long, or E75 is reported of a trace that
 -- is.
 abbrev pub TracesRun : PlainCode → ℕ → List ℕ → Room → Result Compiled Failure → Type 0
 TracesRun c n input room (Ok kept) =
@@ -68,7 +68,7 @@ abbrev pub code_of : Option Left → Option Checked → Option Checked
 code_of None made = made
 code_of (Some l) made = Some l.verified
 
--- This is said of a result, whatever memory its bytes lie in; or memory is wanting.
+-- This is said of a result, whatever memory its bytes lie in; or memory runs out.
 abbrev pub KeptOrNoMemory : (Result Kept Failure → Type 0) → Result Compiled Failure → Type 0
 KeptOrNoMemory Is (Ok c) = Is (Ok (record { file = c.file.items; text = c.text.items }))
 KeptOrNoMemory Is (Err F.NoMemory) = Unit {0}

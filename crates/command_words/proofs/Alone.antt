@@ -1,4 +1,4 @@
--- What asks for something behind a command's name is of that command.
+-- What asks for something after a command's name is of that command.
 use Rattle.std.proofs.Common.{arith, ◌≡◌, ℕ, List, ap, codes, slice_index}
 use Rattle.clap.specs.Words.{Text, Row}
 use Rattle.command_words.specs.Words.{Room, Command, Check, Compile, Verify, Upgrade, Exec, Run, Eval, Trace, Session, Tasks, Derive, Audit, Replay, Library, Gen, IsAsked, AsksToEvaluate, AsksToTrace, AsksToTalk, AsksForTasks, AsksToReplay, AsksToGenerate}

@@ -32,7 +32,7 @@ pair_of : (o : Option (Text × List Row)) (name : Text) (rows : List Row) → So
 pair_of None name rows h k = absurd (none-some name (sym h))
 pair_of (Some p) name rows h k = ap Some (sym (ap₂ (λ (n : Text) (r : List Row). (n, r)) (same_Some name p.0 h) (same_Some rows p.1 k)))
 
--- words that were taken ask for what stands behind the name
+-- words that were taken ask for what stands after the name
 pub understood : (a : App) (words : List Text) (c : Command) (o : Option (Text × List Row)) (name : Text) (rows : List Row) → a ≡ command_app → fault_of a words ≡ [] → o ≡ subcommand_of a words → Some name ≡ option_map (λ p. p.0) o → Some rows ≡ option_map (λ p. p.1) o → IsAsked rows name c → IsCommand words c
 understood a words c o name rows is none entered named given asked = record {
   accepted = subst (λ a. fault_of a words ≡ []) is none;
@@ -41,7 +41,7 @@ understood a words c o name rows is none entered named given asked = record {
   asks = asked.asks;
 }
 
--- words that were taken ask for nothing where nothing stands behind the name
+-- words that were taken ask for nothing where nothing stands after the name
 pub nothing_asked : (a : App) (words : List Text) (o : Option (Text × List Row)) (name : Text) (rows : List Row) → a ≡ command_app → o ≡ subcommand_of a words → Some name ≡ option_map (λ p. p.0) o → Some rows ≡ option_map (λ p. p.1) o → ((c : Command) → IsAsked rows name c → ⊥) → (c : Command) → IsCommand words c → ⊥
 nothing_asked a words o name rows is entered named given never c h =
     let pair : Some (name, rows) ≡ Some (command_name c, h.rows) = sym (pair_of o name rows named given) ∙ (subst (λ a. o ≡ subcommand_of a words) is entered ∙ h.command) in

@@ -286,7 +286,7 @@ pub record AsksToGenerate (rows : List Row) (s n : ℕ) : Type 0 where
   pub seed : IsNumberIn (codes "SEED") 0 most_seed rows s
   pub count : IsNumberIn (codes "COUNT") 1 most_count rows n
 
--- What stands behind a command's name asks for this.
+-- What stands after a command's name asks for this.
 abbrev pub AsksFor : List Row → Command → Type 0
 AsksFor rows (Check file) = IsWord (codes "FILE") rows file
 AsksFor rows (Compile file out) = AreWords (codes "FILE") (codes "OUT") rows file out
@@ -304,7 +304,7 @@ AsksFor rows (Replay trace step) = AsksToReplay rows trace step
 AsksFor rows (Library name) = AsksForText rows name
 AsksFor rows (Gen seed count) = AsksToGenerate rows seed count
 
--- What stands behind this name asks for this, whose name it is.
+-- What stands after this name asks for this, whose name it is.
 pub record IsAsked (rows : List Row) (name : Text) (c : Command) : Type 0 where
   pub named : name ≡ command_name c
   pub asks : AsksFor rows c

@@ -168,7 +168,7 @@ fn room_in(matches: &ArgMatches<'_>) -> Option<Room>
     })
 }
 
-// What stands behind `exec` or `run`.
+// What stands after `exec` or `run`.
 fn run_request<'a>(matches: &ArgMatches<'a>) -> Option<RunRequest<'a>>
     ensures some { IfSome result (λ r. AsksToRun (rows_of (found_of matches.now)) (request_of r)) }
     ensures none { IsNone result → (r : W.Request) → AsksToRun (rows_of (found_of matches.now)) r → ⊥ }
@@ -185,7 +185,7 @@ fn run_request<'a>(matches: &ArgMatches<'a>) -> Option<RunRequest<'a>>
     })
 }
 
-// What stands behind `check`.
+// What stands after `check`.
 fn check<'a>(matches: &ArgMatches<'a>) -> Option<Command<'a>>
     ensures some { IfSome result (λ c. IsAsked (rows_of (found_of matches.now)) (codes "check") (command_of c)) }
     ensures none { IsNone result → (c : W.Command) → IsAsked (rows_of (found_of matches.now)) (codes "check") c → ⊥ }
@@ -194,7 +194,7 @@ fn check<'a>(matches: &ArgMatches<'a>) -> Option<Command<'a>>
     Some(Command::Check { file })
 }
 
-// What stands behind `compile`.
+// What stands after `compile`.
 fn compile<'a>(matches: &ArgMatches<'a>) -> Option<Command<'a>>
     ensures some { IfSome result (λ c. IsAsked (rows_of (found_of matches.now)) (codes "compile") (command_of c)) }
     ensures none { IsNone result → (c : W.Command) → IsAsked (rows_of (found_of matches.now)) (codes "compile") c → ⊥ }
@@ -204,7 +204,7 @@ fn compile<'a>(matches: &ArgMatches<'a>) -> Option<Command<'a>>
     Some(Command::Compile { file, out })
 }
 
-// What stands behind `verify`.
+// What stands after `verify`.
 fn verify<'a>(matches: &ArgMatches<'a>) -> Option<Command<'a>>
     ensures some { IfSome result (λ c. IsAsked (rows_of (found_of matches.now)) (codes "verify") (command_of c)) }
     ensures none { IsNone result → (c : W.Command) → IsAsked (rows_of (found_of matches.now)) (codes "verify") c → ⊥ }
@@ -213,7 +213,7 @@ fn verify<'a>(matches: &ArgMatches<'a>) -> Option<Command<'a>>
     Some(Command::Verify { file })
 }
 
-// What stands behind `upgrade`.
+// What stands after `upgrade`.
 fn upgrade<'a>(matches: &ArgMatches<'a>) -> Option<Command<'a>>
     ensures some { IfSome result (λ c. IsAsked (rows_of (found_of matches.now)) (codes "upgrade") (command_of c)) }
     ensures none { IsNone result → (c : W.Command) → IsAsked (rows_of (found_of matches.now)) (codes "upgrade") c → ⊥ }
@@ -223,7 +223,7 @@ fn upgrade<'a>(matches: &ArgMatches<'a>) -> Option<Command<'a>>
     Some(Command::Upgrade { file, out })
 }
 
-// What stands behind `exec`.
+// What stands after `exec`.
 fn exec<'a>(matches: &ArgMatches<'a>) -> Option<Command<'a>>
     ensures some { IfSome result (λ c. IsAsked (rows_of (found_of matches.now)) (codes "exec") (command_of c)) }
     ensures none { IsNone result → (c : W.Command) → IsAsked (rows_of (found_of matches.now)) (codes "exec") c → ⊥ }
@@ -232,7 +232,7 @@ fn exec<'a>(matches: &ArgMatches<'a>) -> Option<Command<'a>>
     Some(Command::Exec { request })
 }
 
-// What stands behind `run`.
+// What stands after `run`.
 fn run<'a>(matches: &ArgMatches<'a>) -> Option<Command<'a>>
     ensures some { IfSome result (λ c. IsAsked (rows_of (found_of matches.now)) (codes "run") (command_of c)) }
     ensures none { IsNone result → (c : W.Command) → IsAsked (rows_of (found_of matches.now)) (codes "run") c → ⊥ }
@@ -241,7 +241,7 @@ fn run<'a>(matches: &ArgMatches<'a>) -> Option<Command<'a>>
     Some(Command::Run { request })
 }
 
-// What stands behind `eval`.
+// What stands after `eval`.
 fn eval<'a>(matches: &ArgMatches<'a>) -> Option<Command<'a>>
     ensures some { IfSome result (λ c. IsAsked (rows_of (found_of matches.now)) (codes "eval") (command_of c)) }
     ensures none { IsNone result → (c : W.Command) → IsAsked (rows_of (found_of matches.now)) (codes "eval") c → ⊥ }
@@ -258,7 +258,7 @@ fn eval<'a>(matches: &ArgMatches<'a>) -> Option<Command<'a>>
     })
 }
 
-// What stands behind `trace`.
+// What stands after `trace`.
 fn trace<'a>(matches: &ArgMatches<'a>) -> Option<Command<'a>>
     ensures some { IfSome result (λ c. IsAsked (rows_of (found_of matches.now)) (codes "trace") (command_of c)) }
     ensures none { IsNone result → (c : W.Command) → IsAsked (rows_of (found_of matches.now)) (codes "trace") c → ⊥ }
@@ -275,7 +275,7 @@ fn trace<'a>(matches: &ArgMatches<'a>) -> Option<Command<'a>>
     })
 }
 
-// What stands behind `session`.
+// What stands after `session`.
 fn session<'a>(matches: &ArgMatches<'a>) -> Option<Command<'a>>
     ensures some { IfSome result (λ c. IsAsked (rows_of (found_of matches.now)) (codes "session") (command_of c)) }
     ensures none { IsNone result → (c : W.Command) → IsAsked (rows_of (found_of matches.now)) (codes "session") c → ⊥ }
@@ -285,7 +285,7 @@ fn session<'a>(matches: &ArgMatches<'a>) -> Option<Command<'a>>
     Some(Command::Session { file, room })
 }
 
-// What stands behind `tasks`.
+// What stands after `tasks`.
 fn tasks<'a>(matches: &ArgMatches<'a>) -> Option<Command<'a>>
     ensures some { IfSome result (λ c. IsAsked (rows_of (found_of matches.now)) (codes "tasks") (command_of c)) }
     ensures none { IsNone result → (c : W.Command) → IsAsked (rows_of (found_of matches.now)) (codes "tasks") c → ⊥ }
@@ -302,7 +302,7 @@ fn tasks<'a>(matches: &ArgMatches<'a>) -> Option<Command<'a>>
     })
 }
 
-// What stands behind `derive`.
+// What stands after `derive`.
 fn derive<'a>(matches: &ArgMatches<'a>) -> Option<Command<'a>>
     ensures some { IfSome result (λ c. IsAsked (rows_of (found_of matches.now)) (codes "derive") (command_of c)) }
     ensures none { IsNone result → (c : W.Command) → IsAsked (rows_of (found_of matches.now)) (codes "derive") c → ⊥ }
@@ -312,7 +312,7 @@ fn derive<'a>(matches: &ArgMatches<'a>) -> Option<Command<'a>>
     Some(Command::Derive { file, out })
 }
 
-// What stands behind `audit`.
+// What stands after `audit`.
 fn audit<'a>(matches: &ArgMatches<'a>) -> Option<Command<'a>>
     ensures some { IfSome result (λ c. IsAsked (rows_of (found_of matches.now)) (codes "audit") (command_of c)) }
     ensures none { IsNone result → (c : W.Command) → IsAsked (rows_of (found_of matches.now)) (codes "audit") c → ⊥ }
@@ -322,7 +322,7 @@ fn audit<'a>(matches: &ArgMatches<'a>) -> Option<Command<'a>>
     Some(Command::Audit { file, proof })
 }
 
-// What stands behind `replay`.
+// What stands after `replay`.
 fn replay<'a>(matches: &ArgMatches<'a>) -> Option<Command<'a>>
     ensures some { IfSome result (λ c. IsAsked (rows_of (found_of matches.now)) (codes "replay") (command_of c)) }
     ensures none { IsNone result → (c : W.Command) → IsAsked (rows_of (found_of matches.now)) (codes "replay") c → ⊥ }
@@ -339,7 +339,7 @@ fn is_text_name(name: &str) -> bool
     name == "list" || name == "tree" || name == "rbtree" || name == "finger"
 }
 
-// What stands behind `library`.
+// What stands after `library`.
 fn library<'a>(matches: &ArgMatches<'a>) -> Option<Command<'a>>
     ensures some { IfSome result (λ c. IsAsked (rows_of (found_of matches.now)) (codes "library") (command_of c)) }
     ensures none { IsNone result → (c : W.Command) → IsAsked (rows_of (found_of matches.now)) (codes "library") c → ⊥ }
@@ -352,7 +352,7 @@ fn library<'a>(matches: &ArgMatches<'a>) -> Option<Command<'a>>
     }
 }
 
-// What stands behind `gen`.
+// What stands after `gen`.
 fn generate<'a>(matches: &ArgMatches<'a>) -> Option<Command<'a>>
     ensures some { IfSome result (λ c. IsAsked (rows_of (found_of matches.now)) (codes "gen") (command_of c)) }
     ensures none { IsNone result → (c : W.Command) → IsAsked (rows_of (found_of matches.now)) (codes "gen") c → ⊥ }
@@ -362,7 +362,7 @@ fn generate<'a>(matches: &ArgMatches<'a>) -> Option<Command<'a>>
     Some(Command::Gen { seed, count })
 }
 
-// What stands behind the name of a command; none where no command has the name, or it asks for something else.
+// What stands after the name of a command; none where no command has the name, or it asks for something else.
 fn asked<'a>(name: &str, matches: &ArgMatches<'a>) -> Option<Command<'a>>
     ensures some { IfSome result (λ c. IsAsked (rows_of (found_of matches.now)) name.now (command_of c)) }
     ensures none { IsNone result → (c : W.Command) → IsAsked (rows_of (found_of matches.now)) name.now c → ⊥ }

@@ -146,7 +146,7 @@ pub file_short : (source file : List ℕ) (code : PlainCode) (p : Program) → I
 file_short source file code p h spelt accepted =
     subst (λ (q : Program). length file ≤ most_bytes q) (accepted_once source h.program p h.accepted accepted) (sized_short h.program file code (sized source code h) spelt)
 
--- E61 is told of large sources alone
+-- E61 is reported of large sources alone
 pub uncompiled_large : (source : List ℕ) (p : Program) → IsUncompiled source → IsAccepted source p → MOST_FILE_BYTES < most_bytes p
 uncompiled_large source p h accepted =
     let few = file_short source h.2 h.0 p h.1 h.3 accepted in

@@ -1,4 +1,4 @@
--- A run of a code of a source is told as `exec` tells it.
+-- A run of a code of a source is reported as `exec` reports it.
 -- Idea: a run comes to one end, and that of the code's function of a root's name is what the source means by this; what
 -- is seen of its states is measured by the evaluation. So the run of a file's code is one of those of which `exec`
 -- speaks, and `exec` comes to one thing.
@@ -43,8 +43,8 @@ use Rattle.command_run.proofs.machine_correctness.Flat.{runs_flat}
 use Rattle.command_run.proofs.machine_correctness.Made.{IsMadeOf}
 use Rattle.command_run.proofs.machine_correctness.Peaks.{made_measured}
 use Rattle.command_run.specs.CodeRun as D
-use Rattle.command_run.specs.CodeRun.{RunsCode, TellsCode, all_seen, words_for}
-use Rattle.command_run.specs.ExecAnswer.{TellsRun, Coded, IsBoundOf, RunsInPlace, RunsOn, Execs, Misspelt, Small, Ran, answer_of, frames_for, words_of}
+use Rattle.command_run.specs.CodeRun.{RunsCode, ReportsCode, all_seen, words_for}
+use Rattle.command_run.specs.ExecAnswer.{ReportsRun, Coded, IsBoundOf, RunsInPlace, RunsOn, Execs, Misspelt, Small, Ran, answer_of, frames_for, words_of}
 use Rattle.command_run.specs.GaugeText.{gauge_by_states, if_asked}
 use Rattle.command_run.proofs.CodeOnce.{long, results_once}
 use Rattle.command_run.proofs.Entry.{root_at}
@@ -65,32 +65,32 @@ end_is tb types end other l m left k steps j a is h =
     (subst (λ (u : State). IsSameEnd tb types u k end a) lasts
     (subst (λ n. IsSameEnd tb types l n end a) lefts h))
 
--- what the code's run is told as is what the meaning is told as
-told_as : (tb : Table) (types : List ℕ) (calls frames : ℕ) (behind : List ℕ) (l : State) (left : ℕ) (end : End) (a : Answer) (e : Result (List ℕ) Failure) → IsSameEnd tb types l left end a → TellsCode tb types calls frames behind l end e → TellsRun tb types calls frames (λ _. behind) a e
-told_as tb types calls frames behind l left (C.Value ws) (Gives vs k) e same told =
-    let one : told.0 ≡ vs = results_once tb l.store types ws told.0 vs told.1 same.0 in
-    told.2 ∙ ap (λ us. Ok (printed_lines tb types us ++ behind)) one
-told_as tb types calls frames behind l left (C.Value ws) (Trap kind line col) e same told = absurd same
-told_as tb types calls frames behind l left (C.Value ws) Out e same told = absurd same
-told_as tb types calls frames behind l left (C.Value ws) Deep e same told = absurd same
-told_as tb types calls frames behind l left (C.Value ws) Stuck e same told = absurd same
-told_as tb types calls frames behind l left (C.Trap kind line col) (Gives vs k) e same told = absurd same
-told_as tb types calls frames behind l left (C.Trap kind line col) (Trap other row at) e same told =
-    told ∙ (λ i. Err (F.Trap (same.0 i) (same.1 i) (same.2 i)))
-told_as tb types calls frames behind l left (C.Trap kind line col) Out e same told = absurd same
-told_as tb types calls frames behind l left (C.Trap kind line col) Deep e same told = absurd same
-told_as tb types calls frames behind l left (C.Trap kind line col) Stuck e same told = absurd same
-told_as tb types calls frames behind l left C.Out (Gives vs k) e same told = absurd same
-told_as tb types calls frames behind l left C.Out (Trap kind line col) e same told = absurd same
-told_as tb types calls frames behind l left C.Out Out e same told = told
-told_as tb types calls frames behind l left C.Out Deep e same told = absurd same
-told_as tb types calls frames behind l left C.Out Stuck e same told = absurd same
-told_as tb types calls frames behind l left C.Deep (Gives vs k) e same told = absurd same
-told_as tb types calls frames behind l left C.Deep (Trap kind line col) e same told = absurd same
-told_as tb types calls frames behind l left C.Deep Out e same told = absurd same
-told_as tb types calls frames behind l left C.Deep Deep e same told = told
-told_as tb types calls frames behind l left C.Deep Stuck e same told = absurd same
-told_as tb types calls frames behind l left C.Unsound a e same told = absurd told
+-- what the code's run is reported as is what the meaning is reported as
+reported_as : (tb : Table) (types : List ℕ) (calls frames : ℕ) (following : List ℕ) (l : State) (left : ℕ) (end : End) (a : Answer) (e : Result (List ℕ) Failure) → IsSameEnd tb types l left end a → ReportsCode tb types calls frames following l end e → ReportsRun tb types calls frames (λ _. following) a e
+reported_as tb types calls frames following l left (C.Value ws) (Gives vs k) e same reported =
+    let one : reported.0 ≡ vs = results_once tb l.store types ws reported.0 vs reported.1 same.0 in
+    reported.2 ∙ ap (λ us. Ok (printed_lines tb types us ++ following)) one
+reported_as tb types calls frames following l left (C.Value ws) (Trap kind line col) e same reported = absurd same
+reported_as tb types calls frames following l left (C.Value ws) Out e same reported = absurd same
+reported_as tb types calls frames following l left (C.Value ws) Deep e same reported = absurd same
+reported_as tb types calls frames following l left (C.Value ws) Stuck e same reported = absurd same
+reported_as tb types calls frames following l left (C.Trap kind line col) (Gives vs k) e same reported = absurd same
+reported_as tb types calls frames following l left (C.Trap kind line col) (Trap other row at) e same reported =
+    reported ∙ (λ i. Err (F.Trap (same.0 i) (same.1 i) (same.2 i)))
+reported_as tb types calls frames following l left (C.Trap kind line col) Out e same reported = absurd same
+reported_as tb types calls frames following l left (C.Trap kind line col) Deep e same reported = absurd same
+reported_as tb types calls frames following l left (C.Trap kind line col) Stuck e same reported = absurd same
+reported_as tb types calls frames following l left C.Out (Gives vs k) e same reported = absurd same
+reported_as tb types calls frames following l left C.Out (Trap kind line col) e same reported = absurd same
+reported_as tb types calls frames following l left C.Out Out e same reported = reported
+reported_as tb types calls frames following l left C.Out Deep e same reported = absurd same
+reported_as tb types calls frames following l left C.Out Stuck e same reported = absurd same
+reported_as tb types calls frames following l left C.Deep (Gives vs k) e same reported = absurd same
+reported_as tb types calls frames following l left C.Deep (Trap kind line col) e same reported = absurd same
+reported_as tb types calls frames following l left C.Deep Out e same reported = absurd same
+reported_as tb types calls frames following l left C.Deep Deep e same reported = reported
+reported_as tb types calls frames following l left C.Deep Stuck e same reported = absurd same
+reported_as tb types calls frames following l left C.Unsound a e same reported = absurd reported
 
 -- ---- in place
 
@@ -151,12 +151,12 @@ module _ (source name : List ℕ) (entry : Entry source name) (k : Coded source 
         subst (λ ts. IsSameEnd (k.code).types ts r.last r.left r.end meant.answer) (ap results_of k.there)
         (end_is (k.code).types (results c k.number) m.end r.end m.last r.last m.left r.left m.steps r.steps meant.answer once m.same)
 
-    told_is : (behind : List ℕ) (e : Result (List ℕ) Failure) → TellsCode (k.code).types (k.function).results room.calls (frames_for k room) behind r.last r.end e → TellsRun entry.program.types (entry.root).results room.calls (frames_for k room) (λ _. behind) (answer_of entry vs room.calls (frames_for k room)) e
-    told_is behind e told =
-        subst (λ (y : M.Run). TellsRun entry.program.types (entry.root).results room.calls (frames_for k room) (λ _. behind) y.answer e) meant_is
-        (subst (λ ts. TellsRun entry.program.types ts room.calls (frames_for k room) (λ _. behind) meant.answer e) header.results
-        (subst (λ tb. TellsRun tb (k.function).results room.calls (frames_for k room) (λ _. behind) meant.answer e) types_same
-        (told_as (k.code).types (k.function).results room.calls (frames_for k room) behind r.last r.left r.end meant.answer e same_end told)))
+    reported_is : (following : List ℕ) (e : Result (List ℕ) Failure) → ReportsCode (k.code).types (k.function).results room.calls (frames_for k room) following r.last r.end e → ReportsRun entry.program.types (entry.root).results room.calls (frames_for k room) (λ _. following) (answer_of entry vs room.calls (frames_for k room)) e
+    reported_is following e reported =
+        subst (λ (y : M.Run). ReportsRun entry.program.types (entry.root).results room.calls (frames_for k room) (λ _. following) y.answer e) meant_is
+        (subst (λ ts. ReportsRun entry.program.types ts room.calls (frames_for k room) (λ _. following) meant.answer e) header.results
+        (subst (λ tb. ReportsRun tb (k.function).results room.calls (frames_for k room) (λ _. following) meant.answer e) types_same
+        (reported_as (k.code).types (k.function).results room.calls (frames_for k room) following r.last r.left r.end meant.answer e same_end reported)))
 
     measured_is : (us : Values) (left : ℕ) → answer_of entry vs room.calls (frames_for k room) ≡ Gives us left → IsMeasured vs us (entry.root).params (entry.root).credits (meaning entry.core name NoClosed vs room.calls (frames_for k room)).peak (all_seen r)
     measured_is us left gives =
@@ -180,11 +180,11 @@ module _ (source name : List ℕ) (entry : Entry source name) (k : Coded source 
     never_deep_is e =
         subst (λ (y : M.Run). y.answer ≢ Deep) meant_is (deep_by k.held k.stack r.free (ap is_fip (header.kind ∙ e)))
 
-    pub runs_on : (gauge : Bool) (e : Result (List ℕ) Failure) → TellsCode (k.code).types (k.function).results room.calls (frames_for k room) (if_asked gauge (gauge_by_states (all_seen r) k.held)) r.last r.end e → RunsOn entry vs room gauge e
-    runs_on gauge e told = record {
+    pub runs_on : (gauge : Bool) (e : Result (List ℕ) Failure) → ReportsCode (k.code).types (k.function).results room.calls (frames_for k room) (if_asked gauge (gauge_by_states (all_seen r) k.held)) r.last r.end e → RunsOn entry vs room gauge e
+    runs_on gauge e reported = record {
       code = k;
       run = r;
-      told = told_is (if_asked gauge (gauge_by_states (all_seen r) k.held)) e told;
+      reported = reported_is (if_asked gauge (gauge_by_states (all_seen r) k.held)) e reported;
       measured = measured_is;
       bound = bound_is;
       in_place = in_place_is;
@@ -223,10 +223,10 @@ module _ (source file name input : List ℕ) (room : Room) (gauge : Bool) (h : I
       let words = words_same source name entry (coded x) vs in
       subst (λ n. Execs source name input room gauge (Err (F.TooSmall n room.words))) (sym words)
       (Small entry vs (spells_same source name entry (coded x) (λ tb ks. SpellsValues tb ks input vs) spelt) (omega (arith, less, words)))
-  executes e (D.Ran x vs r _ spelt fits told) =
+  executes e (D.Ran x vs r _ spelt fits reported) =
       let words = words_same source name entry (coded x) vs in
       Ran entry vs e (spells_same source name entry (coded x) (λ tb ks. SpellsValues tb ks input vs) spelt) (omega (arith, fits, words))
-      (runs_on source name entry (coded x) vs room r gauge e told)
+      (runs_on source name entry (coded x) vs room r gauge e reported)
 
 entry_in : (source name input : List ℕ) (room : Room) (gauge : Bool) (d : Result (List ℕ) Failure) → Execs source name input room gauge d → Entry source name
 entry_in source name input room gauge _ (Misspelt entry at place) = entry

@@ -1,4 +1,4 @@
--- The function of a code of a source that has the entry's name is that of the entry's root, and is headed as this tells;
+-- The function of a code of a source that has the entry's name is that of the entry's root, and is headed as this reports;
 -- and each root that isn't plain has one.
 use Rattle.std.proofs.Common.{◌≡◌, ◌∙◌, ◌<◌, ℕ, zero, suc, Bool, true, false, List, [], ◌∷◌, length, map, Option, Some, None, slice_get, option_map, if◌then◌else◌, inl, inr, refl, sym, ap, subst, arith}
 use Rattle.std.specs.Prelude.{bytes_eq}

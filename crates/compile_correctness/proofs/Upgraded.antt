@@ -29,7 +29,7 @@ module _ (bytes file name input : List ℕ) (room : Room) (gauge : Bool) (h : Is
   runs_again : (e : Result (List ℕ) Failure) → RunsCode bytes name input room gauge e → RunsCode file name input room gauge e
   runs_again _ (D.Misspelt x at place) = D.Misspelt (moved x) at place
   runs_again _ (D.Small x vs spelt less) = D.Small (moved x) vs spelt less
-  runs_again e (D.Ran x vs r _ spelt fits told) = D.Ran (moved x) vs r e spelt fits told
+  runs_again e (D.Ran x vs r _ spelt fits reported) = D.Ran (moved x) vs r e spelt fits reported
 
   has_again : HasFunction bytes name → HasFunction file name
   has_again (code, sound, one) = (code, upgraded_code bytes file code h sound, one)

@@ -1,4 +1,4 @@
-// A compiled file is run as its source is executed, and an upgraded one as the one before it. Laws; no code.
+// A compiled file is run as its source is executed, and an upgraded one as the one before it. Theorems; no code.
 #![tactic(auto)]
 
 pub mod theorems;

@@ -1,4 +1,4 @@
-// The laws on files that `compile` and `upgrade` store. Each is the contract of a function that does nothing.
+// The theorems on files that `compile` and `upgrade` store. Each is the contract of a function that does nothing.
 ghost use Rattle.std.specs.Prelude.{◌≡◌, ◌<◌, ◌≤◌, ℕ, List, Bool, Result, length};
 ghost use Rattle.command_words.specs.Words.{Room};
 ghost use Rattle.command_run.specs.session_semantics.command_outcome.declared.failure.Failure.{Failure};
@@ -20,16 +20,16 @@ ghost use Rattle.command_run.specs.source_report.Report.{IsAccepted};
 /// the same trap, or that calls or frames ran out. Whatever code was stored, and whatever code is executed. For who ships
 /// a code file in place of its source.
 pub fn a_compiled_file_runs_as_its_source()
-    ensures law { (source file name input : List ℕ) (room : Room) (gauge : Bool) (d e : Result (List ℕ) Failure) →
+    ensures theorem { (source file name input : List ℕ) (room : Room) (gauge : Bool) (d e : Result (List ℕ) Failure) →
         IsCompiledFile source file → Execs source name input room gauge d → RunsCode file name input room gauge e →
         d ≡ e }
 {}
 
 /// `run` on the file that `compile` stores of a source ends as `exec` on the source, with the same entry, input and
-/// options, also where there is no run: but that E70 is told in place of E71, since a plain function has no code. For who
+/// options, also where there is no run: but that E70 is reported in place of E71, since a plain function has no code. For who
 /// reads what both commands print.
 pub fn run_ends_as_exec()
-    ensures law { (source file name input : List ℕ) (room : Room) (gauge : Bool) (d e : Result (List ℕ) Failure) →
+    ensures theorem { (source file name input : List ℕ) (room : Room) (gauge : Bool) (d e : Result (List ℕ) Failure) →
         IsCompiledFile source file → ExecEnds source name input room gauge d →
         RunEnds file name input room gauge e → AreAlike name d e }
 {}
@@ -37,7 +37,7 @@ pub fn run_ends_as_exec()
 /// `run` on the file that `upgrade` stores ends as on the file that was upgraded, with the same entry, input and options.
 /// For who upgrades a file that is in use.
 pub fn an_upgraded_file_runs_as_before()
-    ensures law { (bytes file name input : List ℕ) (room : Room) (gauge : Bool) (d e : Result (List ℕ) Failure) →
+    ensures theorem { (bytes file name input : List ℕ) (room : Room) (gauge : Bool) (d e : Result (List ℕ) Failure) →
         IsUpgraded bytes file → RunEnds bytes name input room gauge d → RunEnds file name input room gauge e → d ≡ e }
     ensures ends { (bytes file name input : List ℕ) (room : Room) (gauge : Bool) (e : Result (List ℕ) Failure) →
         IsUpgraded bytes file → RunEnds bytes name input room gauge e → RunEnds file name input room gauge e }
@@ -46,13 +46,13 @@ pub fn an_upgraded_file_runs_as_before()
 /// The file of a code that is made of a source has no more bytes than the source's program allows, whatever of the code
 /// is never reached. For who keeps room for a file.
 pub fn a_code_is_no_longer_than_its_source_allows()
-    ensures law { (source file : List ℕ) (code : PlainCode) (p : Program) → IsCodeOfSource source code →
+    ensures theorem { (source file : List ℕ) (code : PlainCode) (p : Program) → IsCodeOfSource source code →
         CodeText file Second code → IsAccepted source p → length file ≤ most_bytes p }
 {}
 
 /// `compile` answers E61 of a source only where the source's program allows a file of more than 16,777,216 bytes. For who
 /// asks whether a source can be compiled.
 pub fn a_small_source_is_compiled()
-    ensures law { (source : List ℕ) (p : Program) → IsUncompiled source → IsAccepted source p →
+    ensures theorem { (source : List ℕ) (p : Program) → IsUncompiled source → IsAccepted source p →
         MOST_FILE_BYTES < most_bytes p }
 {}

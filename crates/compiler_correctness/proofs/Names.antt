@@ -37,18 +37,18 @@ module _ (n : ℕ) where
   abbrev Ok : List Token → Type 0
   Ok ts = AreProper n ts
 
-  behind : (t : Token) (ts : List Token) → Ok (t ∷ ts) → Ok ts
-  behind t ts h = record { names = h.names.1; few = (let k = h.few in omega (arith, k)) }
+  following : (t : Token) (ts : List Token) → Ok (t ∷ ts) → Ok ts
+  following t ts h = record { names = h.names.1; few = (let k = h.few in omega (arith, k)) }
 
   constructor_named : (ts : List Token) (c : DataConstructor) (rest : List Token) → DataConstructor' ts c rest → Ok ts → NamedConstructor n c × Ok rest
   constructor_named ts c rest h o =
       let k : Ok (token (Upper c.name) c.place ∷ h.0) = subst Ok h.1 o in
-      (k.names.0, field_types_past Ok behind h.0 c.fields rest h.2 (behind (token (Upper c.name) c.place) h.0 k))
+      (k.names.0, field_types_past Ok following h.0 c.fields rest h.2 (following (token (Upper c.name) c.place) h.0 k))
 
   further_named : (ts : List Token) (cs : List DataConstructor) (rest : List Token) → FurtherConstructors ts cs rest → Ok ts → Every (NamedConstructor n) cs × (length cs ≤ length ts)
   further_named ts [] rest h o = (tt, omega arith)
   further_named ts (c ∷ cs) rest h o =
-      let first = constructor_named h.0 c h.1 h.3 (past Ok behind S.Semicolon ts h.0 h.2 o) in
+      let first = constructor_named h.0 c h.1 h.3 (past Ok following S.Semicolon ts h.0 h.2 o) in
       let further = further_named h.1 cs rest h.4 first.1 in
       let few = further.1 in
       let one = shorter h.0 c h.1 h.3 in
@@ -66,12 +66,12 @@ module _ (n : ℕ) where
       ((first.0, further.0), omega (arith, few, one, all))
 
   declaration_named : (ts : List Token) (d : T.Declaration) (rest : List Token) → Declaration' ts d rest → Ok ts → NamedDeclaration n d
-  declaration_named ts (T.DataDeclaration d) rest h o = constructors_named h.3 d.constructors rest h.8 (constructors_on Ok behind ts d rest h o)
-  declaration_named ts (T.FunctionDeclaration f) rest h o = (let k = name_on Ok behind ts f rest h o in k.names.0)
+  declaration_named ts (T.DataDeclaration d) rest h o = constructors_named h.3 d.constructors rest h.8 (constructors_on Ok following ts d rest h o)
+  declaration_named ts (T.FunctionDeclaration f) rest h o = (let k = name_on Ok following ts f rest h o in k.names.0)
 
   program_named : (ts : List Token) (ds : List T.Declaration) → Spells ts ds → Ok ts → Every (NamedDeclaration n) ds
   program_named ts [] h o = tt
-  program_named ts (d ∷ ds) h o = (declaration_named ts d h.0 h.1 o, program_named h.0 ds h.2 (declaration_past Ok behind ts d h.0 h.1 o))
+  program_named ts (d ∷ ds) h o = (declaration_named ts d h.0 h.1 o, program_named h.0 ds h.2 (declaration_past Ok following ts d h.0 h.1 o))
 
   core_types : (ds : List T.Declaration) → Every (NamedDeclaration n) ds → Every (NamedData n) (core_form ds).types
   core_types [] h = tt

@@ -4,14 +4,14 @@ use Rattle.std.proofs.Common.{◌≡◌, ◌≤◌, ◌+◌, ℕ, suc, Bool, tru
 use Rattle.lowering_soundness.specs.fip_base.declared.plain.Param.{Param}
 use Rattle.lowering_soundness.specs.fip_trees.declared.program.Binder.{Binder}
 use Rattle.lowering_soundness.specs.fip_trees.Tree.{Expression, Give, Tuple, Operation, Call, Match, Nested, Block, Last, Let, Clauses, NoClauses, MoreClauses, Instance, Program}
-use Rattle.lowering_soundness.specs.fip_rules.Shapes.{Names, Bind, mark, behind, within, binders, takes, parameters, no_names, shape}
+use Rattle.lowering_soundness.specs.fip_rules.Shapes.{Names, Bind, mark, following, within, binders, takes, parameters, no_names, shape}
 use Rattle.lowering_soundness.specs.fip_rules.World.{World}
 use Rattle.lowering_soundness.specs.ownership_agreement.Bodies.{inside, past_clause}
 use Rattle.lowering_soundness.specs.derivation_check.Scopes as P
 use Rattle.lowering_soundness.specs.derivation_check.Scopes.{AreNumbered}
 use Rattle.lowering_soundness.specs.derivation_making.Numbered as N
 use Rattle.lowering_soundness.proofs.derivation_making.Linking.{next_inside}
-use Rattle.lowering_soundness.proofs.derivation_making.Reading.{next_behind, next_past}
+use Rattle.lowering_soundness.proofs.derivation_making.Reading.{next_after, next_past}
 use Rattle.lowering_soundness.specs.Placed.{InOrder, Numbered, NumberedBlock, NumberedClauses}
 use Rattle.lowering_soundness.specs.Functions.{IsNumbered}
 
@@ -45,8 +45,8 @@ module _ (p : Program) (w : World) (m : ℕ) where
     block_numbered : (n : Names) (c d : ℕ) (b : Block) → n.next ≡ c → N.NumberedBlock p c d b → c + P.within_block b ≤ m → NumberedBlock w m n b
     block_numbered n c d (Last e) same h few = expression_numbered n c d e same h few
     block_numbered n c d (Let bs e rest) same h few =
-        let after = behind n (shape w n e) in
-        let a : after.next ≡ c + P.within e = (let z = next_behind w n e in omega (arith, z, same)) in
+        let after = following n (shape w n e) in
+        let a : after.next ≡ c + P.within e = (let z = next_after w n e in omega (arith, z, same)) in
         let i : (inside w true after bs).next ≡ c + P.within e + length bs = (let z = next_inside w true after bs in omega (arith, z, a)) in (
           order_at after.next (c + P.within e) d bs a h.1,
           (omega (arith, a, few)),

@@ -1,4 +1,4 @@
--- What is so of the tokens of a program, and of all that stand behind some of them, is so behind each part of it. So the
+-- What is so of the tokens of a program, and of all that stand after some of them, is so after each part of it. So the
 -- names of functions and constructors are tokens of the source, and a data type has no more constructors than tokens.
 use Rattle.std.proofs.Common.{◌≡◌, inl, inr, ℕ, suc, Bool, true, false, List, [], ◌∷◌, Option, Some, None, ℤ, refl, subst}
 use Rattle.lowering_soundness.specs.fip_language.declared.Place.{Place}
@@ -14,9 +14,9 @@ use Rattle.source_safety.specs.fip_grammar.declared.Sign.TheVariants as S
 use Rattle.source_safety.specs.fip_grammar.Token.{Word, Lower, Upper, Number, Operate, Mark, Token, token}
 use Rattle.source_safety.specs.fip_grammar.Grammar.{Sees, MaySee, Type', TypeArguments, FurtherTypes, FurtherTypeList, IsLiteral, Pattern', PatternFields, FurtherPatterns, BindName, Annotation, Bind', FurtherBinds, Binder', match_sign, left_tightness, tightness, Spelled, Arguments, Fields, Further, Block', Clauses', FurtherClauses, Result', Lent, SignatureParameter', FurtherSignatureParameters, SignatureParameters, Signature', Static', FurtherStatics, Statics, Parameter', FurtherParameters, Parameters, Credits, Kind', FunctionParts, Function', FurtherTypeNames, TypeNames, FieldTypes, DataConstructor', FurtherConstructors, DataConstructors, Data', Declaration'}
 
-module _ (Ok : List Token → Type 0) (behind : (t : Token) (ts : List Token) → Ok (t ∷ ts) → Ok ts) where
+module _ (Ok : List Token → Type 0) (following : (t : Token) (ts : List Token) → Ok (t ∷ ts) → Ok ts) where
   pub after_word : (w : Word) (p : Place) (ts rest : List Token) → ts ≡ token w p ∷ rest → Ok ts → Ok rest
-  after_word w p ts rest e o = behind (token w p) rest (subst Ok e o)
+  after_word w p ts rest e o = following (token w p) rest (subst Ok e o)
 
   pub past : (s : Sign) (ts rest : List Token) → Sees s ts rest → Ok ts → Ok rest
   past s ts rest h o = after_word (Mark s) h.0 ts rest h.1 o
@@ -214,7 +214,7 @@ module _ (Ok : List Token → Type 0) (behind : (t : Token) (ts : List Token) �
 
   function_past : (ts : List Token) (f : T.Function) (rest : List Token) → Function' ts f rest → Ok ts → Ok rest
   function_past ts f rest h o =
-      function_parts_past h.2 f.statics f.parameters f.result f.body rest h.6 (behind (token (Lower f.name) f.place) h.2 (name_on ts f rest h o))
+      function_parts_past h.2 f.statics f.parameters f.result f.body rest h.6 (following (token (Lower f.name) f.place) h.2 (name_on ts f rest h o))
 
   -- ---- data types
 

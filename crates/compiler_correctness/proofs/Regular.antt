@@ -1,4 +1,4 @@
--- What the header of a function of a source tells: it has a result, as the grammar asks, and at most 16 credits (E63);
+-- What the header of a function of a source reports: it has a result, as the grammar asks, and at most 16 credits (E63);
 -- and how many binders an instance of it has.
 use Rattle.std.proofs.Common.{◌≡◌, ◌<◌, ◌≤◌, ◌+◌, inl, inr, ℕ, zero, suc, Bool, true, List, [], ◌∷◌, ◌++◌, length, map, Option, Some, None, slice_get, refl, sym, ap, subst, arith}
 use Rattle.std.proofs.lemmas.Option.{none-some}

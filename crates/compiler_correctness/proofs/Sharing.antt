@@ -1,4 +1,4 @@
--- What a code that is headed as a program tells shares with it: the types and which of them are scalar, the headers of
+-- What a code that is headed as a program reports shares with it: the types and which of them are scalar, the headers of
 -- the functions, and that all types that are named are in the table.
 use Rattle.std.proofs.Common.{◌≡◌, ◌<◌, ◌≤◌, ◌+◌, ◌^◌, ◌&&◌, ◌==◌, inl, inr, ℕ, zero, suc, Bool, true, false, nat_lt, List, [], ◌∷◌, length, map, Option, Some, None, slice_get, if◌then◌else◌, refl, sym, ap, ◌∙◌, subst, arith}
 use Rattle.std.proofs.lemmas.Option.{none-some, same_Some}

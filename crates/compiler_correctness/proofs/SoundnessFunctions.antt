@@ -1,4 +1,4 @@
--- The functions of a code that is headed as a program tells: each is that of an instance, with the instance's header;
+-- The functions of a code that is headed as a program reports: each is that of an instance, with the instance's header;
 -- there are few, and no two have one name, since no two roots have.
 use Rattle.std.proofs.Common.{◌≡◌, ◌<◌, ◌≤◌, ◌+◌, ℕ, zero, suc, Bool, true, false, List, [], ◌∷◌, length, map, Option, Some, None, slice_get, option_map, if◌then◌else◌, refl, sym, ap, ◌∙◌, subst, arith}
 use Rattle.std.proofs.lemmas.Option.{none-some, same_Some, slice_get-map}

@@ -1,4 +1,4 @@
--- The functions of an accepted source's code hold of the stack what is told of its instances.
+-- The functions of an accepted source's code hold of the stack what is reported of its instances.
 -- Idea: they call each other just as the instances do, and their frames have as many words.
 use Rattle.std.proofs.Common.{◌≡◌, ℕ, zero, suc, Bool, not, List, [], ◌∷◌, map, length, Option, Some, None, slice_get, refl, sym, ap, ◌∙◌, subst, arith}
 use Rattle.std.proofs.lemmas.Option.{none-some, same_Some}

@@ -1,4 +1,4 @@
--- What has a text: pieces that have one each, one behind the other, and numbers that are small enough.
+-- What has a text: pieces that have one each, one after the other, and numbers that are small enough.
 use Rattle.std.proofs.Common.{◌≡◌, ◌<◌, ◌≤◌, ℕ, suc, Bool, true, List, [], ◌∷◌, length, Option, Some, None, slice_get, is_some, refl, sym, ap, subst, arith}
 use Rattle.lowering_soundness.specs.fip_language.declared.limits.TheConstants.{MOST_INSTANCES}
 use Rattle.lowering_soundness.specs.fip_language.Character.{is_upper_name}

@@ -12,7 +12,7 @@ use Rattle.lowering_soundness.specs.fip_language.Every.{Every}
 use Rattle.lowering_soundness.specs.fip_language.Character.{is_letter, are_name_bytes, is_upper_name}
 use Rattle.source_safety.specs.fip_grammar.declared.Sign.TheVariants as S
 use Rattle.source_safety.specs.fip_grammar.Token.{Word, Lower, Upper, Number, Operate, Mark, Token}
-use Rattle.source_safety.specs.fip_grammar.Cut.{is_lower, is_upper, is_digit, is_name, keyword_or_name, single_sign, double_sign, sign_of, lower_word, word_of, IsFirst, Piece, Blank, Comment, Cut, behind, Pieces, tokens_of, first_place, IsCut}
+use Rattle.source_safety.specs.fip_grammar.Cut.{is_lower, is_upper, is_digit, is_name, keyword_or_name, single_sign, double_sign, sign_of, lower_word, word_of, IsFirst, Piece, Blank, Comment, Cut, following, Pieces, tokens_of, first_place, IsCut}
 use Rattle.derivation_correctness.specs.code_file.Spelling.{is_keyword, is_function_name}
 use Rattle.derivation_correctness.proofs.source_report.cell_lower.fip_language.Facts.{not_of, or_exchange as name_byte, take_few}
 use Rattle.derivation_correctness.proofs.source_report.fip_grammar.UpperWords.{holds_if}
@@ -180,33 +180,33 @@ pub record AreProper (n : ℕ) (ts : List Token) : Type 0 where
   pub names : Every (ProperToken n) ts
   pub few : length ts ≤ n
 
-behind_few : (n : ℕ) (text piece after : List ℕ) → text ≡ piece ++ after → length text ≤ n → length after ≤ n
-behind_few n text piece after e few =
+after_few : (n : ℕ) (text piece after : List ℕ) → text ≡ piece ++ after → length text ≤ n → length after ≤ n
+after_few n text piece after e few =
     let k = length-append piece after in
     let l = ap length e in
     omega (arith, k, l, few)
 
 every_token : (n : ℕ) (xs : List Piece) (p : Place) (text rest : List ℕ) → length text ≤ n → Pieces xs text rest → Every (ProperToken n) (tokens_of p xs)
 every_token n [] p text rest few c = tt
-every_token n (Blank b ∷ xs) p text rest few c = every_token n xs (behind p (Blank b)) c.0 rest (behind_few n text (b ∷ []) c.0 c.1 few) c.3
-every_token n (Comment t ∷ xs) p text rest few c = every_token n xs (behind p (Comment t)) c.0 rest (behind_few n text (47 ∷ 47 ∷ t) c.0 c.1 few) c.3
+every_token n (Blank b ∷ xs) p text rest few c = every_token n xs (following p (Blank b)) c.0 rest (after_few n text (b ∷ []) c.0 c.1 few) c.3
+every_token n (Comment t ∷ xs) p text rest few c = every_token n xs (following p (Comment t)) c.0 rest (after_few n text (47 ∷ 47 ∷ t) c.0 c.1 few) c.3
 every_token n (Cut t w ∷ xs) p text rest few c = (
   more_proper (length text) n w few (proper_first text (length t) w c.2.1),
-  every_token n xs (behind p (Cut t w)) c.0 rest (behind_few n text t c.0 c.1 few) c.3,
+  every_token n xs (following p (Cut t w)) c.0 rest (after_few n text t c.0 c.1 few) c.3,
 )
 
 few_tokens : (xs : List Piece) (p : Place) (text rest : List ℕ) → Pieces xs text rest → length (tokens_of p xs) ≤ length text
 few_tokens [] p text rest c = omega arith
 few_tokens (Blank b ∷ xs) p text rest c =
-    let h = few_tokens xs (behind p (Blank b)) c.0 rest c.3 in
-    let k = behind_few (length text) text (b ∷ []) c.0 c.1 (omega arith) in
+    let h = few_tokens xs (following p (Blank b)) c.0 rest c.3 in
+    let k = after_few (length text) text (b ∷ []) c.0 c.1 (omega arith) in
     omega (arith, h, k)
 few_tokens (Comment t ∷ xs) p text rest c =
-    let h = few_tokens xs (behind p (Comment t)) c.0 rest c.3 in
-    let k = behind_few (length text) text (47 ∷ 47 ∷ t) c.0 c.1 (omega arith) in
+    let h = few_tokens xs (following p (Comment t)) c.0 rest c.3 in
+    let k = after_few (length text) text (47 ∷ 47 ∷ t) c.0 c.1 (omega arith) in
     omega (arith, h, k)
 few_tokens (Cut t w ∷ xs) p text rest c =
-    let h = few_tokens xs (behind p (Cut t w)) c.0 rest c.3 in
+    let h = few_tokens xs (following p (Cut t w)) c.0 rest c.3 in
     let some = some_bytes text t w c.2.1 in
     let k = length-append t c.0 in
     let l = ap length c.1 in

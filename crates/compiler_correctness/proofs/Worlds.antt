@@ -1,4 +1,4 @@
--- A body that has a derivation is the same to the calculus whatever kind of instance it is asked for: only a call tells
+-- A body that has a derivation is the same to the calculus whatever kind of instance it is asked for: only a call reports
 -- whether its callee's kind is strong enough, and in a derivation each is.
 use Rattle.std.proofs.Common.{◌≡◌, ℕ, suc, Bool, true, false, not, List, [], ◌∷◌, Option, Some, None, slice_get, refl, sym, ap, ◌∙◌, subst}
 use Rattle.std.specs.Prelude.{if◌then◌else◌}
@@ -10,13 +10,13 @@ use Rattle.lowering_soundness.specs.fip_trees.Tree.{Argument, Variable, Literal,
 use Rattle.lowering_soundness.specs.fip_trees.Tree.{Expression, Give, Tuple, Operation, Call, Match, Nested, Block, Last, Let, Clauses, NoClauses, MoreClauses, Instance, Program}
 use Rattle.lowering_soundness.specs.fip_rules.Marks.{Mark}
 use Rattle.lowering_soundness.specs.fip_rules.World.{World, world, lends_parameter, lends_to, lends, weaker_than, weaker, ownership}
-use Rattle.lowering_soundness.specs.fip_rules.Shapes.{Names, behind, within, taking, binders, takes, parameters, no_names, shape}
+use Rattle.lowering_soundness.specs.fip_rules.Shapes.{Names, following, within, taking, binders, takes, parameters, no_names, shape}
 use Rattle.lowering_soundness.specs.ownership_calculus.Terms as C
 use Rattle.lowering_soundness.specs.ownership_calculus.Clean.{Status, Clean, CleanLent, CleanTaken}
 use Rattle.lowering_soundness.specs.ownership_calculus.Functions.{Derived}
 use Rattle.lowering_soundness.proofs.ownership_calculus.Whole.{is_accepted}
 use Rattle.lowering_soundness.specs.ownership_agreement.Bodies.{Scalars, value, lent_value, passed, variables, entering, inside, past_clause, matched, nodes, term, term_block, clauses, entering_parameters, borrowed_parameters, owned_parameters, no_variables, body_term}
-use Rattle.lowering_soundness.proofs.derivation_making.Reading.{next_behind, next_past}
+use Rattle.lowering_soundness.proofs.derivation_making.Reading.{next_after, next_past}
 
 -- ---- each call of a term that is derived is strong enough
 
@@ -97,8 +97,8 @@ module _ (p : Program) (k : FunKind) where
   abbrev from' : Names → ℕ → Names
   from' c n = record { marks = c.marks; next = n }
 
-  behind_same : (c : Names) (e : Expression) → behind c (shape v c e) ≡ behind c (shape w c e)
-  behind_same c e = ap (from' c) (next_behind v c e ∙ sym (next_behind w c e))
+  after_same : (c : Names) (e : Expression) → following c (shape v c e) ≡ following c (shape w c e)
+  after_same c e = ap (from' c) (next_after v c e ∙ sym (next_after w c e))
 
   past_same : (t : Bool) (c : Names) (q : Pattern) (body : Block) → past_clause v t c q body ≡ past_clause w t c q body
   past_same t c q body = ap (from' c) (next_past v t c q body ∙ sym (next_past w t c q body))
@@ -131,7 +131,7 @@ module _ (p : Program) (k : FunKind) where
       ∙ ap (λ n. term_block v (entering w c.next sc bs) n b) (inside_same own c bs)
       ∙ same
 
-  -- a first clause, and those behind it
+  -- a first clause, and those after it
   first_same : (sc : Scalars) (own : Bool) (c : Names) (q : Pattern) (body : Block) (cs : Clauses) → term_block v (entering w c.next sc (binders q)) (inside w own c (binders q)) body ≡ within_clause sc own c q body → clauses v sc own (past_clause w own c q body) (variables w c.next (binders q)) (nodes q) (within_clause sc own c q body) cs ≡ clauses w sc own (past_clause w own c q body) (variables w c.next (binders q)) (nodes q) (within_clause sc own c q body) cs → clauses v sc own (past_clause v own c q body) (variables v c.next (binders q)) (nodes q) (term_block v (entering v c.next sc (binders q)) (inside v own c (binders q)) body) cs ≡ clauses w sc own (past_clause w own c q body) (variables w c.next (binders q)) (nodes q) (within_clause sc own c q body) cs
   first_same sc own c q body cs same later =
       let t = term_block v (entering v c.next sc (binders q)) (inside v own c (binders q)) body in
@@ -159,8 +159,8 @@ module _ (p : Program) (k : FunKind) where
     block_same : (sc : Scalars) (c : Names) (b : Block) → AllStrong (term_block w sc c b) → term_block v sc c b ≡ term_block w sc c b
     block_same sc c (Last e) h = term_same sc c e h
     block_same sc c (Let bs e rest) h =
-        let n = behind c (shape w c e) in
-        ap (λ n. C.Let (variables v n.next bs) (term v sc c e) (term_block v (entering v n.next sc bs) (inside v true n bs) rest)) (behind_same c e)
+        let n = following c (shape w c e) in
+        ap (λ n. C.Let (variables v n.next bs) (term v sc c e) (term_block v (entering v n.next sc bs) (inside v true n bs) rest)) (after_same c e)
         ∙ ap (λ xs. C.Let xs (term v sc c e) (term_block v (entering v n.next sc bs) (inside v true n bs) rest)) (variables_same n.next bs)
         ∙ ap (λ x. C.Let (variables w n.next bs) x (term_block v (entering v n.next sc bs) (inside v true n bs) rest)) (term_same sc c e h.0)
         ∙ ap (C.Let (variables w n.next bs) (term w sc c e)) (inner_same sc true n bs rest (block_same (entering w n.next sc bs) (inside w true n bs) rest h.1))

@@ -1,4 +1,4 @@
-// The law that the code of an accepted source can be written. It is the contract of a function that does nothing.
+// The theorem that the code of an accepted source can be written. It is the contract of a function that does nothing.
 ghost use Rattle.std.specs.Prelude.{◌≡◌, ℕ, List, map};
 ghost use Rattle.lowering_soundness.specs.cell_code.declared.code.Code.{Code};
 ghost use Rattle.derivation_correctness.specs.cell_lower.Shape.{header, headers};
@@ -17,7 +17,7 @@ ghost use Rattle.lowering_soundness.specs.tail_groups.Members.{AreMembers};
 /// source's program, and its instructions and labels can be spelt. For who writes the code of a source: some bytes
 /// spell it, and only their number may be too great.
 pub fn the_code_of_an_accepted_source_has_a_file()
-    ensures law { (source : List ℕ) (program : Program) (members : List Member) (code : Code) →
+    ensures theorem { (source : List ℕ) (program : Program) (members : List Member) (code : Code) →
         IsAccepted source program → AreMembers program.instances members → code.types ≡ program.types →
         map header code.functions.items ≡ headers members program.instances → IsSound (plain code) →
         AreSpelt code.functions.items → (file : List ℕ) × CodeText file Second (plain_code code) }

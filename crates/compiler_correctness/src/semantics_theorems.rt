@@ -1,4 +1,4 @@
-// The laws on lowered code of accepted sources. Each is the contract of a function that does nothing.
+// The theorems on lowered code of accepted sources. Each is the contract of a function that does nothing.
 ghost use Rattle.std.specs.Prelude.{◌≡◌, ◌<◌, ◌≤◌, ℕ, List, length, true, Some, slice_get};
 ghost use Rattle.lowering_soundness.specs.fip_language.Core.{Core};
 ghost use Rattle.lowering_soundness.specs.fip_language.Meaning.{meaning};

@@ -1,4 +1,4 @@
-// The laws on soundness of the code of accepted sources. Each is the contract of a function that does nothing.
+// The theorems on soundness of the code of accepted sources. Each is the contract of a function that does nothing.
 ghost use Rattle.std.specs.Prelude.{◌≡◌, ℕ, List, Bool, Some, map, slice_get};
 ghost use Rattle.lowering_soundness.specs.cell_code.declared.code.Code.{Code};
 ghost use Rattle.derivation_correctness.specs.cell_lower.LaidProgram.{IsAsked, IsLaidOut};
@@ -27,14 +27,14 @@ ghost use Rattle.lowering_soundness.specs.type_check.World as W;
 ghost use Rattle.compiler_correctness.specs.Headed.{IsHeaded};
 
 /// A code in memory whose types are a program's, and whose functions have the headers of its instances, is headed as
-/// the program tells. For who has a code of `front`.
+/// the program reports. For who has a code of `front`.
 pub fn code_with_these_headers_is_headed()
-    ensures law { (program : Program) (members : List Member) (code : Code) →
+    ensures theorem { (program : Program) (members : List Member) (code : Code) →
         AreMembers program.instances members → code.types ≡ program.types →
         map header code.functions.items ≡ headers members program.instances → IsHeaded program (plain code) }
 {}
 
-/// Code that is headed as the typed program of a source tells shares with it what lowering takes for granted: the types
+/// Code that is headed as the typed program of a source reports shares with it what lowering takes for granted: the types
 /// and which of them are scalar, the headers of the functions, the types of results and of constructors' fields. For
 /// who asks whether lowered code is sound.
 pub fn accepted_code_shares_with_its_program()
@@ -50,7 +50,7 @@ pub fn accepted_code_shares_with_its_program()
 /// in the order of the text, its ownership and credits have a derivation, and the constructors that it builds are of
 /// their types. For who asks whether lowered code is sound.
 pub fn accepted_instances_are_derived()
-    ensures law { (source : List ℕ) (program : Program) (code : PlainCode) (i : ℕ) (instance : Instance) →
+    ensures theorem { (source : List ℕ) (program : Program) (code : PlainCode) (i : ℕ) (instance : Instance) →
         IsAccepted source program → IsHeaded program code →
         slice_get program.instances i ≡ Some instance → has_function instance.kind ≡ Bool.true →
         IsDerived code (W.world program) (R.world program Fun) instance }
@@ -60,39 +60,39 @@ pub fn accepted_instances_are_derived()
 /// results, and at most 16 credits of sizes 1 to 16; as long as its label maps stand in order. For who asks whether
 /// lowered code is sound.
 pub fn accepted_functions_keep_the_limits()
-    ensures law { (source : List ℕ) (program : Program) (code : PlainCode) (i n : ℕ) (instance : Instance)
+    ensures theorem { (source : List ℕ) (program : Program) (code : PlainCode) (i n : ℕ) (instance : Instance)
         (f : PlainFunction) → IsAccepted source program → IsHeaded program code →
         slice_get program.instances i ≡ Some instance → function_of program.instances i ≡ Some n →
         function_at code n ≡ Some f → MapsStand f → IsWithinLimits code f instance }
 {}
 
-/// Code that is headed as the typed program of a source tells has sound tables (S0): its types are sound, its functions
+/// Code that is headed as the typed program of a source reports has sound tables (S0): its types are sound, its functions
 /// are few, and have names of their own. For who asks whether lowered code is sound.
 pub fn accepted_code_has_sound_tables()
-    ensures law { (source : List ℕ) (program : Program) (code : PlainCode) → IsTyped source program →
+    ensures theorem { (source : List ℕ) (program : Program) (code : PlainCode) → IsTyped source program →
         IsHeaded program code → AreSoundTables code }
 {}
 
-/// Code of an accepted source breaks no rule of sound code, where it is headed as the source's program tells and laid
+/// Code of an accepted source breaks no rule of sound code, where it is headed as the source's program reports and laid
 /// out as its instances ask, and its label maps stand in order and tell of each tree some constructor. Nothing is left
 /// to ask of the source. For who shows that what is lowered is sound.
 pub fn laid_accepted_code_is_sound()
-    ensures law { (source : List ℕ) (program : Program) (code : PlainCode) (setting : Setting) →
+    ensures theorem { (source : List ℕ) (program : Program) (code : PlainCode) (setting : Setting) →
         IsAccepted source program → IsHeaded program code → AreLaid code setting program →
         ((n : ℕ) (f : PlainFunction) → function_at code n ≡ Some f → MapsStand f) → IsSound code }
 {}
 
-/// The program of an accepted source is as lowering asks, with the needs that the rules on credits are told of, so that
+/// The program of an accepted source is as lowering asks, with the needs that the rules on credits are reported of, so that
 /// its code is laid out. For who lowers it.
 pub fn accepted_programs_are_as_asked()
-    ensures law { (source : List ℕ) (program : Program) → IsAccepted source program →
+    ensures theorem { (source : List ℕ) (program : Program) → IsAccepted source program →
         IsAsked program (all_needs program program.instances) }
 {}
 
 /// The code that lowering makes of an accepted source breaks no rule of sound code: it is headed as the source's
-/// program tells, and laid out where the program is as asked. For who verifies such code.
+/// program reports, and laid out where the program is as asked. For who verifies such code.
 pub fn lowered_accepted_code_is_sound()
-    ensures law { (source : List ℕ) (program : Program) (code : PlainCode) → IsAccepted source program →
+    ensures theorem { (source : List ℕ) (program : Program) (code : PlainCode) → IsAccepted source program →
         IsHeaded program code → (IsAsked program (all_needs program program.instances) → IsLaidOut program code) →
         IsSound code }
 {}
@@ -101,7 +101,7 @@ pub fn lowered_accepted_code_is_sound()
 /// its program tell of their instances: they call each other just as these do, and their frames have as many words. So
 /// what `check` prints is what the code says. For who gives a run its stack.
 pub fn lowered_accepted_code_has_its_stack_numbers()
-    ensures law { (source : List ℕ) (program : Program) (code : PlainCode) (members : List Member) (i n : ℕ)
+    ensures theorem { (source : List ℕ) (program : Program) (code : PlainCode) (members : List Member) (i n : ℕ)
         (m : Member) → IsAccepted source program → IsHeaded program code →
         (IsAsked program (all_needs program program.instances) → IsLaidOut program code) →
         AreMembers program.instances members → function_of program.instances i ≡ Some n →

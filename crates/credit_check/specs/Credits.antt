@@ -23,7 +23,7 @@ abbrev pub Unused : Program → ℕ → Bool → Pattern → Block → Violation
 Unused p i taken q body v =
     Less E57 (pattern_place q) i (λ k. need_block p k body) (λ k. given k taken q) v
 
--- E58: one of the clauses needs more or less than the first, of which f tells, less what their patterns give. Where any
+-- E58: one of the clauses needs more or less than the first, of which f reports, less what their patterns give. Where any
 -- two clauses differ, one differs from the first.
 abbrev pub Differ : Program → Place → ℕ → Bool → (ℕ → ℕ) → Clauses → Violation → Type 0
 Differ p q i taken f NoClauses v = ⊥

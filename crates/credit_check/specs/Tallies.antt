@@ -148,7 +148,7 @@ abbrev mutual
   block_notes p i fip (Last e) = notes p i fip e
   block_notes p i fip (Let bs e rest) = notes p i fip e ++ block_notes p i fip rest
 
-  -- the clauses behind the first one, which needs `xs` beyond its pattern
+  -- the clauses after the first one, which needs `xs` beyond its pattern
   pub clauses_notes : Program → ℕ → Bool → Bool → Place → List ℕ → Clauses → List Violation
   clauses_notes p i fip taken q xs NoClauses = []
   clauses_notes p i fip taken q xs (MoreClauses r body cs) =

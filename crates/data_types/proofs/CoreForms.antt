@@ -52,7 +52,7 @@ applied_is n ts = ap ty (sym (FV.rolls-Applied n ts)) ∙ fold-roll-FieldType t.
 pub int_is : ty FV.Int ≡ t.Given
 int_is = ap ty (sym FV.rolls-Int) ∙ fold-roll-FieldType t.Ty ty_step F.Int
 
--- types behind others
+-- types after others
 abbrev pub onto : List t.Ty → t.Tys → t.Tys
 onto [] us = us
 onto (x ∷ xs) us = t.MoreTys x (onto xs us)

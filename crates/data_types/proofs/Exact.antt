@@ -14,7 +14,7 @@ use Rattle.fip_trees.specs.Least.{In, IsLeast, after, comes_before, refusal}
 use Rattle.fip_trees.proofs.Leasts.{in_left, in_right, in_either, none_of, least_of}
 use Rattle.data_types.specs.Types.{Declarations, IsValued, Node, End, NoTys}
 use Rattle.data_types.specs.Marks.{true_of}
-use Rattle.data_types.specs.Steps.{TellsValued}
+use Rattle.data_types.specs.Steps.{ReportsValued}
 use Rattle.data_types.specs.Declarations.{declarations, declared_names, written_names, type_meanings, row_meanings, constructor_meanings, function_meanings, data_declared}
 use Rattle.data_types.specs.Faults.{broken, when, repeats, written_violations, name_faults, all_data_faults, all_function_faults, type_mentions, row_mentions, constructor_mentions, function_mentions}
 use Rattle.data_types.specs.Answers.{HasNoValue, Violates, IsFirst, Says, IsWalked, value_faults}
@@ -79,43 +79,43 @@ flag_of None h = refl
 flag_of (Some true) h = absurd (h refl)
 flag_of (Some false) h = refl
 
-unvalued_in : (core : Core) (flags : List Bool) (w : Violation) → TellsValued (declarations core) flags → In w (value_faults 1 flags core.types) → HasNoValue core w
-unvalued_in core flags w told h =
+unvalued_in : (core : Core) (flags : List Bool) (w : Violation) → ReportsValued (declarations core) flags → In w (value_faults 1 flags core.types) → HasNoValue core w
+unvalued_in core flags w reported h =
     let u = unflagged_in 1 flags core.types w h in
     let n = map_length (data_declared (declared_names core)) (data_types core) in
-    let l = told.all in
+    let l = reported.all in
     let k = get_length core.types u.place u.type u.there in
     let within : suc u.place < length flags = omega (arith, n, l, k) in
     let one : 1 + u.place ≡ suc u.place = omega arith in
-    record { place = u.place; type = u.type; there = u.there; unvalued = told.unvalued (suc u.place) (is_flag flags (suc u.place) within (sym (ap (λ j. true_of (slice_get flags j)) one) ∙ u.flag)); is = u.is }
+    record { place = u.place; type = u.type; there = u.there; unvalued = reported.unvalued (suc u.place) (is_flag flags (suc u.place) within (sym (ap (λ j. true_of (slice_get flags j)) one) ∙ u.flag)); is = u.is }
 
-in_unvalued : (core : Core) (flags : List Bool) (w : Violation) → TellsValued (declarations core) flags → HasNoValue core w → In w (value_faults 1 flags core.types)
-in_unvalued core flags w told h =
+in_unvalued : (core : Core) (flags : List Bool) (w : Violation) → ReportsValued (declarations core) flags → HasNoValue core w → In w (value_faults 1 flags core.types)
+in_unvalued core flags w reported h =
     let one : 1 + h.place ≡ suc h.place = omega arith in
-    subst (λ v. In v (value_faults 1 flags core.types)) (sym h.is) (in_unflagged 1 h.place flags core.types h.type h.there (ap (λ j. true_of (slice_get flags j)) one ∙ flag_of (slice_get flags (suc h.place)) (λ e. h.unvalued (told.valued (suc h.place) e))))
+    subst (λ v. In v (value_faults 1 flags core.types)) (sym h.is) (in_unflagged 1 h.place flags core.types h.type h.there (ap (λ j. true_of (slice_get flags j)) one ∙ flag_of (slice_get flags (suc h.place)) (λ e. h.unvalued (reported.valued (suc h.place) e))))
 
 -- ---- the report
 
-violates_in : (core : Core) (flags : List Bool) (w : Violation) → TellsValued (declarations core) flags → In w (written_violations core ++ value_faults 1 flags core.types) → Violates core w
-violates_in core flags w told h = elim (in_either w (written_violations core) (value_faults 1 flags core.types) h) [
+violates_in : (core : Core) (flags : List Bool) (w : Violation) → ReportsValued (declarations core) flags → In w (written_violations core ++ value_faults 1 flags core.types) → Violates core w
+violates_in core flags w reported h = elim (in_either w (written_violations core) (value_faults 1 flags core.types) h) [
   | inl g ↦ inl g
-  | inr g ↦ inr (unvalued_in core flags w told g)
+  | inr g ↦ inr (unvalued_in core flags w reported g)
 ]
 
-in_violates : (core : Core) (flags : List Bool) (w : Violation) → TellsValued (declarations core) flags → Violates core w → In w (written_violations core ++ value_faults 1 flags core.types)
-in_violates core flags w told (inl g) = in_left w (written_violations core) (value_faults 1 flags core.types) g
-in_violates core flags w told (inr g) = in_right w (written_violations core) (value_faults 1 flags core.types) (in_unvalued core flags w told g)
+in_violates : (core : Core) (flags : List Bool) (w : Violation) → ReportsValued (declarations core) flags → Violates core w → In w (written_violations core ++ value_faults 1 flags core.types)
+in_violates core flags w reported (inl g) = in_left w (written_violations core) (value_faults 1 flags core.types) g
+in_violates core flags w reported (inr g) = in_right w (written_violations core) (value_faults 1 flags core.types) (in_unvalued core flags w reported g)
 
 pub first_of : (core : Core) (v : Violation) → IsWalked core None (Some v) → IsFirst core v
 first_of core v walked =
     let l = least_of (written_violations core ++ value_faults 1 walked.flags core.types) v (sym walked.noted) in
     record {
-      violated = violates_in core walked.flags v walked.told l.violated;
-      least = λ w h. l.least w (in_violates core walked.flags w walked.told h);
+      violated = violates_in core walked.flags v walked.reported l.violated;
+      least = λ w h. l.least w (in_violates core walked.flags w walked.reported h);
     }
 
 pub none_violated : (core : Core) → IsWalked core None None → (w : Violation) → Violates core w → ⊥
-none_violated core walked w h = subst (In w) (none_of (written_violations core ++ value_faults 1 walked.flags core.types) (sym walked.noted)) (in_violates core walked.flags w walked.told h)
+none_violated core walked w h = subst (In w) (none_of (written_violations core ++ value_faults 1 walked.flags core.types) (sym walked.noted)) (in_violates core walked.flags w walked.reported h)
 
 -- ---- what is declared where no name stands twice
 
@@ -137,7 +137,7 @@ function_names : (i : ℕ) (fs : List Function) → names (function_meanings i f
 function_names i [] = refl
 function_names i (f ∷ fs) = ap (λ l. f.name ∷ l) (function_names (suc i) fs)
 
--- a row's names, and others behind them
+-- a row's names, and others after them
 row_then : (n c : ℕ) (ks : List DataConstructor) (ms : List Mention) → names (row_meanings n c ks) ++ mention_names ms ≡ mention_names (row_mentions ks ++ ms)
 row_then n c [] ms = refl
 row_then n c (k ∷ ks) ms = ap (λ l. k.name ∷ l) (row_then n (suc c) ks ms)
@@ -184,24 +184,24 @@ accepted_names core (Some v) walked g = absurd (cc)
 bool_valued : (core : Core) → IsValued (declarations core) 0
 bool_valued core = (Node 0 End, (NoTys, refl, tt))
 
-flag_valued : (core : Core) (flags : List Bool) (n : ℕ) (o : Option Bool) → TellsValued (declarations core) flags → slice_get flags n ≡ o → n < length flags → (slice_get flags n ≡ Some false → ⊥) → IsValued (declarations core) n
-flag_valued core flags n None told e h k = absurd (let r = got_none flags n h e in r)
+flag_valued : (core : Core) (flags : List Bool) (n : ℕ) (o : Option Bool) → ReportsValued (declarations core) flags → slice_get flags n ≡ o → n < length flags → (slice_get flags n ≡ Some false → ⊥) → IsValued (declarations core) n
+flag_valued core flags n None reported e h k = absurd (let r = got_none flags n h e in r)
   where
     got_none : (xs : List Bool) (m : ℕ) → m < length xs → slice_get xs m ≡ None → ⊥
     got_none [] m h e = omega (arith, h)
     got_none (x ∷ xs) zero h e = absurd (cc)
     got_none (x ∷ xs) (suc m) h e = got_none xs m (omega (arith, h)) e
-flag_valued core flags n (Some true) told e h k = told.valued n e
-flag_valued core flags n (Some false) told e h k = absurd (k e)
+flag_valued core flags n (Some true) reported e h k = reported.valued n e
+flag_valued core flags n (Some false) reported e h k = absurd (k e)
 
 each_valued : (core : Core) → IsWalked core None None → (n : ℕ) → n < length (data_types core) → IsValued (declarations core) n
 each_valued core walked zero h = bool_valued core
 each_valued core walked (suc n) h =
     let at = there core.types n (omega (arith, h)) in
-    let size = walked.told.all in
+    let size = walked.reported.all in
     let same = map_length (data_declared (declared_names core)) (data_types core) in
-    flag_valued core walked.flags (suc n) (slice_get walked.flags (suc n)) walked.told refl (omega (arith, h, size, same))
-    (λ e. none_violated core walked (broken E13 at.0.place at.0.name) (inr (record { place = n; type = at.0; there = at.1; unvalued = walked.told.unvalued (suc n) e; is = refl })))
+    flag_valued core walked.flags (suc n) (slice_get walked.flags (suc n)) walked.reported refl (omega (arith, h, size, same))
+    (λ e. none_violated core walked (broken E13 at.0.place at.0.name) (inr (record { place = n; type = at.0; there = at.1; unvalued = walked.reported.unvalued (suc n) e; is = refl })))
 
 pub accepted_valued : (core : Core) (o : Option Violation) → IsWalked core None o → option_map refusal o ≡ None → (n : ℕ) → n < length (data_types core) → IsValued (declarations core) n
 accepted_valued core None walked g = each_valued core walked

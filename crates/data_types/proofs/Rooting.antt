@@ -3,7 +3,7 @@ use Rattle.std.proofs.Common.{◌≡◌, ℕ, zero, suc, ◌+◌, ◌<◌, ◌�
 use Rattle.data_types.specs.Types as t
 use Rattle.data_types.specs.Types.{Declarations, IsValued}
 use Rattle.data_types.specs.Marks.{Claim, State, asked, known, marked_of, is_marked, IsSound, AllDone, IsAt, trues, root, with_claim}
-use Rattle.data_types.specs.Steps.{Goes, HasRoots, Tells, TellsValued}
+use Rattle.data_types.specs.Steps.{Goes, HasRoots, Reports, ReportsValued}
 use Rattle.data_types.specs.View as v
 use Rattle.fip_trees.specs.declared.decls.DeclaredType.{DeclaredType}
 use Rattle.data_types.proofs.Values.{past, root_has, root_lacks}
@@ -55,9 +55,9 @@ roots_next ds a b n bs r e f = subst (λ s. HasRoots ds s (n + 1)) (ap (with_cla
 
 -- ---- the marks
 
--- some of the marks are told
+-- some of the marks are reported
 abbrev pub Telling : State → List Bool → ℕ → Type 0
-Telling s xs n = (length xs ≡ n) × Tells s xs
+Telling s xs n = (length xs ≡ n) × Reports s xs
 
 pub telling_first : (s : State) → Telling s [] 0
 telling_first s = (refl, λ k b e. cc)
@@ -87,11 +87,11 @@ unmarked_lacks : (ds : Declarations) (s : State) (k : ℕ) → AllDone ds s → 
 unmarked_lacks ds s k done (inl e) m = root_lacks ds s done k k e
 unmarked_lacks ds s k done (inr e) m = absurd (true≢false (sym (ap marked_of e.1) ∙ m))
 
-pub answers : (ds : Declarations) (a b : State) (xs : List Bool) (n : ℕ) → n ≡ length ds → HasRoots ds a n → Goes ds a b → AllDone ds b → length xs ≡ n → Tells b xs → TellsValued ds xs
-answers ds a b xs n size roots g done all tells = record {
+pub answers : (ds : Declarations) (a b : State) (xs : List Bool) (n : ℕ) → n ≡ length ds → HasRoots ds a n → Goes ds a b → AllDone ds b → length xs ≡ n → Reports b xs → ReportsValued ds xs
+answers ds a b xs n size roots g done all reports = record {
   all = all ∙ size;
-  valued = λ k f. marked_has ds b k (g.sound (λ i j bs h. absurd (roots.only i j bs h))) (root_at k (past xs k true f)) (tells k true f);
-  unvalued = λ k f. unmarked_lacks ds b k done (root_at k (past xs k false f)) (tells k false f);
+  valued = λ k f. marked_has ds b k (g.sound (λ i j bs h. absurd (roots.only i j bs h))) (root_at k (past xs k true f)) (reports k true f);
+  unvalued = λ k f. unmarked_lacks ds b k done (root_at k (past xs k false f)) (reports k false f);
 }
   where
     root_at : (k : ℕ) → k < length xs → IsAt b k k (root ds k)

@@ -14,7 +14,7 @@ use Rattle.data_types.specs.Types.{IsValued}
 use Rattle.data_types.specs.Declarations.{declarations, row_names}
 use Rattle.data_types.specs.Faults.{broken, when, written_violations}
 use Rattle.data_types.specs.Marks.{true_of}
-use Rattle.data_types.specs.Steps.{TellsValued}
+use Rattle.data_types.specs.Steps.{ReportsValued}
 
 -- E13: a data type of the program without a finite value, its parameters taken to have one. Its number among the
 -- declarations is one more, since bool stands before it.
@@ -53,5 +53,5 @@ value_faults i flags (d ∷ ds) =
 -- a walk has noted all violations
 pub record IsWalked (core : Core) (old new : Option Violation) : Type 0 where
   pub flags : List Bool
-  pub told : TellsValued (declarations core) flags
+  pub reported : ReportsValued (declarations core) flags
   pub noted : new ≡ after old (written_violations core ++ value_faults 1 flags core.types)

@@ -105,13 +105,13 @@ pub record HasRoots (ds : Declarations) (s : State) (n : ℕ) : Type 0 where
   pub only : (i t : ℕ) (bs : List Bool) → slice_get s.claims i ≡ Some (known t bs) → ⊥
 
 -- the marks at the first places
-abbrev pub Tells : State → List Bool → Type 0
-Tells s xs = (t : ℕ) (b : Bool) → slice_get xs t ≡ Some b → is_marked s t ≡ b
+abbrev pub Reports : State → List Bool → Type 0
+Reports s xs = (t : ℕ) (b : Bool) → slice_get xs t ≡ Some b → is_marked s t ≡ b
 
 -- ---- the answer
 
 -- Each is true just where the data type of that number has a value.
-pub record TellsValued (ds : Declarations) (xs : List Bool) : Type 0 where
+pub record ReportsValued (ds : Declarations) (xs : List Bool) : Type 0 where
   pub all : length xs ≡ length ds
   pub valued : (t : ℕ) → slice_get xs t ≡ Some true → IsValued ds t
   pub unvalued : (t : ℕ) → slice_get xs t ≡ Some false → IsValued ds t → ⊥

@@ -10,7 +10,7 @@ ghost use Rattle.data_types.specs.Declarations.{declarations, declared_names, ro
 ghost use Rattle.data_types.specs.Faults.{all_function_faults, block_faults, function_faults, header_faults};
 ghost use Rattle.data_types.specs.Faults.{name_faults};
 ghost use Rattle.data_types.specs.Numbered.{types_numbered};
-ghost use Rattle.data_types.specs.Steps.{TellsValued};
+ghost use Rattle.data_types.specs.Steps.{ReportsValued};
 ghost use Rattle.data_types.specs.Types.{IsValued};
 ghost use Rattle.data_types.specs.View as v;
 
@@ -82,7 +82,7 @@ fn declarations<'a>(alloc: Global, core: &'a Core, least: &mut Least) -> Result<
     Ok(Decls { names, types })
 }
 
-// The data types; notes all violations of the program behind those of its names.
+// The data types; notes all violations of the program after those of its names.
 #[tactic(auto, using(crate::proofs::Shared::noting))]
 fn checked_types<'a>(
     alloc: Global,
@@ -111,7 +111,7 @@ fn check_values(
     types: &[DeclaredType<'_>],
     least: &mut Least,
 ) -> Result<(), NoMemory>
-    ensures { OnOk result ((flags : List Bool) × TellsValued (v.declarations types.now) flags ×
+    ensures { OnOk result ((flags : List Bool) × ReportsValued (v.declarations types.now) flags ×
         (least.new ≡ after least.old (value_faults 1 flags (map V.data_type declared.now)))) }
 {
     let valued = are_valued(alloc, types)?;

@@ -17,7 +17,7 @@ use fip_trees::decls::{ConstructorId, DeclaredNames, TypeHead};
 use fip_trees::least::Least;
 use std::alloc::Global;
 
-/// The number behind a number. There are never more than memory holds.
+/// The number after a number. There are never more than memory holds.
 pub fn next(number: u32) -> Result<u32, NoMemory>
     ensures { IfOk result (λ n. n ≡ number + 1) }
 {
@@ -38,7 +38,7 @@ pub fn names_of<'a>(
     Ok(names)
 }
 
-// bool, False and True, and behind them the names of the program.
+// bool, False and True, and after them the names of the program.
 #[tactic(auto, using(crate::proofs::Shared::noting))]
 fn declare_names<'a>(
     core: &'a Core,

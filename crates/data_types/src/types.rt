@@ -26,7 +26,7 @@ use fip_trees::least::Least;
 use fip_trees::meanings::Meanings;
 use std::alloc::Global;
 
-/// Bool, and behind it the data types of a program in text order; notes their violations of E10 to E12 and E14.
+/// Bool, and after it the data types of a program in text order; notes their violations of E10 to E12 and E14.
 #[tactic(auto, using(crate::proofs::Shared::noting))]
 pub fn types_of<'a>(
     alloc: Global,

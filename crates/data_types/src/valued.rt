@@ -13,7 +13,7 @@ use std::alloc::Global;
 
 /// Which data types have a finite value, in the order of their places.
 pub fn are_valued(alloc: Global, declared: &[DeclaredType<'_>]) -> Result<Vec<bool>, NoMemory>
-    ensures { IfOk result (λ f. s.TellsValued (v.declarations declared.now) f.items) }
+    ensures { IfOk result (λ f. s.ReportsValued (v.declarations declared.now) f.items) }
 {
     let mut claims = Claims::new(alloc);
     marks_of(alloc, declared, &mut claims)
@@ -26,7 +26,7 @@ fn marks_of(
     claims: &mut Claims,
 ) -> Result<Vec<bool>, NoMemory>
     requires empty { claims.now ≡ record { claims = []; todo = [] } }
-    ensures { IfOk result (λ f. s.TellsValued (v.declarations declared.now) f.items) }
+    ensures { IfOk result (λ f. s.ReportsValued (v.declarations declared.now) f.items) }
 {
     list_roots(alloc, declared, claims)?;
     settle_in_order(alloc, declared, claims)?;
@@ -90,7 +90,7 @@ fn root_marks(
     claims: &Claims,
 ) -> Result<Vec<bool>, NoMemory>
     ensures all { IfOk result (λ f. length f.items ≡ length declared.now) }
-    ensures marks { IfOk result (λ f. s.Tells claims.now f.items) }
+    ensures marks { IfOk result (λ f. s.Reports claims.now f.items) }
 {
     let mut found = Vec::new(alloc);
     for t in 0..declared.len() {

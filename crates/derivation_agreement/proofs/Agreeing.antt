@@ -28,7 +28,7 @@ use Rattle.derivation_making.specs.Uses.{occurs_value, occurs_values, occurs, oc
 use Rattle.derivation_making.specs.Made as M
 use Rattle.derivation_making.specs.Made.{those, numbers, unscalar, added, clause_variables, rule_of, made_value, made_values, made_fields, made_passed, made_expression, made_block, made_clauses}
 use Rattle.derivation_walk.specs.Walked as W
-use Rattle.derivation_walk.specs.Walked.{Guided, Owned, Asked, asked, behind, bound_owned, rest_owned, clause_owned, binder_of, values, fields, passed, size, size_parts, size_clauses, walked, walked_parts, walked_block, walked_clauses}
+use Rattle.derivation_walk.specs.Walked.{Guided, Owned, Asked, asked, following, bound_owned, rest_owned, clause_owned, binder_of, values, fields, passed, size, size_parts, size_clauses, walked, walked_parts, walked_block, walked_clauses}
 use Rattle.derivation_walk.proofs.credit_check.Amounts.{Long, none_long, both_long, both_at, sizes_long, sizes_at, block_long, block_at}
 use Rattle.derivation_agreement.proofs.Seeing.{slots, slots_in, slots_parts, slots_clauses, passed_value, marks, marks_parts, marks_clauses}
 use Rattle.derivation_agreement.proofs.Hitting.{hits, Between, between_append, between_wider, occurs_hits, occurs_parts, uses_hits, passed_between, marks_between, parts_between, clauses_between, Part, part_first, part_second, table_hits}
@@ -40,7 +40,7 @@ use Rattle.derivation_making.proofs.Arguments.{not_weaken as rule_weaken}
 
 -- the same occurrences, from later on
 tighter : (whole os : List Occurrence) (f g e : ℕ) → f ≤ g → Between g e os → Part whole os f e → Part whole os g e
-tighter whole os f g e l b h = record { end = h.end; before = h.before; behind = h.behind; is = h.is; early = between_wider 0 f 0 g h.before (omega arith) l h.early; here = b; late = h.late }
+tighter whole os f g e l b h = record { end = h.end; before = h.before; following = h.following; is = h.is; early = between_wider 0 f 0 g h.before (omega arith) l h.early; here = b; late = h.late }
 
 two_same : (a b c d : Tree) → MoreTrees a (MoreTrees b NoTrees) ≡ MoreTrees c (MoreTrees d NoTrees) → (a ≡ c) × (b ≡ d)
 two_same a b c d e = ((let k : a ≡ c = cc in k), (let k : b ≡ d = cc in k))
@@ -298,7 +298,7 @@ module _ (p : Program) (w : World) (order : List Bound) (u : Uses) (ns : List Ne
         let eC : Counts (minus A.need B.need) (λ v. need_block p v rest) = less_counts A.need B.need (λ v. need p v e) (λ v. need_block p v rest) eA eB in
         let su = all_append w order u (those (λ x. not (uses w x e)) own) (added w true d bs) (those_sited w order u (λ x. not (uses w x e)) own so) (unscalar_sited w order u (named d true bs) ns1) in
         let one = walked_is (lending h.0 (own_variables h.2) s) c (d + l) i (those (λ x. uses w x e) own) (λ v. need p v e) (bound_owned G A B o) e sv (those_sited w order u (λ x. uses w x e) own so) eu eB po2 pm1e pn1 z.0 d1 in
-        let other = parts_is (binding d true bs s) (c + within e + l) (d + within e + l) (i + n) (i + n) U (λ v. need_block p v rest) (rest_owned G A B o bs) (behind A B) rest (all_append w order u (named d true bs) s.variables ns1 sv) su eb eC po3 (omega arith) be (ee ∙ (let v : i + (n + m) ≡ i + n + m = omega arith in v)) eC pm2e pn2 z.1 d2 in
+        let other = parts_is (binding d true bs s) (c + within e + l) (d + within e + l) (i + n) (i + n) U (λ v. need_block p v rest) (rest_owned G A B o bs) (following A B) rest (all_append w order u (named d true bs) s.variables ns1 sv) su eb eC po3 (omega arith) be (ee ∙ (let v : i + (n + m) ≡ i + n + m = omega arith in v)) eC pm2e pn2 z.1 d2 in
         ap₂ (λ x y. W.node R.Let o xs A.need (MoreTrees x (MoreTrees y NoTrees))) one other
         ∙ node_is R.Let V there have D o xs A.need (MoreTrees T (MoreTrees S NoTrees)) ev ec ex eA
 

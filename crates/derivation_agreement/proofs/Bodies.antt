@@ -6,7 +6,7 @@ use Rattle.tail_groups.specs.fip_trees.Tree.{Argument, Variable, Literal, Constr
 use Rattle.tail_groups.specs.fip_trees.Tree.{Expression, Give, Tuple, Operation, Call, Match, Nested, Block, Last, Let, Clauses, NoClauses, MoreClauses}
 use Rattle.derivation_walk.specs.fip_rules.Marks.{Mark}
 use Rattle.derivation_walk.specs.fip_rules.World.{World, is_fip, weaker, weaker_than, is_weaker}
-use Rattle.derivation_walk.specs.fip_rules.Shapes.{Names, behind, binders, takes, shape}
+use Rattle.derivation_walk.specs.fip_rules.Shapes.{Names, following, binders, takes, shape}
 use Rattle.derivation_making.specs.ownership_calculus.Terms.{Item, Own, Credit, only, one, given, paid, charge}
 use Rattle.derivation_making.specs.ownership_calculus.Terms as T
 use Rattle.derivation_making.specs.ownership_calculus.Rules.{Fits, ValueDerivation, VAR, NONE, MORE, Extends, setting, Derivation, TUPLE, CALL, LET, MATCH, TAKE, WEAKEN, LentDerivation, LENT_LAST, LENT_MORE, TakenDerivation, TAKEN_LAST, TAKEN_MORE}
@@ -152,7 +152,7 @@ taken_clause w s b d x c sc B xs es q u body r h l m y g = (
   within_derived w true s b d (d + length (binders q)) c sc B (binders q) u body r h l g.0 (omega arith) g.1 g.3,
 )
 
--- behind a clause
+-- after a clause
 past_sees : (w : World) (s : Scope) (b d : ℕ) (taken : Bool) (c : Names) (sc : Scalars) (B : ℕ → Bool) (q : Pattern) (body : Block) (x : Option ℕ) (have : Item → ℕ) (us : Trees) (cs : Clauses) → P.DerivesClauses w s (c.next + length (binders q) + Q.within_block body) (d + length (binders q) + Q.within_block body) x have us cs → P.DerivesClauses w s (past_clause w taken c q body).next (d + length (binders q) + Q.within_block body) x have us cs
 past_sees w s b d taken c sc B q body x have us cs g = subst (λ k. P.DerivesClauses w s k (d + length (binders q) + Q.within_block body) x have us cs) (sym (past_next w taken c q body)) g
 
@@ -243,7 +243,7 @@ mutual
   block_derived w (Last e) s d c sc B t h o g = expr_derived w e s d c sc B t h o g
   block_derived w (Let bs e rest) s d c sc B t h o (xs, es, p, q, under, some, numbered, own1, below1, own2, split, body, more) =
       let r : Rising 0 d xs = (under_owned (is_fip w.kind) d t (Branch R.Let xs es (MoreTrees p (MoreTrees q NoTrees))) o under).0 in
-      let n = behind c (shape w c e) in
+      let n = following c (shape w c e) in
       let z = expr_next w c e in
       let a : AreNumbered n.next d bs = subst (λ k. AreNumbered k d bs) (sym z) numbered in
       weakened (is_fip w.kind) s.variables d t (Branch R.Let xs es (MoreTrees p (MoreTrees q NoTrees))) B (term_block w sc c (Let bs e rest)) under

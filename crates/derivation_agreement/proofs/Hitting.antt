@@ -235,27 +235,27 @@ window_before all x f e i (o ∷ os) h =
     let t : not (nat_lt o.expression f) && nat_lt o.expression e ≡ false = and_left (not (nat_lt o.expression f)) (nat_lt o.expression e) (ap not (lt-ltb o.expression f h.1)) in
     ap₂ (λ a b. a || b) (and_right (is_taken_up all o && (o.binder == x)) (not (nat_lt o.expression f) && nat_lt o.expression e) t) (window_before all x f e i os h.2)
 
-window_behind : (all : Bool) (x f e j : ℕ) (os : List Occurrence) → Between e j os → window all x f e os ≡ false
-window_behind all x f e j [] h = refl
-window_behind all x f e j (o ∷ os) h =
+window_after : (all : Bool) (x f e j : ℕ) (os : List Occurrence) → Between e j os → window all x f e os ≡ false
+window_after all x f e j [] h = refl
+window_after all x f e j (o ∷ os) h =
     let t : not (nat_lt o.expression f) && nat_lt o.expression e ≡ false = and_right (not (nat_lt o.expression f)) (nat_lt o.expression e) (le-ltb o.expression e h.0) in
-    ap₂ (λ a b. a || b) (and_right (is_taken_up all o && (o.binder == x)) (not (nat_lt o.expression f) && nat_lt o.expression e) t) (window_behind all x f e j os h.2)
+    ap₂ (λ a b. a || b) (and_right (is_taken_up all o && (o.binder == x)) (not (nat_lt o.expression f) && nat_lt o.expression e) t) (window_after all x f e j os h.2)
 
 -- some of all occurrences: those from expression f to before e
 pub record Part (whole os : List Occurrence) (f e : ℕ) : Type 0 where
   pub end : ℕ
   pub before : List Occurrence
-  pub behind : List Occurrence
-  pub is : whole ≡ before ++ (os ++ behind)
+  pub following : List Occurrence
+  pub is : whole ≡ before ++ (os ++ following)
   pub early : Between 0 f before
   pub here : Between f e os
-  pub late : Between e end behind
+  pub late : Between e end following
 
 pub window_part : (all : Bool) (x f e : ℕ) (whole os : List Occurrence) → Part whole os f e → window all x f e whole ≡ hits all x os
 window_part all x f e whole os h =
-    ap (window all x f e) h.is ∙ window_append all x f e h.before (os ++ h.behind)
-    ∙ ap₂ (λ a b. a || b) (window_before all x f e 0 h.before h.early) (window_append all x f e os h.behind)
-    ∙ ap₂ (λ a b. a || b) (window_inside all x f e os h.here) (window_behind all x f e h.end h.behind h.late)
+    ap (window all x f e) h.is ∙ window_append all x f e h.before (os ++ h.following)
+    ∙ ap₂ (λ a b. a || b) (window_before all x f e 0 h.before h.early) (window_append all x f e os h.following)
+    ∙ ap₂ (λ a b. a || b) (window_inside all x f e os h.here) (window_after all x f e h.end h.following h.late)
     ∙ or_false (hits all x os)
 
 -- the first of two, and the second
@@ -263,19 +263,19 @@ pub part_first : (whole os ps : List Occurrence) (f m e : ℕ) → m ≤ e → P
 part_first whole os ps f m e l h a b = record {
   end = e + h.end;
   before = h.before;
-  behind = ps ++ h.behind;
-  is = h.is ∙ ap (λ z. h.before ++ z) (append_assoc os ps h.behind);
+  following = ps ++ h.following;
+  is = h.is ∙ ap (λ z. h.before ++ z) (append_assoc os ps h.following);
   early = h.early;
   here = a;
-  late = between_append m (e + h.end) ps h.behind (between_wider m e m (e + h.end) ps (omega arith) (omega arith) b) (between_wider e h.end m (e + h.end) h.behind l (omega arith) h.late);
+  late = between_append m (e + h.end) ps h.following (between_wider m e m (e + h.end) ps (omega arith) (omega arith) b) (between_wider e h.end m (e + h.end) h.following l (omega arith) h.late);
 }
 
 pub part_second : (whole os ps : List Occurrence) (f m e : ℕ) → f ≤ m → Part whole (os ++ ps) f e → Between f m os → Between m e ps → Part whole ps m e
 part_second whole os ps f m e l h a b = record {
   end = h.end;
   before = h.before ++ os;
-  behind = h.behind;
-  is = h.is ∙ ap (λ z. h.before ++ z) (append_assoc os ps h.behind) ∙ sym (append_assoc h.before os (ps ++ h.behind));
+  following = h.following;
+  is = h.is ∙ ap (λ z. h.before ++ z) (append_assoc os ps h.following) ∙ sym (append_assoc h.before os (ps ++ h.following));
   early = between_append 0 m h.before os (between_wider 0 f 0 m h.before (omega arith) l h.early) (between_wider f m 0 m os (omega arith) (omega arith) a);
   here = b;
   late = h.late;

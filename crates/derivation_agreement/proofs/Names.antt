@@ -9,7 +9,7 @@ use Rattle.derivation_walk.specs.fip_rules.Marks.{Mark}
 use Rattle.derivation_walk.specs.fip_rules.Shape as S
 use Rattle.derivation_walk.specs.fip_rules.Rules.{next}
 use Rattle.derivation_walk.specs.fip_rules.World.{World, lends, weaker}
-use Rattle.derivation_walk.specs.fip_rules.Shapes.{Names, Bind, token, owning, owning_all, passing, passing_all, called, mark, binds, within, behind, taking, binders, takes, clause_shape, shape, shape_block, shape_clauses}
+use Rattle.derivation_walk.specs.fip_rules.Shapes.{Names, Bind, token, owning, owning_all, passing, passing_all, called, mark, binds, within, following, taking, binders, takes, clause_shape, shape, shape_block, shape_clauses}
 use Rattle.derivation_walk.proofs.fip_rules.Orders.{next_passing}
 use Rattle.derivation_making.specs.derivation_check.Scopes as P
 use Rattle.derivation_making.proofs.Reading.{next_passing_all as passing_all_next}
@@ -72,14 +72,14 @@ mutual
   pub block_next : (w : World) (c : Names) (b : Block) → next c.next (shape_block w c b) ≡ c.next + P.within_block b
   block_next w c (Last e) = expr_next w c e
   block_next w c (Let bs e rest) =
-      let d = behind c (shape w c e) in
+      let d = following c (shape w c e) in
       let h = expr_next w c e in
       let g = scope_next w true d bs rest (block_next w (within d (taking w true bs)) rest) in omega arith
 
   pub clauses_next : (w : World) (t : Bool) (c : Names) (done : S.Shape) (cs : Clauses) → next c.next (shape_clauses w t c done cs) ≡ next c.next done + P.within_clauses cs
   clauses_next w t c done NoClauses = omega arith
   clauses_next w t c done (MoreClauses q body cs) =
-      let d = behind c done in
+      let d = following c done in
       let more = clause_shape d (taking w t (binders q)) (λ f. shape_block w f body) in
       let h = clauses_next w t c (S.Either done more) cs in
       let g = scope_next w t d (binders q) body (block_next w (within d (taking w t (binders q))) body) in omega arith

@@ -21,23 +21,23 @@ use Rattle.tail_groups.proofs.fip_language.Facts.{get_seam, set_length}
 
 pub record Piece {A : Type 0} (whole part : List A) (i : ℕ) : Type 0 where
   pub before : List A
-  pub behind : List A
-  pub is : whole ≡ before ++ (part ++ behind)
+  pub following : List A
+  pub is : whole ≡ before ++ (part ++ following)
   pub at : length before ≡ i
 
 pub piece_first : {A : Type 0} (whole xs ys : List A) (i : ℕ) → Piece whole (xs ++ ys) i → Piece whole xs i
-piece_first whole xs ys i h = record { before = h.before; behind = ys ++ h.behind; is = h.is ∙ ap (λ z. h.before ++ z) (append_assoc xs ys h.behind); at = h.at }
+piece_first whole xs ys i h = record { before = h.before; following = ys ++ h.following; is = h.is ∙ ap (λ z. h.before ++ z) (append_assoc xs ys h.following); at = h.at }
 
 pub piece_second : {A : Type 0} (whole xs ys : List A) (i j : ℕ) → j ≡ i + length xs → Piece whole (xs ++ ys) i → Piece whole ys j
 piece_second whole xs ys i j e h = record {
   before = h.before ++ xs;
-  behind = h.behind;
-  is = h.is ∙ ap (λ z. h.before ++ z) (append_assoc xs ys h.behind) ∙ sym (append_assoc h.before xs (ys ++ h.behind));
+  following = h.following;
+  is = h.is ∙ ap (λ z. h.before ++ z) (append_assoc xs ys h.following) ∙ sym (append_assoc h.before xs (ys ++ h.following));
   at = let l = length-append h.before xs in let a = h.at in omega (arith, l, a, e);
 }
 
 pub piece_get : {A : Type 0} (whole ys : List A) (y : A) (i : ℕ) → Piece whole (y ∷ ys) i → slice_get whole i ≡ Some y
-piece_get whole ys y i h = ap (λ k. slice_get whole k) (sym h.at) ∙ ap (λ z. slice_get z (length h.before)) h.is ∙ get_seam h.before y (ys ++ h.behind)
+piece_get whole ys y i h = ap (λ k. slice_get whole k) (sym h.at) ∙ ap (λ z. slice_get z (length h.before)) h.is ∙ get_seam h.before y (ys ++ h.following)
 
 -- ---- binders from c to before m, each once
 
@@ -79,9 +79,9 @@ distinct_append a b c d (x ∷ xs) ys r q (inr l) h g =
     let m = r.0 in
     (apart_append x.binder xs ys h.0 (apart_ranged x.binder c d ys q (inr (omega (arith, m, l)))), distinct_append a b c d xs ys r.2 q (inr l) h.1 g)
 
-distinct_behind : (xs : List Bound) (v : Bound) (ys : List Bound) → Distinct (xs ++ v ∷ ys) → Apart v.binder ys
-distinct_behind [] v ys h = h.0
-distinct_behind (x ∷ xs) v ys h = distinct_behind xs v ys h.1
+distinct_after : (xs : List Bound) (v : Bound) (ys : List Bound) → Distinct (xs ++ v ∷ ys) → Apart v.binder ys
+distinct_after [] v ys h = h.0
+distinct_after (x ∷ xs) v ys h = distinct_after xs v ys h.1
 
 pub slots_ranged : (w : World) (c d : ℕ) (bs : List Binder) → AreNumbered c d bs → Ranged c (c + length bs) (slots w bs)
 slots_ranged w c d [] h = tt
@@ -303,13 +303,13 @@ ranged_at c m (x ∷ xs) v ys h = ranged_at c m xs v ys h.2
 site : (w : World) (order : List Bound) (u : Uses) (x t d : ℕ) (own : Bool) (vs : List Bound) → IsTable order u → Piece order (record { binder = x; is_scalar = w.scalar t } ∷ vs) d → Sited w order u (record { binder = x; number = d; ty = t; owned = own })
 site w order u x t d own vs h g =
     let v : Bound = record { binder = x; is_scalar = w.scalar t } in
-    let few : x < length order = ranged_at 0 (length order) g.before v (vs ++ g.behind) (subst (Ranged 0 (length order)) g.is h.ranged) in
+    let few : x < length order = ranged_at 0 (length order) g.before v (vs ++ g.following) (subst (Ranged 0 (length order)) g.is h.ranged) in
     let z = zeros_length (length order) in
-    let a : Apart x (vs ++ g.behind) = distinct_behind g.before v (vs ++ g.behind) (subst Distinct g.is h.distinct) in
+    let a : Apart x (vs ++ g.following) = distinct_after g.before v (vs ++ g.following) (subst Distinct g.is h.distinct) in
     record {
       variable = ap (λ q. slice_get q d) h.variables ∙ piece_get order vs v d g;
       number = ap (λ q. get_or q x 0) h.numbers ∙ ap (λ q. get_or (numbers_from (zeros (length order)) 0 q) x 0) g.is
-          ∙ number_here 0 (zeros (length order)) g.before v (vs ++ g.behind) a (omega (arith, z, few)) ∙ (let l = g.at in let e : 0 + length g.before ≡ d = omega (arith, l) in e);
+          ∙ number_here 0 (zeros (length order)) g.before v (vs ++ g.following) a (omega (arith, z, few)) ∙ (let l = g.at in let e : 0 + length g.before ≡ d = omega (arith, l) in e);
       few = few;
     }
 

@@ -1,4 +1,4 @@
--- The laws.
+-- The theorems.
 use Rattle.std.proofs.Common.{◌≡◌, ℕ, suc, ◌≤◌, ◌+◌, refl, List, [], ◌∷◌, length, Some, Bool, true, false, arith}
 use Rattle.std.specs.Prelude.{slice_get, if◌then◌else◌}
 use Rattle.tail_groups.specs.fip_trees.Tree.{Instance, Program}

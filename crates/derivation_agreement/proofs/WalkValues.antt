@@ -46,26 +46,26 @@ given_both y (x ∷ xs) ys = ap (λ n. one x y + n) (given_both y xs ys) ∙ mor
 
 -- ---- the variables of an argument
 
-behind_variable : (g : Guided) (xs : List ℕ) (x : Option ℕ) → owning_variable g xs x ≡ xs ++ owning_variable g [] x
-behind_variable g xs None = sym (append-nil xs)
-behind_variable g xs (Some x) = by (is_scalar_at g.uses (number_at g.uses x))
+after_variable : (g : Guided) (xs : List ℕ) (x : Option ℕ) → owning_variable g xs x ≡ xs ++ owning_variable g [] x
+after_variable g xs None = sym (append-nil xs)
+after_variable g xs (Some x) = by (is_scalar_at g.uses (number_at g.uses x))
   where
     by : (b : Bool) → (if b then xs else xs ++ number_at g.uses x ∷ []) ≡ xs ++ (if b then [] else [] ++ number_at g.uses x ∷ [])
     by true = sym (append-nil xs)
     by false = refl
 
 mutual
-  behind_value : (g : Guided) (xs : List ℕ) (a : Argument) → owning g xs a ≡ xs ++ owning g [] a
-  behind_value g xs (Variable x n p) = behind_variable g xs x
-  behind_value g xs (Literal i p) = sym (append-nil xs)
-  behind_value g xs (Constructor t d c n p as') = behind_values g xs as'
+  after_value : (g : Guided) (xs : List ℕ) (a : Argument) → owning g xs a ≡ xs ++ owning g [] a
+  after_value g xs (Variable x n p) = after_variable g xs x
+  after_value g xs (Literal i p) = sym (append-nil xs)
+  after_value g xs (Constructor t d c n p as') = after_values g xs as'
 
-  behind_values : (g : Guided) (xs : List ℕ) (as' : Arguments) → owning_all g xs as' ≡ xs ++ owning_all g [] as'
-  behind_values g xs NoArguments = sym (append-nil xs)
-  behind_values g xs (MoreArguments a as') =
-      behind_values g (owning g xs a) as' ∙ ap (λ z. z ++ owning_all g [] as') (behind_value g xs a)
+  after_values : (g : Guided) (xs : List ℕ) (as' : Arguments) → owning_all g xs as' ≡ xs ++ owning_all g [] as'
+  after_values g xs NoArguments = sym (append-nil xs)
+  after_values g xs (MoreArguments a as') =
+      after_values g (owning g xs a) as' ∙ ap (λ z. z ++ owning_all g [] as') (after_value g xs a)
       ∙ append_assoc xs (owning g [] a) (owning_all g [] as')
-      ∙ ap (λ z. xs ++ z) (sym (behind_values g (owning g [] a) as'))
+      ∙ ap (λ z. xs ++ z) (sym (after_values g (owning g [] a) as'))
 
 -- ---- what is looked up
 
@@ -160,7 +160,7 @@ module _ (w : World) (order : List Bound) (u : Uses) (ns : List Need) (vs have :
     values_given NoArguments h y = refl
     values_given (MoreArguments a as') h y =
         ap₂ (λ m n. m + n) (value_given a h.0 y) (values_given as' h.1 y)
-        ∙ sym (ap (given y) (behind_values (guide w u ns) (owning (guide w u ns) [] a) as') ∙ given_both y (owning (guide w u ns) [] a) (owning_all (guide w u ns) [] as'))
+        ∙ sym (ap (given y) (after_values (guide w u ns) (owning (guide w u ns) [] a) as') ∙ given_both y (owning (guide w u ns) [] a) (owning_all (guide w u ns) [] as'))
 
   -- ---- trees
 

@@ -86,13 +86,13 @@ instance_is p w d ns t nb z en h k =
     } in
     let occurring : rows u.occurring.items ≡ rows_from true (empty_rows (length order)) os = k.of.occurring ∙ ap₂ (λ x y. rows_from true (empty_rows (length x)) y) ov oo in
     let using : rows u.used.items ≡ rows_from false (empty_rows (length order)) os = k.of.used ∙ ap₂ (λ x y. rows_from false (empty_rows (length x)) y) ov oo in
-    let po : Piece order order 0 = record { before = []; behind = []; is = sym (append-nil order); at = refl } in
+    let po : Piece order order 0 = record { before = []; following = []; is = sym (append-nil order); at = refl } in
     let po1 = piece_first order (parameter_slots w 0 ps) (slots_parts w b) 0 po in
     let po2 = piece_second order (parameter_slots w 0 ps) (slots_parts w b) 0 n (omega (arith, lp)) po in
     let ss = parameters_sited w order u 0 ps table po1 in
-    let pn : Piece ns (block_needs p b) 0 = record { before = []; behind = []; is = en ∙ sym (append-nil (block_needs p b)); at = refl } in
+    let pn : Piece ns (block_needs p b) 0 = record { before = []; following = []; is = en ∙ sym (append-nil (block_needs p b)); at = refl } in
     let qa = block_asked p w order u ns os table occurring using 0 b pn in
-    let pm : Part os (marks_parts w 1 b) 0 (1 + size_parts b) = record { end = 1 + size_parts b; before = []; behind = []; is = sym (append-nil os); early = tt; here = between_wider 1 (1 + size_parts b) 0 (1 + size_parts b) os (omega arith) (omega arith) (parts_between w 1 b); late = tt } in
+    let pm : Part os (marks_parts w 1 b) 0 (1 + size_parts b) = record { end = 1 + size_parts b; before = []; following = []; is = sym (append-nil os); early = tt; here = between_wider 1 (1 + size_parts b) 0 (1 + size_parts b) os (omega arith) (omega arith) (parts_between w 1 b); late = tt } in
     let G : Guided = guide w u ns in
     k.is ∙ parts_is p w order u ns os table occurring using s n n 0 1 (owned_ones w (parameters 0 ps)) (λ j. marked j d.credits) (record { variables = owned_parameters G [] 0 ps; credits = marked_from no_sizes d.credits }) (asked G 0) b ss (owned_sited w order u (parameters 0 ps) ss) (owned_is w order u ns 0 [] ps ss) (record { long = marked_long no_sizes d.credits none_long; at = λ j l m. marked_at j l m d.credits }) po2 (omega arith) qa.0 qa.1 qa.2 pm (inner_needs p w order u ns os table occurring using 0 1 b refl pn) z h.4
   where
@@ -146,4 +146,4 @@ module _ (p : Program) (nss : List (List Need)) (same : nss ≡ all_needs p p.in
 
 pub program_is : (p : Program) (nss : List (List Need)) (es : List Entry) → nss ≡ all_needs p p.instances → AllNumbered p p.instances → AreSized p p.instances → IsDerivation p (made_entries p 0 p.instances) → AreWalked p nss 0 p.instances es → es ≡ made_entries p 0 p.instances
 program_is p nss es same an az h k =
-    entries_is p nss same 0 p.instances es (record { before = []; behind = []; is = sym (append-nil p.instances); at = refl }) an az h k
+    entries_is p nss same 0 p.instances es (record { before = []; following = []; is = sym (append-nil p.instances); at = refl }) an az h k

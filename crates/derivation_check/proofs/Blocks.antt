@@ -21,7 +21,7 @@ use Rattle.derivation_trees.specs.declared.derivation.Node.{Node}
 use Rattle.derivation_trees.specs.Trees.{Tree, Missing, Branch, Trees, NoTrees, MoreTrees}
 use Rattle.derivation_trees.specs.declared.derivation.RuleName.TheVariants as R
 use Rattle.derivation_check.specs.Owned.{owned, root, Rising, IsOwned, Under}
-use Rattle.derivation_check.specs.Places.{at, parts, node_with, behind}
+use Rattle.derivation_check.specs.Places.{at, parts, node_with, following}
 use Rattle.derivation_check.specs.Scopes.{Scope, binding, lending, AreNumbered, within, within_block, within_clauses}
 use Rattle.derivation_check.specs.ScopeView.{bindings, AreBindings}
 use Rattle.derivation_check.specs.Calculus.{bound, own_variables, is_taken, IsClause, GoesOn, Matches, Derives, DerivesBlock, DerivesClauses}
@@ -127,7 +127,7 @@ block_end w s t c d ns first bs last count place i more k h l q e m g = (
   subst (DerivesBlock w s c d (at ns first)) (sym e) (h.up (subst (λ xs. DerivesBlock w (bindings d (map V.binding xs) s) (c + count) (d + count) (at ns place) (block_of (map V.binding (drop i bs)) last)) (sym (take_past bs i l)) (subst (λ xs. DerivesBlock w (bindings d (map V.binding bs) s) (c + count) (d + count) (at ns place) (block_of (map V.binding xs) last)) (sym (drop_end bs i l)) (subst (λ u. DerivesBlock w u (c + count) (d + count) (at ns place) (T.Last last)) q g)))),
 )
 
--- the expression behind the bindings
+-- the expression after the bindings
 pub block_over : (w : World) (s t : Scope) (c d : ℕ) (ns : List Node) (first : ℕ) (bs : List N.Binding) (last : T.Expression) (count place i : ℕ) (k : T.Block) → BlockAt w s c d ns first bs last count place i → length bs ≤ i → t ≡ bindings d (map V.binding bs) s → k ≡ block_of (map V.binding bs) last → DerivesBlock w s c d (at ns first) k → Derives w t (c + count) (d + count) (at ns place) last
 block_over w s t c d ns first bs last count place i k h l q e g =
     subst (λ u. Derives w u (c + count) (d + count) (at ns place) last) (sym q) (subst (λ xs. DerivesBlock w (bindings d (map V.binding bs) s) (c + count) (d + count) (at ns place) (block_of (map V.binding xs) last)) (drop_end bs i l) (subst (λ xs. DerivesBlock w (bindings d (map V.binding xs) s) (c + count) (d + count) (at ns place) (block_of (map V.binding (drop i bs)) last)) (take_past bs i l) (h.down (subst (DerivesBlock w s c d (at ns first)) e g))))
@@ -154,17 +154,17 @@ clauses_start w s c d x have ns first all cs r =
       down = λ h. subst (λ k. DerivesClauses w s (c + 0) k x have (parts ns first all) (V.clauses (drop 0 cs))) (sym b) (subst (λ k. DerivesClauses w s k d x have (parts ns first all) (V.clauses (drop 0 cs))) (sym a) (subst (λ xs. DerivesClauses w s c d x have (parts ns first all) (V.clauses xs)) (sym (drop_zero cs)) h));
     }
 
--- the clause at a place, and those behind it
-pub clauses_here : (w : World) (s : Scope) (c d : ℕ) (x : Option ℕ) (have : Item → ℕ) (ns : List Node) (first all : ℕ) (cs : List L.Clause) (count place left i next : ℕ) (k : L.Clause) → ClausesAt w s c d x have ns first all cs count place left i → i < length cs → k ≡ get_or cs i k → 0 < left → parts ns next (left - 1) ≡ parts ns (behind ns place) (left - 1) → DerivesClauses w s c d x have (parts ns first all) (V.clauses cs) → IsClause w (c + count) (d + count) x have (at ns place) (V.clause k).pattern (DerivesBlock w (binding (d + count) (is_taken x) (binders (V.clause k).pattern) s) (c + count + length (binders (V.clause k).pattern)) (d + count + length (binders (V.clause k).pattern)) (at ns place) (V.clause k).body) × DerivesClauses w s (c + count + length (binders (V.clause k).pattern) + within_block (V.clause k).body) (d + count + length (binders (V.clause k).pattern) + within_block (V.clause k).body) x have (parts ns next (left - 1)) (V.clauses (drop (i + 1) cs))
+-- the clause at a place, and those after it
+pub clauses_here : (w : World) (s : Scope) (c d : ℕ) (x : Option ℕ) (have : Item → ℕ) (ns : List Node) (first all : ℕ) (cs : List L.Clause) (count place left i next : ℕ) (k : L.Clause) → ClausesAt w s c d x have ns first all cs count place left i → i < length cs → k ≡ get_or cs i k → 0 < left → parts ns next (left - 1) ≡ parts ns (following ns place) (left - 1) → DerivesClauses w s c d x have (parts ns first all) (V.clauses cs) → IsClause w (c + count) (d + count) x have (at ns place) (V.clause k).pattern (DerivesBlock w (binding (d + count) (is_taken x) (binders (V.clause k).pattern) s) (c + count + length (binders (V.clause k).pattern)) (d + count + length (binders (V.clause k).pattern)) (at ns place) (V.clause k).body) × DerivesClauses w s (c + count + length (binders (V.clause k).pattern) + within_block (V.clause k).body) (d + count + length (binders (V.clause k).pattern) + within_block (V.clause k).body) x have (parts ns next (left - 1)) (V.clauses (drop (i + 1) cs))
 clauses_here w s c d x have ns first all cs count place left i next k h l e z p g = subst (λ xs. DerivesClauses w s (c + count) (d + count) x have (MoreTrees (at ns place) (parts ns next (left - 1))) (V.clauses xs)) (drop_item cs i k k l e) (subst (λ ts. DerivesClauses w s (c + count) (d + count) x have ts (V.clauses (drop i cs))) (row_first ns place next left z p) (h.down g))
 
 pub clauses_short : (w : World) (s : Scope) (c d : ℕ) (x : Option ℕ) (have : Item → ℕ) (ns : List Node) (first all : ℕ) (cs : List L.Clause) (count place left i : ℕ) (k : L.Clause) → ClausesAt w s c d x have ns first all cs count place left i → i < length cs → k ≡ get_or cs i k → left ≡ 0 → DerivesClauses w s c d x have (parts ns first all) (V.clauses cs) → ⊥
 clauses_short w s c d x have ns first all cs count place left i k h l e z g = subst (λ xs. DerivesClauses w s (c + count) (d + count) x have NoTrees (V.clauses xs)) (drop_item cs i k k l e) (subst (λ ts. DerivesClauses w s (c + count) (d + count) x have ts (V.clauses (drop i cs))) (row_none ns place left (omega arith)) (h.down g))
 
 pub clauses_long : (w : World) (s : Scope) (c d : ℕ) (x : Option ℕ) (have : Item → ℕ) (ns : List Node) (first all : ℕ) (cs : List L.Clause) (count place left i : ℕ) → ClausesAt w s c d x have ns first all cs count place left i → length cs ≤ i → 0 < left → DerivesClauses w s c d x have (parts ns first all) (V.clauses cs) → ⊥
-clauses_long w s c d x have ns first all cs count place left i h l z g = subst (λ ts. DerivesClauses w s (c + count) (d + count) x have ts T.NoClauses) (row_first ns place (behind ns place) left z refl) (subst (λ xs. DerivesClauses w s (c + count) (d + count) x have (parts ns place left) (V.clauses xs)) (drop_end cs i l) (h.down g))
+clauses_long w s c d x have ns first all cs count place left i h l z g = subst (λ ts. DerivesClauses w s (c + count) (d + count) x have ts T.NoClauses) (row_first ns place (following ns place) left z refl) (subst (λ xs. DerivesClauses w s (c + count) (d + count) x have (parts ns place left) (V.clauses xs)) (drop_end cs i l) (h.down g))
 
-pub clauses_step : (w : World) (s : Scope) (c d : ℕ) (x : Option ℕ) (have : Item → ℕ) (ns : List Node) (first all : ℕ) (cs : List L.Clause) (count place left i more next : ℕ) (k : L.Clause) → ClausesAt w s c d x have ns first all cs count place left i → i < length cs → k ≡ get_or cs i k → 0 < left → parts ns next (left - 1) ≡ parts ns (behind ns place) (left - 1) → more ≡ length (binders (V.clause k).pattern) + within_block (V.clause k).body → d + count + more ≤ 4294967296 → IsClause w (c + count) (d + count) x have (at ns place) (V.clause k).pattern (DerivesBlock w (binding (d + count) (is_taken x) (binders (V.clause k).pattern) s) (c + count + length (binders (V.clause k).pattern)) (d + count + length (binders (V.clause k).pattern)) (at ns place) (V.clause k).body) → ClausesAt w s c d x have ns first all cs (count + more) next (left - 1) (i + 1)
+pub clauses_step : (w : World) (s : Scope) (c d : ℕ) (x : Option ℕ) (have : Item → ℕ) (ns : List Node) (first all : ℕ) (cs : List L.Clause) (count place left i more next : ℕ) (k : L.Clause) → ClausesAt w s c d x have ns first all cs count place left i → i < length cs → k ≡ get_or cs i k → 0 < left → parts ns next (left - 1) ≡ parts ns (following ns place) (left - 1) → more ≡ length (binders (V.clause k).pattern) + within_block (V.clause k).body → d + count + more ≤ 4294967296 → IsClause w (c + count) (d + count) x have (at ns place) (V.clause k).pattern (DerivesBlock w (binding (d + count) (is_taken x) (binders (V.clause k).pattern) s) (c + count + length (binders (V.clause k).pattern)) (d + count + length (binders (V.clause k).pattern)) (at ns place) (V.clause k).body) → ClausesAt w s c d x have ns first all cs (count + more) next (left - 1) (i + 1)
 clauses_step w s c d x have ns first all cs count place left i more next k h l e z p m r g =
     let v : c + (count + more) ≡ c + count + length (binders (V.clause k).pattern) + within_block (V.clause k).body = omega arith in
     let u : d + (count + more) ≡ d + count + length (binders (V.clause k).pattern) + within_block (V.clause k).body = omega arith in
@@ -181,21 +181,21 @@ clauses_end w s c d x have ns first all cs count place left i h l z = (
   h.up (subst (λ xs. DerivesClauses w s (c + count) (d + count) x have (parts ns place left) (V.clauses xs)) (sym (drop_end cs i l)) (subst (λ ts. DerivesClauses w s (c + count) (d + count) x have ts T.NoClauses) (sym (row_none ns place left z)) _)),
 )
 
-pub match_clauses : (w : World) (s : Scope) (c d : ℕ) (x : Option ℕ) (have : Item → ℕ) (ns : List Node) (i j n one : ℕ) (k : L.Clause) (cs : T.Clauses) → 0 < n → parts ns j (n - 1) ≡ parts ns (behind ns i) (n - 1) → one ≡ length (binders (V.clause k).pattern) + within_block (V.clause k).body → IsClause w c d x have (at ns i) (V.clause k).pattern (DerivesBlock w (binding d (is_taken x) (binders (V.clause k).pattern) s) (c + length (binders (V.clause k).pattern)) (d + length (binders (V.clause k).pattern)) (at ns i) (V.clause k).body) → DerivesClauses w s (c + one) (d + one) x have (parts ns j (n - 1)) cs → AllClauses w s c d (V.clause k).pattern (V.clause k).body cs x have (parts ns i n)
+pub match_clauses : (w : World) (s : Scope) (c d : ℕ) (x : Option ℕ) (have : Item → ℕ) (ns : List Node) (i j n one : ℕ) (k : L.Clause) (cs : T.Clauses) → 0 < n → parts ns j (n - 1) ≡ parts ns (following ns i) (n - 1) → one ≡ length (binders (V.clause k).pattern) + within_block (V.clause k).body → IsClause w c d x have (at ns i) (V.clause k).pattern (DerivesBlock w (binding d (is_taken x) (binders (V.clause k).pattern) s) (c + length (binders (V.clause k).pattern)) (d + length (binders (V.clause k).pattern)) (at ns i) (V.clause k).body) → DerivesClauses w s (c + one) (d + one) x have (parts ns j (n - 1)) cs → AllClauses w s c d (V.clause k).pattern (V.clause k).body cs x have (parts ns i n)
 match_clauses w s c d x have ns i j n one k cs l p m g h =
     let v : c + one ≡ c + length (binders (V.clause k).pattern) + within_block (V.clause k).body = omega arith in
     let u : d + one ≡ d + length (binders (V.clause k).pattern) + within_block (V.clause k).body = omega arith in
     subst (AllClauses w s c d (V.clause k).pattern (V.clause k).body cs x have) (sym (row_first ns i j n l p)) (g, subst (λ m. DerivesClauses w s m (d + length (binders (V.clause k).pattern) + within_block (V.clause k).body) x have (parts ns j (n - 1)) cs) v (subst (λ m. DerivesClauses w s (c + one) m x have (parts ns j (n - 1)) cs) u h))
 
--- the first clause and those behind it, of a match
-pub clauses_match : (w : World) (s : Scope) (c d : ℕ) (x : Option ℕ) (have : Item → ℕ) (ns : List Node) (i j n one : ℕ) (k : L.Clause) (cs : T.Clauses) → 0 < n → parts ns j (n - 1) ≡ parts ns (behind ns i) (n - 1) → one ≡ length (binders (V.clause k).pattern) + within_block (V.clause k).body → AllClauses w s c d (V.clause k).pattern (V.clause k).body cs x have (parts ns i n) → DerivesClauses w s (c + one) (d + one) x have (parts ns j (n - 1)) cs
+-- the first clause and those after it, of a match
+pub clauses_match : (w : World) (s : Scope) (c d : ℕ) (x : Option ℕ) (have : Item → ℕ) (ns : List Node) (i j n one : ℕ) (k : L.Clause) (cs : T.Clauses) → 0 < n → parts ns j (n - 1) ≡ parts ns (following ns i) (n - 1) → one ≡ length (binders (V.clause k).pattern) + within_block (V.clause k).body → AllClauses w s c d (V.clause k).pattern (V.clause k).body cs x have (parts ns i n) → DerivesClauses w s (c + one) (d + one) x have (parts ns j (n - 1)) cs
 clauses_match w s c d x have ns i j n one k cs l p m g =
     let v : c + one ≡ c + length (binders (V.clause k).pattern) + within_block (V.clause k).body = omega arith in
     let u : d + one ≡ d + length (binders (V.clause k).pattern) + within_block (V.clause k).body = omega arith in
     subst (λ m. DerivesClauses w s (c + one) m x have (parts ns j (n - 1)) cs) (sym u) (subst (λ m. DerivesClauses w s m (d + length (binders (V.clause k).pattern) + within_block (V.clause k).body) x have (parts ns j (n - 1)) cs) (sym v) (subst (AllClauses w s c d (V.clause k).pattern (V.clause k).body cs x have) (row_first ns i j n l p) g).1)
 
 pub clause_match : (w : World) (s : Scope) (c d : ℕ) (x : Option ℕ) (have : Item → ℕ) (ns : List Node) (i n : ℕ) (k : L.Clause) (cs : T.Clauses) → 0 < n → AllClauses w s c d (V.clause k).pattern (V.clause k).body cs x have (parts ns i n) → IsClause w c d x have (at ns i) (V.clause k).pattern (DerivesBlock w (binding d (is_taken x) (binders (V.clause k).pattern) s) (c + length (binders (V.clause k).pattern)) (d + length (binders (V.clause k).pattern)) (at ns i) (V.clause k).body)
-clause_match w s c d x have ns i n k cs l g = (subst (AllClauses w s c d (V.clause k).pattern (V.clause k).body cs x have) (row_first ns i (behind ns i) n l refl) g).0
+clause_match w s c d x have ns i n k cs l g = (subst (AllClauses w s c d (V.clause k).pattern (V.clause k).body cs x have) (row_first ns i (following ns i) n l refl) g).0
 
 pub none_match : (w : World) (s : Scope) (c d : ℕ) (x : Option ℕ) (have : Item → ℕ) (ns : List Node) (i n : ℕ) (q : T.Pattern) (body : T.Block) (cs : T.Clauses) → n ≡ 0 → AllClauses w s c d q body cs x have (parts ns i n) → ⊥
 none_match w s c d x have ns i n q body cs e g = subst (AllClauses w s c d q body cs x have) (row_none ns i n (omega arith)) g
@@ -238,7 +238,7 @@ match_count e m u p a b v k cs n i f g h =
     ∙ ap (λ zs. length (binders (V.clause b.value).pattern) + within_block (V.clause b.value).body + within_clauses (V.clauses zs)) g
     ∙ sym (ap within (ap V.expression i ∙ expression_match m u p a b v))
 
-pub match_whole : (w : World) (s : Scope) (c d : ℕ) (t : Tree) (e : E.Expression) (m : MatchKind) (u : ℕ) (p : Place) (a : A.Argument) (b : Box L.Clause Global) (v : Vec L.Clause Global) (k : L.Clause) (cs : List L.Clause) (o : Option ℕ) (xs : List ℕ) (es : List C.Credit) (ns : List Node) (i j n one : ℕ) (r : Bool) → e ≡ EV.Match m u p a b v → r ≡ takes w (V.is_destructive m) u → (r ≡ true → IsSomeAnd o (λ x. IsTaking w s d (V.argument a) t x xs es (parts ns i n))) → (r ≡ false → (o ≡ None) × IsLending w s d (V.argument a) t xs es (parts ns i n)) → k ≡ b.value → cs ≡ v.items → 0 < n → parts ns j (n - 1) ≡ parts ns (behind ns i) (n - 1) → one ≡ length (binders (V.clause k).pattern) + within_block (V.clause k).body → IsClause w c d o (owned xs es) (at ns i) (V.clause k).pattern (DerivesBlock w (binding d (is_taken o) (binders (V.clause k).pattern) s) (c + length (binders (V.clause k).pattern)) (d + length (binders (V.clause k).pattern)) (at ns i) (V.clause k).body) → DerivesClauses w s (c + one) (d + one) o (owned xs es) (parts ns j (n - 1)) (V.clauses cs) → Derives w s c d t (V.expression e)
+pub match_whole : (w : World) (s : Scope) (c d : ℕ) (t : Tree) (e : E.Expression) (m : MatchKind) (u : ℕ) (p : Place) (a : A.Argument) (b : Box L.Clause Global) (v : Vec L.Clause Global) (k : L.Clause) (cs : List L.Clause) (o : Option ℕ) (xs : List ℕ) (es : List C.Credit) (ns : List Node) (i j n one : ℕ) (r : Bool) → e ≡ EV.Match m u p a b v → r ≡ takes w (V.is_destructive m) u → (r ≡ true → IsSomeAnd o (λ x. IsTaking w s d (V.argument a) t x xs es (parts ns i n))) → (r ≡ false → (o ≡ None) × IsLending w s d (V.argument a) t xs es (parts ns i n)) → k ≡ b.value → cs ≡ v.items → 0 < n → parts ns j (n - 1) ≡ parts ns (following ns i) (n - 1) → one ≡ length (binders (V.clause k).pattern) + within_block (V.clause k).body → IsClause w c d o (owned xs es) (at ns i) (V.clause k).pattern (DerivesBlock w (binding d (is_taken o) (binders (V.clause k).pattern) s) (c + length (binders (V.clause k).pattern)) (d + length (binders (V.clause k).pattern)) (at ns i) (V.clause k).body) → DerivesClauses w s (c + one) (d + one) o (owned xs es) (parts ns j (n - 1)) (V.clauses cs) → Derives w s c d t (V.expression e)
 match_whole w s c d t e m u p a b v k cs o xs es ns i j n one r f g h l x y z q one' g1 g2 =
     by r g h l
   where
@@ -287,13 +287,13 @@ pub owned_up : (d e : ℕ) (t : Tree) → d ≤ e → IsOwned d t → IsOwned e 
 owned_up d e Missing l h = absurd h
 owned_up d e (Branch r xs cs ts) l h = (rising_more 0 d e xs l h.0, h.1)
 
-pub let_made : (w : World) (s t : Scope) (c d : ℕ) (u : Tree) (ns : List Node) (n : Node) (j r : ℕ) (b : N.Binding) (bs : List Binder) (e : T.Expression) (used : List ℕ) (rest : T.Block) (count : ℕ) → n.rule ≡ R.Let → Under (is_fip w.kind) d u (node_with ns j n) → n.parts ≡ 2 → (V.binding b).binders ≡ bs → (V.binding b).bound ≡ e → 0 < length bs → AreNumbered (c + count) d bs → IsOwned d (at ns j) → ((i : Item) → root (at ns j) i ≤ owned n.variables.items n.credits.items i) → at ns r ≡ at ns (behind ns j) → IsOwned (d + length bs) (at ns r) → ((i : Item) → owned n.variables.items n.credits.items i + bound w d bs i ≡ root (at ns j) i + root (at ns r) i) → t ≡ lending n.variables.items used s → own_variables (at ns j) ≡ used → count ≡ within e → Derives w t c (d + length bs) (at ns j) e → DerivesBlock w (binding d true (V.binding b).binders s) (c + (count + length bs)) (d + (count + length bs)) (at ns r) rest → DerivesBlock w s c d u (T.Let (V.binding b).binders (V.binding b).bound rest)
+pub let_made : (w : World) (s t : Scope) (c d : ℕ) (u : Tree) (ns : List Node) (n : Node) (j r : ℕ) (b : N.Binding) (bs : List Binder) (e : T.Expression) (used : List ℕ) (rest : T.Block) (count : ℕ) → n.rule ≡ R.Let → Under (is_fip w.kind) d u (node_with ns j n) → n.parts ≡ 2 → (V.binding b).binders ≡ bs → (V.binding b).bound ≡ e → 0 < length bs → AreNumbered (c + count) d bs → IsOwned d (at ns j) → ((i : Item) → root (at ns j) i ≤ owned n.variables.items n.credits.items i) → at ns r ≡ at ns (following ns j) → IsOwned (d + length bs) (at ns r) → ((i : Item) → owned n.variables.items n.credits.items i + bound w d bs i ≡ root (at ns j) i + root (at ns r) i) → t ≡ lending n.variables.items used s → own_variables (at ns j) ≡ used → count ≡ within e → Derives w t c (d + length bs) (at ns j) e → DerivesBlock w (binding d true (V.binding b).binders s) (c + (count + length bs)) (d + (count + length bs)) (at ns r) rest → DerivesBlock w s c d u (T.Let (V.binding b).binders (V.binding b).bound rest)
 let_made w s t c d u ns n j r b bs e used rest count rule under two is1 is2 some numbered own within1 at2 own2 split sc used1 cnt body more =
     subst (λ xs. DerivesBlock w s c d u (T.Let xs (V.binding b).bound rest)) (sym is1) (subst (λ f. DerivesBlock w s c d u (T.Let bs f rest)) (sym is2) (
       n.variables.items,
       n.credits.items,
       at ns j,
-      at ns (behind ns j),
+      at ns (following ns j),
       subst (λ k. Under (is_fip w.kind) d u (Branch R.Let n.variables.items n.credits.items (parts ns j k))) two (subst (λ q. Under (is_fip w.kind) d u (Branch q n.variables.items n.credits.items (parts ns j n.parts))) rule under),
       some,
       subst (λ k. AreNumbered (c + k) d bs) cnt numbered,
@@ -311,15 +311,15 @@ pub record LetParts (w : World) (s : Scope) (c d : ℕ) (ns : List Node) (n : No
   pub some : 0 < length bs
   pub numbered : AreNumbered (c + within e) d bs
   pub bound_owned : IsOwned d (at ns j)
-  pub rest_owned : IsOwned (d + length bs) (at ns (behind ns j))
-  pub split : (i : Item) → owned n.variables.items n.credits.items i + bound w d bs i ≡ root (at ns j) i + root (at ns (behind ns j)) i
+  pub rest_owned : IsOwned (d + length bs) (at ns (following ns j))
+  pub split : (i : Item) → owned n.variables.items n.credits.items i + bound w d bs i ≡ root (at ns j) i + root (at ns (following ns j)) i
   pub body : Derives w (lending n.variables.items (own_variables (at ns j)) s) c (d + length bs) (at ns j) e
-  pub more : DerivesBlock w (binding d true bs s) (c + within e + length bs) (d + within e + length bs) (at ns (behind ns j)) rest
+  pub more : DerivesBlock w (binding d true bs s) (c + within e + length bs) (d + within e + length bs) (at ns (following ns j)) rest
 
 trees_rest : {t u : Tree} {ts us : Trees} → MoreTrees t ts ≡ MoreTrees u us → ts ≡ us
 trees_rest e = cc
 
-two_parts : (ns : List Node) (j m : ℕ) (p q : Tree) → parts ns j m ≡ MoreTrees p (MoreTrees q NoTrees) → (m ≡ 2) × (p ≡ at ns j) × (q ≡ at ns (behind ns j))
+two_parts : (ns : List Node) (j m : ℕ) (p q : Tree) → parts ns j m ≡ MoreTrees p (MoreTrees q NoTrees) → (m ≡ 2) × (p ≡ at ns j) × (q ≡ at ns (following ns j))
 two_parts ns j zero p q e = absurd (cc)
 two_parts ns j (suc zero) p q e = absurd (let f : NoTrees ≡ MoreTrees q NoTrees = trees_rest e in cc)
 two_parts ns j (suc (suc zero)) p q e = (refl, sym (trees_first e), sym (trees_first (trees_rest e)))
@@ -340,7 +340,7 @@ let_parts w s c d u ns n j bs e rest only (xs, cs, p, q, under, some, numbered, 
       numbered = numbered;
       bound_owned = subst (IsOwned d) g.1 own;
       rest_owned = subst (IsOwned (d + length bs)) g.2 own2;
-      split = subst (λ ys. (i : Item) → owned ys n.credits.items i + bound w d bs i ≡ root (at ns j) i + root (at ns (behind ns j)) i) (sym a) (subst (λ es. (i : Item) → owned xs es i + bound w d bs i ≡ root (at ns j) i + root (at ns (behind ns j)) i) (sym b) (subst (λ v. (i : Item) → owned xs cs i + bound w d bs i ≡ root v i + root (at ns (behind ns j)) i) g.1 (subst (λ v. (i : Item) → owned xs cs i + bound w d bs i ≡ root p i + root v i) g.2 split)));
+      split = subst (λ ys. (i : Item) → owned ys n.credits.items i + bound w d bs i ≡ root (at ns j) i + root (at ns (following ns j)) i) (sym a) (subst (λ es. (i : Item) → owned xs es i + bound w d bs i ≡ root (at ns j) i + root (at ns (following ns j)) i) (sym b) (subst (λ v. (i : Item) → owned xs cs i + bound w d bs i ≡ root v i + root (at ns (following ns j)) i) g.1 (subst (λ v. (i : Item) → owned xs cs i + bound w d bs i ≡ root p i + root v i) g.2 split)));
       body = subst (λ ys. Derives w (lending ys (own_variables (at ns j)) s) c (d + length bs) (at ns j) e) (sym a) (subst (λ v. Derives w (lending xs (own_variables v) s) c (d + length bs) v e) g.1 body);
       more = subst (λ v. DerivesBlock w (binding d true bs s) (c + within e + length bs) (d + within e + length bs) v rest) g.2 more;
     }
@@ -350,12 +350,12 @@ numbered_room c d [] h l = absurd (omega arith)
 numbered_room c d (b ∷ []) h l = let a = h.1 in omega arith
 numbered_room c d (b ∷ e ∷ bs) h l = let g = numbered_room (c + 1) (d + 1) (e ∷ bs) h.2 (omega arith) in omega arith
 
--- behind a let
-pub let_more : (w : World) (s : Scope) (c d : ℕ) (ns : List Node) (n : Node) (j r count : ℕ) (bs : List Binder) (e : T.Expression) (rest : T.Block) → LetParts w s c d ns n j bs e rest → at ns r ≡ at ns (behind ns j) → count ≡ within e → DerivesBlock w (binding d true bs s) (c + (count + length bs)) (d + (count + length bs)) (at ns r) rest
+-- after a let
+pub let_more : (w : World) (s : Scope) (c d : ℕ) (ns : List Node) (n : Node) (j r count : ℕ) (bs : List Binder) (e : T.Expression) (rest : T.Block) → LetParts w s c d ns n j bs e rest → at ns r ≡ at ns (following ns j) → count ≡ within e → DerivesBlock w (binding d true bs s) (c + (count + length bs)) (d + (count + length bs)) (at ns r) rest
 let_more w s c d ns n j r count bs e rest h a m =
     let x : c + within e + length bs ≡ c + (count + length bs) = omega arith in
     let y : d + within e + length bs ≡ d + (count + length bs) = omega arith in
-    subst (λ v. DerivesBlock w (binding d true bs s) (c + (count + length bs)) (d + (count + length bs)) v rest) (sym a) (subst (λ k. DerivesBlock w (binding d true bs s) (c + (count + length bs)) k (at ns (behind ns j)) rest) y (subst (λ k. DerivesBlock w (binding d true bs s) k (d + within e + length bs) (at ns (behind ns j)) rest) x h.more))
+    subst (λ v. DerivesBlock w (binding d true bs s) (c + (count + length bs)) (d + (count + length bs)) v rest) (sym a) (subst (λ k. DerivesBlock w (binding d true bs s) (c + (count + length bs)) k (at ns (following ns j)) rest) y (subst (λ k. DerivesBlock w (binding d true bs s) k (d + within e + length bs) (at ns (following ns j)) rest) x h.more))
 
 pub let_body : (w : World) (s t : Scope) (c d : ℕ) (ns : List Node) (n : Node) (j : ℕ) (bs : List Binder) (e f : T.Expression) (used : List ℕ) (rest : T.Block) → LetParts w s c d ns n j bs e rest → t ≡ lending n.variables.items used s → own_variables (at ns j) ≡ used → e ≡ f → Derives w t c (d + length bs) (at ns j) f
 let_body w s t c d ns n j bs e f used rest h q u i = subst (Derives w t c (d + length bs) (at ns j)) i (subst (λ v. Derives w v c (d + length bs) (at ns j) e) (sym q) (subst (λ ys. Derives w (lending n.variables.items ys s) c (d + length bs) (at ns j) e) u h.body))

@@ -121,7 +121,7 @@ same_rising n d m e (x ∷ xs) (y ∷ ys) h g s = by (λ f. same_rising (x + 1) 
         let f : x ≡ y = omega arith in
         heads f (r f)
 
--- behind a number that isn't below b, none is
+-- after a number that isn't below b, none is
 pub high_part : (n d i b x y : ℕ) (xs : List ℕ) → Rising n d xs → i < length xs → x ≡ get_or xs i 0 → b ≤ x → y < b → given y (drop i xs) ≡ 0
 high_part n d i b x y xs h l e g s =
     let t = drop_rising n d i xs h in

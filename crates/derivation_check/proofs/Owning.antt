@@ -125,7 +125,7 @@ owns_room w owned ps d q e p i a h l s r =
     let y = length_more (binders (V.pattern a)) (binders_all (V.patterns (drop (i + 1) ps))) in
     let z = h.next in omega arith
 
--- the binders of the pattern at a place, and those behind it
+-- the binders of the pattern at a place, and those after it
 owns_split : (w : World) (e : ℕ) (ps : List P.Pattern) (i : ℕ) (a : P.Pattern) (bs : List Binder) → i < length ps → a ≡ get_or ps i a → numbers w e (binders (V.pattern a) ++ (binders_all (V.patterns (drop (i + 1) ps)) ++ bs)) ≡ numbers w e (binders_all (V.patterns (drop i ps)) ++ bs)
 owns_split w e ps i a bs l s = ap (numbers w e) (append_assoc (binders (V.pattern a)) (binders_all (V.patterns (drop (i + 1) ps))) bs ∙ ap (λ (us : List Binder). us ++ bs) (sym (patterns_binders ps i a l s)))
 

@@ -11,7 +11,7 @@ use Rattle.fip_trees.proofs.TreeViews.{argument_constructor, count_view}
 use Rattle.fip_rules.specs.World.{World}
 use Rattle.derivation_trees.specs.declared.derivation.Node.{Node}
 use Rattle.derivation_trees.specs.Trees.{Tree, Trees, NoTrees, MoreTrees}
-use Rattle.derivation_check.specs.Places.{at, parts, behind}
+use Rattle.derivation_check.specs.Places.{at, parts, following}
 use Rattle.derivation_check.specs.Scopes.{Known, Scope}
 use Rattle.derivation_check.specs.Calculus.{Choice, Plain, Lends, FirstOf, DerivesValue, DerivesPassed}
 use Rattle.derivation_check.proofs.Numbers.{drop_item, drop_end, drop_nothing}

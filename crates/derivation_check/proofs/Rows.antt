@@ -6,7 +6,7 @@ use Rattle.derivation_trees.specs.Trees.{Tree, Missing, Branch, Trees, NoTrees, 
 use Rattle.derivation_trees.proofs.Places.{tree_is, tree_missing}
 use Rattle.ownership_calculus.specs.Terms.{Item, Own, Credit, given}
 use Rattle.derivation_check.specs.Owned.{IsOwned, AreOwned, root, roots, amount}
-use Rattle.derivation_check.specs.Places.{at, parts, behind, branch}
+use Rattle.derivation_check.specs.Places.{at, parts, following, branch}
 use Rattle.fip_base.proofs.fip_language.Facts.{get_none}
 use Rattle.derivation_trees.proofs.Places.{more_same}
 
@@ -28,37 +28,37 @@ branch_is ns i n e =
 pub none_is : (ns : List Node) (i : ℕ) → slice_get ns i ≡ None → at ns i ≡ Missing
 none_is ns i e = tree_missing (heads ns) i (head_none ns i e)
 
-pub behind_some : (ns : List Node) (i : ℕ) (n : Node) → slice_get ns i ≡ Some n → behind ns i ≡ i + n.span
-behind_some ns i n e = ap (λ o. i + span_of o) (head_some ns i n e)
+pub after_some : (ns : List Node) (i : ℕ) (n : Node) → slice_get ns i ≡ Some n → following ns i ≡ i + n.span
+after_some ns i n e = ap (λ o. i + span_of o) (head_some ns i n e)
 
-pub behind_none : (ns : List Node) (i : ℕ) → slice_get ns i ≡ None → behind ns i ≡ i
-behind_none ns i e = let h : behind ns i ≡ i + 0 = ap (λ o. i + span_of o) (head_none ns i e) in omega arith
+pub after_none : (ns : List Node) (i : ℕ) → slice_get ns i ≡ None → following ns i ≡ i
+after_none ns i e = let h : following ns i ≡ i + 0 = ap (λ o. i + span_of o) (head_none ns i e) in omega arith
 
--- behind the list there is nothing
+-- after the list there is nothing
 pub past_tree : (ns : List Node) (i j : ℕ) → length ns ≤ i → length ns ≤ j → at ns i ≡ at ns j
 past_tree ns i j l k = none_is ns i (get_none ns i l) ∙ sym (none_is ns j (get_none ns j k))
 
-past_next : (ns : List Node) (i : ℕ) → length ns ≤ i → behind ns i ≡ i
-past_next ns i l = behind_none ns i (get_none ns i l)
+past_next : (ns : List Node) (i : ℕ) → length ns ≤ i → following ns i ≡ i
+past_next ns i l = after_none ns i (get_none ns i l)
 
 pub past_row : (ns : List Node) (i j n : ℕ) → length ns ≤ i → length ns ≤ j → parts ns i n ≡ parts ns j n
 past_row ns i j zero l k = refl
 past_row ns i j (suc n) l k = more_same (past_tree ns i j l k) (ap (λ m. parts ns m n) (past_next ns i l) ∙ past_row ns i j n l k ∙ ap (λ m. parts ns m n) (sym (past_next ns j k)))
 
-parts_more : (ns : List Node) (i m n : ℕ) → m ≡ suc n → parts ns i m ≡ MoreTrees (at ns i) (parts ns (behind ns i) n)
+parts_more : (ns : List Node) (i m n : ℕ) → m ≡ suc n → parts ns i m ≡ MoreTrees (at ns i) (parts ns (following ns i) n)
 parts_more ns i m n e = ap (parts ns i) e
 
 -- one of a row of nodes, and the others
-pub row_first : (ns : List Node) (i j n : ℕ) → 0 < n → parts ns j (n - 1) ≡ parts ns (behind ns i) (n - 1) → parts ns i n ≡ MoreTrees (at ns i) (parts ns j (n - 1))
+pub row_first : (ns : List Node) (i j n : ℕ) → 0 < n → parts ns j (n - 1) ≡ parts ns (following ns i) (n - 1) → parts ns i n ≡ MoreTrees (at ns i) (parts ns j (n - 1))
 row_first ns i j n l e = parts_more ns i n (n - 1) (omega arith) ∙ ap (MoreTrees (at ns i)) (sym e)
 
 pub row_none : (ns : List Node) (i n : ℕ) → n ≤ 0 → parts ns i n ≡ NoTrees
 row_none ns i n l = let e : n ≡ 0 = omega arith in ap (parts ns i) e
 
-pub owned_first : (ns : List Node) (d i j n : ℕ) → 0 < n → parts ns j (n - 1) ≡ parts ns (behind ns i) (n - 1) → AreOwned d (parts ns i n) → IsOwned d (at ns i) × AreOwned d (parts ns j (n - 1))
+pub owned_first : (ns : List Node) (d i j n : ℕ) → 0 < n → parts ns j (n - 1) ≡ parts ns (following ns i) (n - 1) → AreOwned d (parts ns i n) → IsOwned d (at ns i) × AreOwned d (parts ns j (n - 1))
 owned_first ns d i j n l e h = subst (AreOwned d) (row_first ns i j n l e) h
 
-pub owned_more : (ns : List Node) (d i j n : ℕ) → 0 < n → parts ns j (n - 1) ≡ parts ns (behind ns i) (n - 1) → IsOwned d (at ns i) → AreOwned d (parts ns j (n - 1)) → AreOwned d (parts ns i n)
+pub owned_more : (ns : List Node) (d i j n : ℕ) → 0 < n → parts ns j (n - 1) ≡ parts ns (following ns i) (n - 1) → IsOwned d (at ns i) → AreOwned d (parts ns j (n - 1)) → AreOwned d (parts ns i n)
 owned_more ns d i j n l e h g = subst (AreOwned d) (sym (row_first ns i j n l e)) (h, g)
 
 pub owned_here : (ns : List Node) (d i n : ℕ) → 0 < n → AreOwned d (parts ns i n) → IsOwned d (at ns i)
@@ -80,7 +80,7 @@ pub missing_credits : (t : Tree) → t ≡ Missing → (k : ℕ) → root t (Cre
 missing_credits t e k = ap (λ u. root u (Credit k)) e
 
 -- what a row has is what its first one and the others have
-pub roots_first : (ns : List Node) (i j n : ℕ) → 0 < n → parts ns j (n - 1) ≡ parts ns (behind ns i) (n - 1) → (x : Item) → roots (parts ns i n) x ≡ root (at ns i) x + roots (parts ns j (n - 1)) x
+pub roots_first : (ns : List Node) (i j n : ℕ) → 0 < n → parts ns j (n - 1) ≡ parts ns (following ns i) (n - 1) → (x : Item) → roots (parts ns i n) x ≡ root (at ns i) x + roots (parts ns j (n - 1)) x
 roots_first ns i j n l e x = ap (λ ts. roots ts x) (row_first ns i j n l e)
 
 pub roots_none : (ns : List Node) (i n : ℕ) → n ≤ 0 → (x : Item) → roots (parts ns i n) x ≡ 0
@@ -92,6 +92,6 @@ pub ruleset variables_there = (branch_variables, missing_variables)
 
 pub ruleset credits_there = (branch_credits, missing_credits)
 
-pub ruleset node_behind = (behind_some, behind_none)
+pub ruleset node_after = (after_some, after_none)
 
 pub ruleset rows = (row_first, row_none)

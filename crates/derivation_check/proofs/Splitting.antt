@@ -12,7 +12,7 @@ use Rattle.derivation_trees.specs.declared.derivation.Credit as D
 use Rattle.derivation_trees.specs.declared.derivation.Node.{Node}
 use Rattle.derivation_trees.specs.Trees.{Tree, Missing, Branch, Trees, NoTrees, MoreTrees}
 use Rattle.derivation_check.specs.Owned.{amount, owned, root, roots, IsOwned, AreOwned, Under, Leaf, Splits}
-use Rattle.derivation_check.specs.Places.{at, parts, node_with, behind, Parted, Split}
+use Rattle.derivation_check.specs.Places.{at, parts, node_with, following, Parted, Split}
 use Rattle.derivation_check.specs.Scopes.{Known}
 use Rattle.derivation_check.specs.Calculus.{Builds, DerivesValue, DerivesValues}
 use Rattle.derivation_check.proofs.Numbers.{drop_item, drop_end}
@@ -51,10 +51,10 @@ pub count_arguments : (as' : List A.Argument) → T.count (V.arguments as') ≡ 
 count_arguments [] = refl
 count_arguments (a ∷ as') = ap suc (count_arguments as')
 
-pub values_more : (w : World) (vs : List Known) (d : ℕ) (ns : List Node) (i j n k : ℕ) (as' : List A.Argument) (a : A.Argument) → 0 < n → parts ns j (n - 1) ≡ parts ns (behind ns i) (n - 1) → k < length as' → a ≡ get_or as' k a → DerivesValue w vs d (at ns i) (V.argument a) → DerivesValues w vs d (parts ns j (n - 1)) (V.arguments (drop (k + 1) as')) → DerivesValues w vs d (parts ns i n) (V.arguments (drop k as'))
+pub values_more : (w : World) (vs : List Known) (d : ℕ) (ns : List Node) (i j n k : ℕ) (as' : List A.Argument) (a : A.Argument) → 0 < n → parts ns j (n - 1) ≡ parts ns (following ns i) (n - 1) → k < length as' → a ≡ get_or as' k a → DerivesValue w vs d (at ns i) (V.argument a) → DerivesValues w vs d (parts ns j (n - 1)) (V.arguments (drop (k + 1) as')) → DerivesValues w vs d (parts ns i n) (V.arguments (drop k as'))
 values_more w vs d ns i j n k as' a l e m s h g = subst (λ ts. DerivesValues w vs d ts (V.arguments (drop k as'))) (sym (row_first ns i j n l e)) (subst (λ bs. DerivesValues w vs d (MoreTrees (at ns i) (parts ns j (n - 1))) (V.arguments bs)) (sym (drop_item as' k a a m s)) (h, g))
 
-pub values_first : (w : World) (vs : List Known) (d : ℕ) (ns : List Node) (i j n k : ℕ) (as' : List A.Argument) (a : A.Argument) → 0 < n → parts ns j (n - 1) ≡ parts ns (behind ns i) (n - 1) → k < length as' → a ≡ get_or as' k a → DerivesValues w vs d (parts ns i n) (V.arguments (drop k as')) → DerivesValue w vs d (at ns i) (V.argument a) × DerivesValues w vs d (parts ns j (n - 1)) (V.arguments (drop (k + 1) as'))
+pub values_first : (w : World) (vs : List Known) (d : ℕ) (ns : List Node) (i j n k : ℕ) (as' : List A.Argument) (a : A.Argument) → 0 < n → parts ns j (n - 1) ≡ parts ns (following ns i) (n - 1) → k < length as' → a ≡ get_or as' k a → DerivesValues w vs d (parts ns i n) (V.arguments (drop k as')) → DerivesValue w vs d (at ns i) (V.argument a) × DerivesValues w vs d (parts ns j (n - 1)) (V.arguments (drop (k + 1) as'))
 values_first w vs d ns i j n k as' a l e m s h = subst (λ bs. DerivesValues w vs d (MoreTrees (at ns i) (parts ns j (n - 1))) (V.arguments bs)) (drop_item as' k a a m s) (subst (λ ts. DerivesValues w vs d ts (V.arguments (drop k as'))) (row_first ns i j n l e) h)
 
 pub values_none : (w : World) (vs : List Known) (d : ℕ) (ns : List Node) (i n k : ℕ) (as' : List A.Argument) (a : A.Argument) → n ≡ 0 → k < length as' → a ≡ get_or as' k a → DerivesValues w vs d (parts ns i n) (V.arguments (drop k as')) → ⊥

@@ -6,7 +6,7 @@ use Rattle.derivation_trees.specs.declared.derivation.Credit as D
 use Rattle.derivation_trees.specs.declared.derivation.Node.{Node}
 use Rattle.derivation_trees.specs.Trees.{Tree, Missing, Branch, Trees, NoTrees, MoreTrees}
 use Rattle.derivation_check.specs.Owned.{amount, is_weaken, owned, root, IsOwned, Under, UnderPart, Leaf}
-use Rattle.derivation_check.specs.Places.{at, parts, branch, node_with, behind, weakens, Leaves}
+use Rattle.derivation_check.specs.Places.{at, parts, branch, node_with, following, weakens, Leaves}
 pub use Rattle.derivation_check.proofs.Passing.{no_row as none_parts}
 
 pub under_self : (fip : Bool) (d : ℕ) (t : Tree) (r : RuleName) (xs : List ℕ) (cs : List D.Credit) (ts : Trees) → t ≡ Branch r xs cs ts → is_weaken r ≡ false → Under fip d t t

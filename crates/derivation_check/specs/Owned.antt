@@ -74,7 +74,7 @@ abbrev mutual
 abbrev pub Leaf : Bool → ℕ → RuleName → Tree → Type 0
 Leaf fip d r t = Under fip d t (Branch r [] [] NoTrees)
 
--- A node of this rule, which has these things and what its parts have together; P tells of the parts.
+-- A node of this rule, which has these things and what its parts have together; P reports of the parts.
 abbrev pub Splits : Bool → ℕ → RuleName → (Item → ℕ) → (Trees → Type 0) → Tree → Type 0
 Splits fip d r these P t =
     (xs : List ℕ) × (cs : List D.Credit) × (ts : Trees) × Under fip d t (Branch r xs cs ts) × AreOwned d ts

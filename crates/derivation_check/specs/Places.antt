@@ -12,9 +12,9 @@ at ns i = tree_at (heads ns) i
 abbrev pub parts : List Node → ℕ → ℕ → Trees
 parts ns i n = row (tree_at (heads ns)) (heads ns) i n
 
--- the place behind the tree at place i
-abbrev pub behind : List Node → ℕ → ℕ
-behind ns i = i + span_of (slice_get (heads ns) i)
+-- the place after the tree at place i
+abbrev pub following : List Node → ℕ → ℕ
+following ns i = i + span_of (slice_get (heads ns) i)
 
 -- a node at place i, with its parts
 abbrev pub branch : List Node → ℕ → Node → Tree

@@ -29,7 +29,7 @@ frames_step (O.Bound s xs ys) = BoundFrame xs.now ys.now ∷ s.now
 abbrev pub frames : D.Scope → List Frame
 frames = fold-Scope (List Frame) frames_step
 
--- behind some bindings of a block
+-- after some bindings of a block
 abbrev pub bindings : ℕ → List BoundPart → Scope → Scope
 bindings d [] s = s
 bindings d (b ∷ bs) s = bindings (d + within b.bound + length b.binders) bs (binding d true b.binders s)

@@ -1,7 +1,7 @@
 -- The variables in scope.
 --
 -- A derivation numbers the variables of a function from 0: the parameters, then the binders in the order of the core
--- form, a let's before those inside what it binds. A program numbers its binders in another order, a let's behind those
+-- form, a let's before those inside what it binds. A program numbers its binders in another order, a let's after those
 -- inside what it binds. For example in f(a) { let b = match! a { C(c) -> c }; b } the variables a, b, c are 0, 1, 2 in
 -- a derivation, and their binders 0, 2, 1 in the program.
 use Rattle.std.specs.Prelude.{◌≡◌, ◌<◌, ◌+◌, ◌==◌, ◌||◌, ◌&&◌, not, ℕ, suc, Bool, true, List, [], ◌∷◌, ◌++◌, length}

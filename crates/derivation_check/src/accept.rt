@@ -37,12 +37,12 @@ pub fn check(typed: &Typed, derivation: &Derivation) -> bool
     let mut place: usize = 0;
     let mut number: usize = 0;
     for instance in &program.instances {
-        match behind_line(program, &scalars, number, instance, lines, place) {
+        match after_line(program, &scalars, number, instance, lines, place) {
             None => {
                 return false;
             }
-            Some(behind) => {
-                place = behind;
+            Some(following) => {
+                place = following;
             }
         }
         number += 1;
@@ -50,10 +50,10 @@ pub fn check(typed: &Typed, derivation: &Derivation) -> bool
     place == lines.len()
 }
 
-// The place behind the line of an instance, which is to stand at this place and derive it; a plain instance has none.
+// The place after the line of an instance, which is to stand at this place and derive it; a plain instance has none.
 // None where there is no such line.
 #[tactic(auto, using(crate::proofs::Lines::lines))]
-fn behind_line(
+fn after_line(
     program: &Program,
     scalars: &ScalarTypes<'_>,
     number: usize,
@@ -197,8 +197,8 @@ impl<'a> Walk<'a> {
                     None => {
                         return false;
                     }
-                    Some(behind) => {
-                        place = behind;
+                    Some(following) => {
+                        place = following;
                     }
                 },
             }
@@ -207,7 +207,7 @@ impl<'a> Walk<'a> {
         place == owned.len()
     }
 
-    // An owned parameter that isn't scalar is the next of the owned variables: the place behind.
+    // An owned parameter that isn't scalar is the next of the owned variables: the place after.
     #[tactic(auto, using(crate::proofs::Lines::owning_parameters))]
     fn owns_parameter(
         &self,

@@ -120,7 +120,7 @@ impl<'a> Walk<'a> {
         match pattern {
             Pattern::Binder(binder) => match self.owns(binder, owned, at) {
                 None => None,
-                Some(behind) => Some(behind),
+                Some(following) => Some(following),
             },
             Pattern::Literal { .. } => Some(at),
             Pattern::Constructor { patterns, .. } => self.owns_patterns(patterns, owned, at),
@@ -151,8 +151,8 @@ impl<'a> Walk<'a> {
                 None => {
                     return None;
                 }
-                Some(behind) => {
-                    here = behind;
+                Some(following) => {
+                    here = following;
                 }
             }
         }
@@ -173,8 +173,8 @@ impl<'a> Walk<'a> {
                 None => {
                     return false;
                 }
-                Some(behind) => {
-                    here = behind;
+                Some(following) => {
+                    here = following;
                 }
             }
         }
@@ -236,7 +236,7 @@ impl<'a> Walk<'a> {
         let high = &left[low..];
         match self.owns_pattern(pattern, high, Owning { next, place: 0 }) {
             None => false,
-            Some(behind) => behind.place == high.len(),
+            Some(following) => following.place == high.len(),
         }
     }
 }

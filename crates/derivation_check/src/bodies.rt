@@ -25,7 +25,7 @@ use crate::binders::numbered;
 use crate::counts::Counts;
 use crate::heads::Head;
 use crate::lists::is_split;
-use crate::nodes::{behind, credits_at, is_owned, variables_at};
+use crate::nodes::{credits_at, following, is_owned, variables_at};
 use crate::numbering::are_numbered;
 use crate::parts::place_of;
 use crate::scope::Scope;
@@ -60,7 +60,7 @@ pub fn in_clause<'a>(
     }
 }
 
-/// Behind some bindings of a block.
+/// After some bindings of a block.
 #[tactic(auto, using(crate::proofs::Inside::in_block))]
 pub fn in_bindings<'a>(
     outer: &'a Scope<'a>,

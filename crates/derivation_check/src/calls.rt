@@ -13,7 +13,7 @@ ghost use Rattle.derivation_check.specs.ScopeView.{frames, scope_of, Fits};
 ghost use Rattle.derivation_check.specs.Calculus.{IsScalar, Operand, Plain, MayLend, Lends, DerivesValue, DerivesValues};
 ghost use Rattle.derivation_check.specs.Calculus.{DerivesPassed, Calls};
 
-use crate::nodes::behind;
+use crate::nodes::following;
 use crate::scope::{Scope, get_param, lends};
 use crate::values::{Walk, meant, splits_all, splits_charged};
 use crate::walk::{is_leaf, ruled};
@@ -203,7 +203,7 @@ impl<'a> Walk<'a> {
             return None;
         }
         Some(Rest {
-            place: behind(self.nodes, rest.place),
+            place: following(self.nodes, rest.place),
             left: rest.left - 1,
         })
     }
@@ -248,7 +248,7 @@ impl<'a> Walk<'a> {
         }
         match self.given(scope, next, rest, argument) {
             None => None,
-            Some(behind) => Some(behind),
+            Some(following) => Some(following),
         }
     }
 
@@ -281,8 +281,8 @@ impl<'a> Walk<'a> {
                     None => {
                         return false;
                     }
-                    Some(behind) => {
-                        rest = behind;
+                    Some(following) => {
+                        rest = following;
                     }
                 },
             }

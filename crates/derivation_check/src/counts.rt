@@ -60,7 +60,7 @@ impl Counts {
         ensures fewer { IsTrue result → number self.old.counts size ≡ taken + number self.new.counts size }
         ensures others { IsTrue result → (k : ℕ) → (k ≡ size → ⊥) →
             number self.new.counts k ≡ number self.old.counts k }
-        ensures wanting { taken ≤ number self.old.counts size → IsTrue result }
+        ensures out_of_memory { taken ≤ number self.old.counts size → IsTrue result }
     {
         if size >= 17 {
             return taken == 0;
@@ -78,7 +78,7 @@ impl Counts {
     pub fn take_paid(&mut self, fields: usize) -> bool
         ensures taken { IsTrue result →
             (k : ℕ) → number self.old.counts k ≡ paid fields (Size k) + number self.new.counts k }
-        ensures wanting { ((k : ℕ) → paid fields (Size k) ≤ number self.old.counts k) → IsTrue result }
+        ensures out_of_memory { ((k : ℕ) → paid fields (Size k) ≤ number self.old.counts k) → IsTrue result }
     {
         if fields == 0 {
             return true;
@@ -90,7 +90,7 @@ impl Counts {
     pub fn take_all(&mut self, credits: &[Credit]) -> bool
         ensures taken { IsTrue result →
             (k : ℕ) → number self.old.counts k ≡ amount k credits.now + number self.new.counts k }
-        ensures wanting { ((k : ℕ) → amount k credits.now ≤ number self.old.counts k) → IsTrue result }
+        ensures out_of_memory { ((k : ℕ) → amount k credits.now ≤ number self.old.counts k) → IsTrue result }
     {
         for credit in credits {
             if !self.take(credit.size as usize, credit.count) {
@@ -104,7 +104,7 @@ impl Counts {
     pub fn take_marked(&mut self, sizes: &[u8]) -> bool
         ensures taken { IsTrue result →
             (k : ℕ) → number self.old.counts k ≡ given k sizes.now + number self.new.counts k }
-        ensures wanting { ((k : ℕ) → given k sizes.now ≤ number self.old.counts k) → IsTrue result }
+        ensures out_of_memory { ((k : ℕ) → given k sizes.now ≤ number self.old.counts k) → IsTrue result }
     {
         for size in sizes {
             if !self.take(*size as usize, 1) {
@@ -119,7 +119,7 @@ impl Counts {
     pub fn take_given(&mut self, pattern: &Pattern) -> bool
         ensures taken { IsTrue result →
             (k : ℕ) → number self.old.counts k ≡ nodes k (V.pattern pattern.now) + number self.new.counts k }
-        ensures wanting { ((k : ℕ) → nodes k (V.pattern pattern.now) ≤ number self.old.counts k) → IsTrue result }
+        ensures out_of_memory { ((k : ℕ) → nodes k (V.pattern pattern.now) ≤ number self.old.counts k) → IsTrue result }
     {
         match pattern {
             Pattern::Binder(_) => true,
@@ -134,7 +134,7 @@ impl Counts {
     fn take_given_all(&mut self, patterns: &[Pattern]) -> bool
         ensures taken { IsTrue result →
             (k : ℕ) → number self.old.counts k ≡ nodes_all k (V.patterns patterns.now) + number self.new.counts k }
-        ensures wanting { ((k : ℕ) → nodes_all k (V.patterns patterns.now) ≤ number self.old.counts k) → IsTrue result }
+        ensures out_of_memory { ((k : ℕ) → nodes_all k (V.patterns patterns.now) ≤ number self.old.counts k) → IsTrue result }
     {
         for pattern in patterns {
             if !self.take_given(pattern) {

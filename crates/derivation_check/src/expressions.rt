@@ -14,7 +14,7 @@ ghost use Rattle.derivation_check.specs.Calculus.{is_taken, IsClause, Derives, D
 use crate::binders::numbered;
 use crate::bodies::{in_bindings, in_bound, in_clause, is_taken, none_within, own_binders};
 use crate::heads::Head;
-use crate::nodes::{behind, is_owned, variables_at};
+use crate::nodes::{following, is_owned, variables_at};
 use crate::numbering::are_numbered;
 use crate::scope::Scope;
 use crate::values::Walk;
@@ -23,7 +23,7 @@ use derivation_trees::RuleName;
 use fip_base::core_form::MatchKind;
 use fip_trees::program::{Argument, Binding, Block, Clause, Expression};
 
-// Where a block goes on behind a let: the place of the node of the rest, and how many binders the let has.
+// Where a block goes on after a let: the place of the node of the rest, and how many binders the let has.
 #[derive(Clone, Copy)]
 struct Went {
     place: usize,
@@ -123,7 +123,7 @@ impl<'a> Walk<'a> {
         if found.node.parts != 2 || own == 0 || own > 4_294_967_296 - next {
             return None;
         }
-        let rest = behind(self.nodes, found.first);
+        let rest = following(self.nodes, found.first);
         if !self.lets(&found, next, rest, binders) {
             return None;
         }
@@ -194,7 +194,7 @@ impl<'a> Walk<'a> {
                         match self.clause(scope, core, next, &head, head.found.first, first) {
                             None => None,
                             Some(one) => {
-                                let rest = behind(self.nodes, head.found.first);
+                                let rest = following(self.nodes, head.found.first);
                                 let core = core + one;
                                 let next = next + one;
                                 match self.clauses(
@@ -258,7 +258,7 @@ impl<'a> Walk<'a> {
                     count += more;
                 }
             }
-            place = behind(self.nodes, place);
+            place = following(self.nodes, place);
             left -= 1;
         }
         if left > 0 {

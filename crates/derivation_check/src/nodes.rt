@@ -4,7 +4,7 @@ ghost use Rattle.derivation_trees.specs.Trees.{Missing};
 ghost use Rattle.ownership_calculus.specs.Terms.{Own, Credit as Size, given};
 ghost use Rattle.derivation_check.specs.Calculus.{own_variables};
 ghost use Rattle.derivation_check.specs.Owned.{IsOwned, AreOwned, Rising, RisingSizes, root, amount};
-ghost use Rattle.derivation_check.specs.Places.{at, parts, behind, branch};
+ghost use Rattle.derivation_check.specs.Places.{at, parts, following, branch};
 
 use crate::counts::are_sizes;
 use crate::lists::rises;
@@ -65,11 +65,11 @@ pub fn credits_at<'a>(nodes: &'a [Node], place: usize) -> &'a [Credit]
     }
 }
 
-/// The place behind the tree at a place.
-#[tactic(auto, using(crate::proofs::Rows::node_behind))]
-pub fn behind(nodes: &[Node], place: usize) -> usize
-    ensures tree { at nodes.now result ≡ at nodes.now (behind nodes.now place) }
-    ensures row { (n : ℕ) → parts nodes.now result n ≡ parts nodes.now (behind nodes.now place) n }
+/// The place after the tree at a place.
+#[tactic(auto, using(crate::proofs::Rows::node_after))]
+pub fn following(nodes: &[Node], place: usize) -> usize
+    ensures tree { at nodes.now result ≡ at nodes.now (following nodes.now place) }
+    ensures row { (n : ℕ) → parts nodes.now result n ≡ parts nodes.now (following nodes.now place) n }
 {
     match get_node(nodes, place) {
         None => place,
@@ -91,7 +91,7 @@ pub fn is_owned(nodes: &[Node], place: usize, below: usize) -> bool
     }
 }
 
-/// The same of some nodes, one behind the other.
+/// The same of some nodes, one after the other.
 pub fn are_owned(nodes: &[Node], first: usize, count: usize, below: usize) -> bool
     ensures sound { IsTrue result → AreOwned below (parts nodes.now first count) }
     ensures complete { AreOwned below (parts nodes.now first count) → IsTrue result }
@@ -102,7 +102,7 @@ pub fn are_owned(nodes: &[Node], first: usize, count: usize, below: usize) -> bo
         if !is_owned(nodes, place, below) {
             return false;
         }
-        place = behind(nodes, place);
+        place = following(nodes, place);
         left -= 1;
     }
     true

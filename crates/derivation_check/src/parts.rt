@@ -1,4 +1,4 @@
-// What some nodes have together, whose trees stand one behind the other.
+// What some nodes have together, whose trees stand one after the other.
 ghost use Rattle.std.specs.Prelude.{◌≡◌, ◌<◌, ◌≤◌, ◌+◌, ◌-◌, ℕ, List, false, true, length, get_or, IsTrue};
 ghost use Rattle.std.specs.Prelude.{IfSome, IfNone};
 ghost use Rattle.fip_trees.specs.Sizes.{number};
@@ -7,7 +7,7 @@ ghost use Rattle.derivation_check.specs.Owned.{root, roots, AreOwned, Rising, Ri
 ghost use Rattle.derivation_check.specs.Places.{at, parts, flag, IsRising, Marked};
 
 use crate::counts::Counts;
-use crate::nodes::{behind, credits_at, variables_at};
+use crate::nodes::{credits_at, following, variables_at};
 use derivation_trees::Node;
 
 // Which of 256 places of a list, from one on, were seen.
@@ -129,7 +129,7 @@ fn is_parted_from(nodes: &[Node], first: usize, count: usize, whole: &[u32], sta
         if !window.see_all(whole, variables_at(nodes, place)) {
             return false;
         }
-        place = behind(nodes, place);
+        place = following(nodes, place);
         left -= 1;
     }
     window.is_full(whole)
@@ -158,7 +158,7 @@ pub fn is_parted(nodes: &[Node], first: usize, count: usize, whole: &[u32]) -> b
 pub fn take_parts(counts: &mut Counts, nodes: &[Node], first: usize, count: usize) -> bool
     ensures taken { IsTrue result → (k : ℕ) → number counts.old.counts k
         ≡ roots (parts nodes.now first count) (Size k) + number counts.new.counts k }
-    ensures wanting { ((k : ℕ) → roots (parts nodes.now first count) (Size k) ≤ number counts.old.counts k) →
+    ensures out_of_memory { ((k : ℕ) → roots (parts nodes.now first count) (Size k) ≤ number counts.old.counts k) →
         IsTrue result }
 {
     let mut place = first;
@@ -167,7 +167,7 @@ pub fn take_parts(counts: &mut Counts, nodes: &[Node], first: usize, count: usiz
         if !counts.take_all(credits_at(nodes, place)) {
             return false;
         }
-        place = behind(nodes, place);
+        place = following(nodes, place);
         left -= 1;
     }
     true

@@ -13,7 +13,7 @@ ghost use Rattle.ownership_calculus.specs.Terms.{has};
 ghost use Rattle.derivation_check.specs.Places.{IsRising};
 ghost use Rattle.derivation_check.specs.Scopes as S;
 ghost use Rattle.derivation_check.specs.Scopes.{known, named, parameters, AreNumbered};
-ghost use Rattle.derivation_check.specs.ScopeView.{frames, scope_of, bindings as behind, Fits};
+ghost use Rattle.derivation_check.specs.ScopeView.{frames, scope_of, bindings as following, Fits};
 ghost use Rattle.derivation_check.specs.ScopeView.{AreBindings, first, known_as, start};
 
 use crate::parts::place_of;
@@ -232,10 +232,10 @@ fn if_numbered<'a>(binder: &'a Binder, number: usize) -> Option<&'a Binder>
 fn in_bindings(bindings: &[Binding], binder: usize, core: usize, next: usize) -> Option<Variable>
     requires numbered { AreBindings core next (map V.binding bindings.now) }
     requires order { core ≤ next }
-    ensures some { IfSome result (λ v. (s : S.Scope) → known (behind next (map V.binding bindings.now) s).variables
+    ensures some { IfSome result (λ v. (s : S.Scope) → known (following next (map V.binding bindings.now) s).variables
         binder
         ≡ Some (known_as binder v)) }
-    ensures none { IfNone result ((s : S.Scope) → known (behind next (map V.binding bindings.now) s).variables binder
+    ensures none { IfNone result ((s : S.Scope) → known (following next (map V.binding bindings.now) s).variables binder
         ≡ known s.variables binder) }
 {
     let count = begun(bindings, binder, core, next);
@@ -253,10 +253,10 @@ fn begun(bindings: &[Binding], binder: usize, core: usize, next: usize) -> usize
     requires numbered { AreBindings core next (map V.binding bindings.now) }
     requires order { core ≤ next }
     ensures within { result ≤ length bindings.now }
-    ensures behind { (s : S.Scope) → known (behind next (map V.binding bindings.now) s).variables binder
-        ≡ known (behind next (take result (map V.binding bindings.now)) s).variables binder }
+    ensures following { (s : S.Scope) → known (following next (map V.binding bindings.now) s).variables binder
+        ≡ known (following next (take result (map V.binding bindings.now)) s).variables binder }
     ensures before { 0 < result → (s : S.Scope) →
-        known (behind next (take (result - 1) (map V.binding bindings.now)) s).variables binder
+        known (following next (take (result - 1) (map V.binding bindings.now)) s).variables binder
         ≡ known s.variables binder }
 {
     let mut low: usize = 0;

@@ -16,7 +16,7 @@ ghost use Rattle.derivation_check.specs.Calculus.{DerivesValues, Operand, Plain,
 ghost use Rattle.derivation_check.specs.Calculus.{Lends, DerivesPassed};
 
 use crate::counts::Counts;
-use crate::nodes::behind;
+use crate::nodes::following;
 use crate::scalar_types::ScalarTypes;
 use crate::scope::{Scope, Variable, find, lends};
 use crate::walk::{Found, is_leaf, is_variable, ruled, splits};
@@ -206,7 +206,7 @@ impl<'a> Walk<'a> {
             if !self.argument(scope, next, place, argument) {
                 return false;
             }
-            place = behind(self.nodes, place);
+            place = following(self.nodes, place);
             left -= 1;
         }
         left == 0

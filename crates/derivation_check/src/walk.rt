@@ -11,7 +11,7 @@ ghost use Rattle.derivation_check.specs.Places.{at, parts, node_with, weakens, L
 
 use crate::counts::Counts;
 use crate::lists::is_within;
-use crate::nodes::{are_owned, behind, credits_at, is_owned, node_at, variables_at};
+use crate::nodes::{are_owned, credits_at, following, is_owned, node_at, variables_at};
 use crate::parts::{is_parted, take_parts};
 use derivation_trees::{Node, RuleName};
 use fip_base::plain::FunKind;

@@ -1,4 +1,4 @@
-// An accepted source has derivations: laws, no code.
+// An accepted source has derivations: theorems, no code.
 #![tactic(auto)]
 
 mod theorems;

@@ -1,4 +1,4 @@
-// The laws on the derivations of accepted programs. Each is the contract of a function that does nothing.
+// The theorems on the derivations of accepted programs. Each is the contract of a function that does nothing.
 ghost use Rattle.std.specs.Prelude.{◌≡◌, ℕ, List};
 ghost use Rattle.source_report.specs.fip_trees.declared.needs.Need.{Need};
 ghost use Rattle.source_report.specs.fip_trees.Tree.{Program};
@@ -16,7 +16,7 @@ ghost use Rattle.source_report.specs.Report.{IsAccepted};
 
 /// What the making of derivations asks of a program, an accepted source's has: its slots are filled, its binders are
 /// numbered in order, below 2^32, it is what the calculus of ownership speaks of, and it breaks no rule on ownership
-/// and on credits. For who joins the laws.
+/// and on credits. For who joins the theorems.
 pub fn accepted_programs_are_numbered()
     ensures numbered { (source : List ℕ) (program : Program) → IsAccepted source program →
         AllNumbered program program.instances }

@@ -85,7 +85,7 @@ pub values_owned : (w : World) (vs have : List Known) (d : ℕ) (as' : Arguments
 values_owned w vs have d NoArguments r = tt
 values_owned w vs have d (MoreArguments a as') r = (value_owned w vs have d a r, values_owned w vs have d as' r)
 
--- each variable goes to just one of an argument and those behind it
+-- each variable goes to just one of an argument and those after it
 pub one_part : (w : World) (vs : List Known) (c : Names) (sc : Scalars) (d : ℕ) (have : List Known) (a : Argument) (as' : Arguments) (m : ℕ → ℕ) → Holding w vs c sc d have → FitsValue vs a → ((x : ℕ) → sc x ≡ false → occurs_values x as' ≡ pos (m x)) → ((x : ℕ) → used_up (value sc c.marks a) (Own x) + m x ≤ tally x have) → EachOf (λ x. flag (occurs_value x a) + flag (occurs_values x as') ≡ flag (occurs_value x a || occurs_values x as')) have
 one_part w vs c sc d have a as' m h f g u =
     each_of (λ x. flag (occurs_value x a) + flag (occurs_values x as') ≡ flag (occurs_value x a || occurs_values x as')) have

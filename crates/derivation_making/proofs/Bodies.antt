@@ -6,7 +6,7 @@ use Rattle.derivation_check.specs.fip_trees.declared.program.Binder.{Binder}
 use Rattle.derivation_check.specs.fip_trees.Sizes.{greater}
 use Rattle.derivation_check.specs.fip_trees.Tree.{Program, Instance, Argument, Variable, Literal, Constructor, Arguments, Pattern, Expression, Give, Tuple, Operation, Call, Match, Nested, Block, Last, Let, Clauses, NoClauses, MoreClauses}
 use Rattle.ownership_agreement.specs.fip_rules.World.{World, world, is_fip, is_weaker, weaker, weaker_than}
-use Rattle.ownership_agreement.specs.fip_rules.Shapes.{Names, behind, binders, takes, shape}
+use Rattle.ownership_agreement.specs.fip_rules.Shapes.{Names, following, binders, takes, shape}
 use Rattle.ownership_agreement.specs.credit_check.Needs as N
 use Rattle.ownership_agreement.specs.credit_check.Needs.{made, made_all, need, need_block, need_clauses}
 use Rattle.ownership_agreement.specs.ownership_calculus.Terms as C
@@ -34,7 +34,7 @@ use Rattle.derivation_making.proofs.Lists.{tally, EachOf, each_of, none_those, t
 use Rattle.derivation_making.proofs.Credits.{by_size, amount_in, amount_out, no_credits}
 use Rattle.derivation_making.proofs.Nodes.{Has, has_node, under_node}
 use Rattle.derivation_making.proofs.Linking.{Linked, inside_linked, next_inside, added_rising}
-use Rattle.derivation_making.proofs.Reading.{next_behind, next_past, behind_linked, past_linked, numbered_at, uses_pos, asked_occurs, block_occurs}
+use Rattle.derivation_making.proofs.Reading.{next_after, next_past, after_linked, past_linked, numbered_at, uses_pos, asked_occurs, block_occurs}
 use Rattle.derivation_making.proofs.Arguments.{Holding, each_item, values_in, values_out, values_own, values_owned, values_derive, value_derives, not_weaken}
 use Rattle.derivation_making.proofs.Passing.{Passes, plain_apart, passed_well}
 use Rattle.derivation_making.proofs.Standing.{Stands, Asks, all_asked, asked_few, asked_kept, asked_there, holding, enter, enter_asks}
@@ -295,10 +295,10 @@ mutual
       let w = world p f in
       let g : ℕ → Bool = λ x. occurs x e || occurs_block x rest in
       let got = those g there in
-      let c1 = behind c (shape w c e) in
-      let k1 : c1.next ≡ n + within e = (let j = next_behind w c e in omega arith) in
+      let c1 = following c (shape w c e) in
+      let k1 : c1.next ≡ n + within e = (let j = next_after w c e in omega arith) in
       let nb = numbered_at (n + within e) c1.next d bs k1 fit.1 in
-      let l1 = behind_linked w sp.variables c sc e l in
+      let l1 = after_linked w sp.variables c sc e l in
       let ys = variables w c1.next bs in
       let ta = term w sc c e in
       let tb = term_block w (entering w c1.next sc bs) (inside w true c1 bs) rest in
@@ -332,7 +332,7 @@ mutual
       let_derives w sp n d bs e rest (made_block p w sp.variables d there have (Let bs e rest)) pa qb got u needs_a needs_b under fit.0 fit.1 st.rising
       (has_expression p w sp.variables (d + length bs) there_a needs_a e) (has_block p w (named d true bs ++ sp.variables) d1 there_b needs_b rest) da db
 
-  -- The clauses behind the first, whose term is te. The match has these variables and credits.
+  -- The clauses after the first, whose term is te. The match has these variables and credits.
   pub derive_clauses : (p : Program) (f : FunKind) (sp : Scope) (c : Names) (sc : Scalars) (n d0 d : ℕ) (own : Bool) (xo : Option ℕ) (a : Argument) (got : List Known) (needed : ℕ → ℕ) (s : ℕ → Status) (m : ℕ → ℕ) (ys ks : List ℕ) (te : C.Term) (cs : Clauses) → Linked (world p f) sp.variables c sc → c.next ≡ n → FittingClauses (world p f) sp.variables n d own cs → SizedClauses p cs → Goes own xo a got → Stands (world p f) sp d0 (remaining own a got) s (λ x. occurs_clauses x cs) → d0 ≤ d → Faces (is_fip f) own s m (clauses (world p f) sc own c ys ks te cs) → ((k : ℕ) → 0 < k → k < 17 → m k ≡ needed k) → ((k : ℕ) → need_clauses p k own cs ≤ needed k) → DerivesClauses (world p f) sp n d xo (owned (numbers got) (credits needed)) (made_clauses p (world p f) sp.variables d own a got needed cs) cs
   derive_clauses p f sp c sc n d0 d own xo a got needed s m ys ks te NoClauses l i fit z go st le fa same most = tt
   derive_clauses p f sp c sc n d0 d own xo a got needed s m ys ks te (MoreClauses r body cs) l i fit z go st le fa same most =

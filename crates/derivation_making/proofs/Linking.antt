@@ -38,8 +38,8 @@ head_of false k v o h = inr (refl, h)
 pub known_head : (k v : Known) (vs : List Known) (x : ℕ) → known (k ∷ vs) x ≡ Some v → (((k.binder == x) ≡ true) × (k ≡ v)) ⊎ (((k.binder == x) ≡ false) × (known vs x ≡ Some v))
 known_head k v vs x h = head_of (k.binder == x) k v (known vs x) h
 
-pub known_behind : (k : Known) (vs : List Known) (x : ℕ) → (k.binder == x) ≡ false → known (k ∷ vs) x ≡ known vs x
-known_behind k vs x e = rw (e) refl
+pub known_after : (k : Known) (vs : List Known) (x : ℕ) → (k.binder == x) ≡ false → known (k ∷ vs) x ≡ known vs x
+known_after k vs x e = rw (e) refl
 
 pub known_here : (k : Known) (vs : List Known) (x : ℕ) → (k.binder == x) ≡ true → known (k ∷ vs) x ≡ Some k
 known_here k vs x e = rw (e) refl
@@ -181,7 +181,7 @@ named_known w own vs n d x (b ∷ bs) v h k s =
 
 pub lift_known : (w : World) (k : Known) (us xs : List Known) → EachOf (λ y. (k.binder == y) ≡ false) xs → AreKnown w us xs → AreKnown w (k ∷ us) xs
 lift_known w k us [] e h = tt
-lift_known w k us (x ∷ xs) e h = (known_behind k us x.binder e.0 ∙ h.0, h.1, lift_known w k us xs e.1 h.2)
+lift_known w k us (x ∷ xs) e h = (known_after k us x.binder e.0 ∙ h.0, h.1, lift_known w k us xs e.1 h.2)
 
 pub one_above : (s : Bool) (k : ℕ) (u : Known) (us : List Known) → (k == u.binder) ≡ false → EachOf (λ y. (k == y) ≡ false) us → EachOf (λ y. (k == y) ≡ false) (if s then us else u ∷ us)
 one_above true k u us e h = h

@@ -249,7 +249,7 @@ named_value false y e = refl
 value_is : (w : World) (vs : List Known) (c : Names) (sc : Scalars) (y : ℕ) (v : Known) → Linked w vs c sc → known vs y ≡ Some v → w.scalar v.ty ≡ false → variable sc (H.known c.marks y) ≡ C.Named y
 value_is w vs c sc y v l k e = let g = l y v k in ap (variable sc) g.0 ∙ named_value (sc y) y (g.1 ∙ e)
 
--- What a match's node is, where what it has is `have`, its parts are ts, and P tells of them.
+-- What a match's node is, where what it has is `have`, its parts are ts, and P reports of them.
 abbrev pub MatchGoal : (w : World) → Scope → Names → Scalars → Bool → ℕ → Argument → List Known → (ℕ → ℕ) → (ℕ → Bool) → Clauses → (Option ℕ → (Item → ℕ) → Trees → Type 0) → Trees → Type 0
 MatchGoal w sp c sc own d a have needed f tc P ts =
     (xo : Option ℕ) (s : ℕ → Status) → Goes own xo a have → Stands w sp d (remaining own a have) s f → Faces (is_fip w.kind) own s (λ k. asks_of own k tc) tc → P xo (owned (numbers have) (credits needed)) ts

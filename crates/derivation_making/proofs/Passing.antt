@@ -174,8 +174,8 @@ skipped w sp d have q ps a as' gs hs ts e u f g r = record {
   are_owned = r.are_owned;
 }
 
-behind_owned : (w : World) (sp : Scope) (c : Names) (sc : Scalars) (d : ℕ) (have : List Known) (s t : ℕ → Status) (a : Argument) (as' : Arguments) (gs : T.Passed) → Passes w sp c sc d have s t (MoreArguments a as') (T.PassOwned (value sc c.marks a) gs) → Passes w sp c sc d have s (λ x. after (t x) (used_up (value sc c.marks a) (Own x))) as' gs
-behind_owned w sp c sc d have s t a as' gs h = record {
+after_owned : (w : World) (sp : Scope) (c : Names) (sc : Scalars) (d : ℕ) (have : List Known) (s t : ℕ → Status) (a : Argument) (as' : Arguments) (gs : T.Passed) → Passes w sp c sc d have s t (MoreArguments a as') (T.PassOwned (value sc c.marks a) gs) → Passes w sp c sc d have s (λ x. after (t x) (used_up (value sc c.marks a) (Own x))) as' gs
+after_owned w sp c sc d have s t a as' gs h = record {
   holding = h.holding;
   few = h.few;
   lent = λ x v k e o. h.lent x v k e (or_last (occurs_value x a) (occurs_values x as') o);
@@ -184,8 +184,8 @@ behind_owned w sp c sc d have s t a as' gs h = record {
   asked = λ x. let e : used_up (value sc c.marks a) (Own x) + passed_used_up gs (Own x) ≤ tally x have = h.asked x in omega arith;
 }
 
-behind_lent : (w : World) (sp : Scope) (c : Names) (sc : Scalars) (d : ℕ) (have : List Known) (s t : ℕ → Status) (a : Argument) (as' : Arguments) (gs : T.Passed) → Passes w sp c sc d have s t (MoreArguments a as') (T.PassLent (lent_value w sc c.marks a) gs) → Passes w sp c sc d have s t as' gs
-behind_lent w sp c sc d have s t a as' gs h = record {
+following_lent : (w : World) (sp : Scope) (c : Names) (sc : Scalars) (d : ℕ) (have : List Known) (s t : ℕ → Status) (a : Argument) (as' : Arguments) (gs : T.Passed) → Passes w sp c sc d have s t (MoreArguments a as') (T.PassLent (lent_value w sc c.marks a) gs) → Passes w sp c sc d have s t as' gs
+following_lent w sp c sc d have s t a as' gs h = record {
   holding = h.holding;
   few = h.few;
   lent = λ x v k e o. h.lent x v k e (or_last (occurs_value x a) (occurs_values x as') o);
@@ -221,21 +221,21 @@ chosen w q b1 b2 A B C e f x = subst (λ b. Choice b A (Choice q.lent B C)) (sym
 
 one_step : (p : Program) (w : World) (sp : Scope) (c : Names) (sc : Scalars) (d : ℕ) (have : List Known) (s t : ℕ → Status) (q : Param) (ps : List Param) (a : Argument) (as' : Arguments) (gs : T.Passed) (b1 b2 : Bool) → w.scalar q.ty ≡ b1 → q.lent ≡ b2 → Passes w sp c sc d have s t (MoreArguments a as') (if b2 && not b1 then T.PassLent (lent_value w sc c.marks a) gs else T.PassOwned (value sc c.marks a) gs) → FitsValue sp.variables a → Choice b1 (Plain w sp.variables a) (Choice b2 (FitsLent w sp.variables a) (Unit {0})) → SizedArgument p a → ((u : ℕ → Status) → Passes w sp c sc d have s u as' gs → PassedWell w sp d have ps as' gs (made_passed w sp.variables have ps as')) → PassedWell w sp d have (q ∷ ps) (MoreArguments a as') (if b2 && not b1 then T.PassLent (lent_value w sc c.marks a) gs else T.PassOwned (value sc c.marks a) gs) (if b1 || b2 then made_passed w sp.variables have ps as' else MoreTrees (made_value w sp.variables have a) (made_passed w sp.variables have ps as'))
 one_step p w sp c sc d have s t q ps a as' gs true true e1 e2 h f k z tail =
-    let r = tail (λ x. after (t x) (used_up (value sc c.marks a) (Own x))) (behind_owned w sp c sc d have s t a as' gs h) in
+    let r = tail (λ x. after (t x) (used_up (value sc c.marks a) (Own x))) (after_owned w sp c sc d have s t a as' gs h) in
     let ts = made_passed w sp.variables have ps as' in
     skipped w sp d have q ps a as' gs (T.PassOwned (value sc c.marks a) gs) ts
     (chosen w q true true (Plain w sp.variables a × DerivesPassed w sp d ps as' ts) (Lends w sp a × DerivesPassed w sp d ps as' ts) (FirstOf ts (λ t us. DerivesValue w sp.variables d t a × DerivesPassed w sp d ps as' us)) e1 e2 (k, r.derived))
     (used_both w sp c sc d have a as' gs h.holding f r.used)
     (λ x m. plain_apart w sp.variables c sc d have a x h.holding k m) (λ j l. plain_made w sp.variables a j k l) r
 one_step p w sp c sc d have s t q ps a as' gs true false e1 e2 h f k z tail =
-    let r = tail (λ x. after (t x) (used_up (value sc c.marks a) (Own x))) (behind_owned w sp c sc d have s t a as' gs h) in
+    let r = tail (λ x. after (t x) (used_up (value sc c.marks a) (Own x))) (after_owned w sp c sc d have s t a as' gs h) in
     let ts = made_passed w sp.variables have ps as' in
     skipped w sp d have q ps a as' gs (T.PassOwned (value sc c.marks a) gs) ts
     (chosen w q true false (Plain w sp.variables a × DerivesPassed w sp d ps as' ts) (Lends w sp a × DerivesPassed w sp d ps as' ts) (FirstOf ts (λ t us. DerivesValue w sp.variables d t a × DerivesPassed w sp d ps as' us)) e1 e2 (k, r.derived))
     (used_both w sp c sc d have a as' gs h.holding f r.used)
     (λ x m. plain_apart w sp.variables c sc d have a x h.holding k m) (λ j l. plain_made w sp.variables a j k l) r
 one_step p w sp c sc d have s t q ps a as' gs false true e1 e2 h f k z tail =
-    let r = tail t (behind_lent w sp c sc d have s t a as' gs h) in
+    let r = tail t (following_lent w sp c sc d have s t a as' gs h) in
     let ts = made_passed w sp.variables have ps as' in
     let apart : (x : ℕ) → 1 ≤ tally x have → occurs_value x a ≡ false = λ x m. lent_apart w sp.variables c sc d have s t a x h.holding k h.clean.0 h.back h.few m in
     let lends : Lends w sp a = lends_derives w sp c sc s t a h.holding.linked k h.clean.0 h.back (λ x v i e o. h.lent x v i e (or_first (occurs_value x a) (occurs_values x as') o)) in
@@ -244,7 +244,7 @@ one_step p w sp c sc d have s t q ps a as' gs false true e1 e2 h f k z tail =
     (used_lent w sp c sc t have a as' gs k h.clean.0 apart r.used)
     apart (λ j l. lent_made w sp.variables c sc t a j k h.clean.0) r
 one_step p w sp c sc d have s t q ps a as' gs false false e1 e2 h f k z tail =
-    let r = tail (λ x. after (t x) (used_up (value sc c.marks a) (Own x))) (behind_owned w sp c sc d have s t a as' gs h) in
+    let r = tail (λ x. after (t x) (used_up (value sc c.marks a) (Own x))) (after_owned w sp c sc d have s t a as' gs h) in
     let ts = made_passed w sp.variables have ps as' in
     let us = MoreTrees (made_value w sp.variables have a) ts in
     let asked : (x : ℕ) → used_up (value sc c.marks a) (Own x) + passed_used_up gs (Own x) ≤ tally x have = h.asked in

@@ -14,7 +14,7 @@ use Rattle.ownership_agreement.specs.fip_rules.Shape as S
 use Rattle.ownership_agreement.specs.fip_rules.Rules.{next}
 use Rattle.ownership_agreement.specs.fip_rules.World.{World, world, lends, weaker}
 use Rattle.ownership_agreement.specs.fip_rules.Shapes as H
-use Rattle.ownership_agreement.specs.fip_rules.Shapes.{Names, Bind, binds, behind, taking, binders, takes, owning, owning_all, lending, passing, passing_all, called, token, used_at, lent_at, clause_shape, shape, shape_block, shape_clauses}
+use Rattle.ownership_agreement.specs.fip_rules.Shapes.{Names, Bind, binds, following, taking, binders, takes, owning, owning_all, lending, passing, passing_all, called, token, used_at, lent_at, clause_shape, shape, shape_block, shape_clauses}
 use Rattle.ownership_agreement.specs.ownership_calculus.Terms as T
 use Rattle.ownership_agreement.specs.ownership_calculus.Terms.{Own, one, has, paid, size}
 use Rattle.ownership_agreement.specs.ownership_calculus.Clean.{used_up, all_used_up, lent_used_up, passed_used_up, outside, asks, asks_lent, asks_taken}
@@ -95,26 +95,26 @@ mutual
   next_block w c (Last e) = next_within w c e
   next_block w c (Let bs e rest) =
       let f = next_within w c e in
-      let r = next_clause w true (behind c (shape w c e)) bs rest (within_block rest) (next_block w (inside w true (behind c (shape w c e)) bs) rest) in
+      let r = next_clause w true (following c (shape w c e)) bs rest (within_block rest) (next_block w (inside w true (following c (shape w c e)) bs) rest) in
       r ∙ ap (λ n. n + length bs + within_block rest) f ∙ (omega arith)
 
   pub next_clauses : (w : World) (own : Bool) (c : Names) (done : S.Shape) (cs : Clauses) → next c.next (shape_clauses w own c done cs) ≡ next c.next done + within_clauses cs
   next_clauses w own c done NoClauses = omega arith
   next_clauses w own c done (MoreClauses q body cs) =
-      let d = behind c done in
+      let d = following c done in
       let more = clause_shape d (taking w own (binders q)) (λ e. shape_block w e body) in
       let f = next_clause w own d (binders q) body (within_block body) (next_block w (inside w own d (binders q)) body) in
       next_clauses w own c (S.Either done more) cs ∙ ap (λ n. n + within_clauses cs) f ∙ (omega arith)
 
--- behind a part, and within binders there
-pub next_behind : (w : World) (c : Names) (e : Expression) → (behind c (shape w c e)).next ≡ c.next + within e
-next_behind w c e = next_within w c e
+-- after a part, and within binders there
+pub next_after : (w : World) (c : Names) (e : Expression) → (following c (shape w c e)).next ≡ c.next + within e
+next_after w c e = next_within w c e
 
 pub next_past : (w : World) (own : Bool) (c : Names) (q : Pattern) (body : Block) → (past_clause w own c q body).next ≡ c.next + length (binders q) + within_block body
 next_past w own c q body = next_clause w own c (binders q) body (within_block body) (next_block w (inside w own c (binders q)) body)
 
-pub behind_linked : (w : World) (vs : List Known) (c : Names) (sc : Scalars) (e : Expression) → Linked w vs c sc → Linked w vs (behind c (shape w c e)) sc
-behind_linked w vs c sc e h = later_linked w vs c (next c.next (shape w c e)) sc (let f = next_within w c e in omega arith) h
+pub after_linked : (w : World) (vs : List Known) (c : Names) (sc : Scalars) (e : Expression) → Linked w vs c sc → Linked w vs (following c (shape w c e)) sc
+after_linked w vs c sc e h = later_linked w vs c (next c.next (shape w c e)) sc (let f = next_within w c e in omega arith) h
 
 pub past_linked : (w : World) (own : Bool) (vs : List Known) (c : Names) (sc : Scalars) (q : Pattern) (body : Block) → Linked w vs c sc → Linked w vs (past_clause w own c q body) sc
 past_linked w own vs c sc q body h = later_linked w vs c (past_clause w own c q body).next sc (let f = next_past w own c q body in omega arith) h
@@ -260,15 +260,15 @@ mutual
   block_pos p f vs c sc n d x (Last e) l i h z b s = uses_pos p f vs c sc n d x e l i h z b s
   block_pos p f vs c sc n d x (Let bs e rest) l i h z b s =
       let w = world p f in
-      let c1 = behind c (shape w c e) in
-      let m : c1.next ≡ n + within e = (let g = next_behind w c e in omega arith) in
+      let c1 = following c (shape w c e) in
+      let m : c1.next ≡ n + within e = (let g = next_after w c e in omega arith) in
       let nb = numbered_at (n + within e) c1.next d bs m h.1 in
       let tb = term_block w (entering w c1.next sc bs) (inside w true c1 bs) rest in
       or_pos (uses w x e) (uses_block w x rest) (asks (Own x) (term w sc c e)) (outside (variables w c1.next bs) [] (Own x) (asks (Own x) tb))
       (uses_pos p f vs c sc n (d + length bs) x e l i h.2 z.0 b s)
       (outside_pos (has (variables w c1.next bs) x) (asks (Own x) tb) (uses_block w x rest) (not_owned w c1.next x bs (omega arith))
       (block_pos p f (named d true bs ++ vs) (inside w true c1 bs) (entering w c1.next sc bs) (n + within e + length bs) (d + within e + length bs) x rest
-      (inside_linked w true vs c1 sc d bs nb (behind_linked w vs c sc e l))
+      (inside_linked w true vs c1 sc d bs nb (after_linked w vs c sc e l))
       (let g = next_inside w true c1 bs in omega arith) h.3 z.1 (omega arith) (B.not_entered w c1.next x sc bs (omega arith) ∙ s)))
 
   clauses_pos : (p : Program) (f : FunKind) (own : Bool) (vs : List Known) (c : Names) (sc : Scalars) (n d x : ℕ) (ys ks : List ℕ) (te : T.Term) (cs : Clauses) (first : Bool) → Linked (world p f) vs c sc → c.next ≡ n → FittingClauses (world p f) vs n d own cs → SizedClauses p cs → x < n → sc x ≡ false → first ≡ pos (outside ys [] (Own x) (asks (Own x) te)) → (first || uses_clauses (world p f) x cs) ≡ pos (asks_lent (Own x) (clauses (world p f) sc own c ys ks te cs))
@@ -381,14 +381,14 @@ mutual
   block_occurs p f vs c sc n d x (Last e) l i h m = asked_occurs p f vs c sc n d x e l i h m
   block_occurs p f vs c sc n d x (Let bs e rest) l i h m =
       let w = world p f in
-      let c1 = behind c (shape w c e) in
-      let k : c1.next ≡ n + within e = (let g = next_behind w c e in omega arith) in
+      let c1 = following c (shape w c e) in
+      let k : c1.next ≡ n + within e = (let g = next_after w c e in omega arith) in
       let nb = numbered_at (n + within e) c1.next d bs k h.1 in
       let tb = term_block w (entering w c1.next sc bs) (inside w true c1 bs) rest in
       or_from (occurs x e) (occurs_block x rest) (asks (Own x) (term w sc c e)) (outside (variables w c1.next bs) [] (Own x) (asks (Own x) tb))
       (asked_occurs p f vs c sc n (d + length bs) x e l i h.2)
       (λ j. block_occurs p f (named d true bs ++ vs) (inside w true c1 bs) (entering w c1.next sc bs) (n + within e + length bs) (d + within e + length bs) x rest
-      (inside_linked w true vs c1 sc d bs nb (behind_linked w vs c sc e l))
+      (inside_linked w true vs c1 sc d bs nb (after_linked w vs c sc e l))
       (let g = next_inside w true c1 bs in omega arith) h.3 (from_outside (has (variables w c1.next bs) x) (asks (Own x) tb) j)) m
 
   clauses_occur : (p : Program) (f : FunKind) (own : Bool) (vs : List Known) (c : Names) (sc : Scalars) (n d x : ℕ) (ys ks : List ℕ) (te : T.Term) (cs : Clauses) (first : Bool) → Linked (world p f) vs c sc → c.next ≡ n → FittingClauses (world p f) vs n d own cs → (1 ≤ outside ys [] (Own x) (asks (Own x) te) → first ≡ true) → 1 ≤ asks_lent (Own x) (clauses (world p f) sc own c ys ks te cs) → (first || occurs_clauses x cs) ≡ true

@@ -21,7 +21,7 @@ use Rattle.derivation_making.proofs.Arguments.{Holding}
 pub use Rattle.type_check.proofs.fip_language.Facts.{if_zero_mono as outside_mono}
 use Rattle.ownership_agreement.proofs.ownership_calculus.Forth.{asks_at, few_at}
 
--- Of the variables that are there, s tells what each went through; a part asks for those that pass the test.
+-- Of the variables that are there, s reports what each went through; a part asks for those that pass the test.
 pub record Stands (w : World) (sp : Scope) (d : ℕ) (there : List Known) (s : ℕ → Status) (asked : ℕ → Bool) : Type 0 where
   pub are_known : AreKnown w sp.variables there
   pub rising : Rising 0 d (numbers there)

@@ -23,7 +23,7 @@ use Rattle.derivation_check.specs.Calculus.{Choice, IsScalar, Operand, Plain}
 use Rattle.derivation_making.specs.Fitting.{IsThere, FitsValue, FitValues, FitsLent, FitPassed, FitsCall, IsScrutinised, FitsScrutinee, Fitting, FittingBlock, FittingClauses, IsFitting, AreFitting}
 use Rattle.derivation_making.specs.Numbered.{Numbered, NumberedBlock, NumberedClauses, IsNumbered, AllNumbered}
 use Rattle.derivation_making.proofs.Lists.{either, not_both, same_number}
-use Rattle.derivation_making.proofs.Linking.{known_here, known_behind}
+use Rattle.derivation_making.proofs.Linking.{known_here, known_after}
 use Rattle.type_check.proofs.fip_language.Facts.{some_some_same as some_type}
 use Rattle.type_check.proofs.Basics.{chosen_is}
 
@@ -45,9 +45,9 @@ else_last : (o p : Option (Option ℕ)) → o ≡ None → or_else o p ≡ p
 else_last None p e = refl
 else_last (Some u) p e = absurd (cc)
 
-look_behind : (s es : S.Scope) (t : Option ℕ) (b : Binder) (x : ℕ) → (b.number == x) ≡ false → look (s ++ entry t b ∷ es) x ≡ look (s ++ es) x
-look_behind [] es t b x h = ap (λ (c : Bool). or_else (look es x) (if c then Some t else None)) h ∙ else_none (look es x)
-look_behind (z ∷ s) es t b x h = ap (λ (o : Option (Option ℕ)). or_else o (look (z ∷ []) x)) (look_behind s es t b x h)
+look_after : (s es : S.Scope) (t : Option ℕ) (b : Binder) (x : ℕ) → (b.number == x) ≡ false → look (s ++ entry t b ∷ es) x ≡ look (s ++ es) x
+look_after [] es t b x h = ap (λ (c : Bool). or_else (look es x) (if c then Some t else None)) h ∙ else_none (look es x)
+look_after (z ∷ s) es t b x h = ap (λ (o : Option (Option ℕ)). or_else o (look (z ∷ []) x)) (look_after s es t b x h)
 
 look_here : (s es : S.Scope) (t : Option ℕ) (b : Binder) (x : ℕ) → (b.number == x) ≡ true → look es x ≡ None → look (s ++ entry t b ∷ es) x ≡ Some t
 look_here [] es t b x h n = ap (λ (c : Bool). or_else (look es x) (if c then Some t else None)) h ∙ else_last (look es x) (Some t) n
@@ -86,9 +86,9 @@ alike_binders own s vs c d e (b ∷ bs) n h l x t k =
           let m = look_here s (filled_entries bs) (Some b.ty) b x f (none_before (c + 1) (d + 1) x bs n.2 (omega arith)) in
           ((omega arith), (u, known_here u (named (d + 1) own bs ++ vs) x f, some_type b.ty t (sym m ∙ k)))
       | inr f ↦
-          let g = alike_binders own s vs (c + 1) (d + 1) e bs n.2 (alike_later s vs c (c + 1) (omega arith) h) (omega arith) x t (sym (look_behind s (filled_entries bs) (Some b.ty) b x f) ∙ k) in
+          let g = alike_binders own s vs (c + 1) (d + 1) e bs n.2 (alike_later s vs c (c + 1) (omega arith) h) (omega arith) x t (sym (look_after s (filled_entries bs) (Some b.ty) b x f) ∙ k) in
           let v = g.1 in
-          (g.0, (v.0, known_behind u (named (d + 1) own bs ++ vs) x f ∙ v.1, v.2))
+          (g.0, (v.0, known_after u (named (d + 1) own bs ++ vs) x f ∙ v.1, v.2))
     ]
 
 filled_append : (bs cs : List Binder) → filled_entries (bs ++ cs) ≡ filled_entries bs ++ filled_entries cs
@@ -277,9 +277,9 @@ alike_params n d e (p ∷ ps) (b ∷ bs) h l x t k =
           ((omega arith), (u, known_here u (parameters (n + 1) ps) x f, some_type p.ty t (sym m ∙ k)))
       | inr f ↦
           let g : (b.number == x) ≡ false = ap (λ m. m == x) h.0 ∙ f in
-          let r = alike_params (n + 1) (d + 1) e ps bs h.2 (omega arith) x t (sym (look_behind [] (parameter_entries ps bs) (Some p.ty) b x g) ∙ k) in
+          let r = alike_params (n + 1) (d + 1) e ps bs h.2 (omega arith) x t (sym (look_after [] (parameter_entries ps bs) (Some p.ty) b x g) ∙ k) in
           let v = r.1 in
-          (r.0, (v.0, known_behind u (parameters (n + 1) ps) x f ∙ v.1, v.2))
+          (r.0, (v.0, known_after u (parameters (n + 1) ps) x f ∙ v.1, v.2))
     ]
 
 instance_fits : (p : Program) (i : Instance) → Typed true (world p) i → IsNumbered p i → IsSized p i → IsFitting (F.world p i.kind) i

@@ -31,7 +31,7 @@ use Rattle.derivation_making.specs.Fitting.{IsFitting}
 use Rattle.derivation_making.proofs.Lists.{tally, AreKnown, EachOf, same_number, number_self, one_true, one_false, either, rising_later}
 use Rattle.derivation_making.proofs.Credits.{by_size, amount_in, amount_out}
 use Rattle.derivation_making.proofs.Nodes.{Has, has_root, has_owned}
-use Rattle.derivation_making.proofs.Linking.{LinkAt, Linked, known_head, known_here, known_behind, known_last, apart}
+use Rattle.derivation_making.proofs.Linking.{LinkAt, Linked, known_head, known_here, known_after, known_last, apart}
 use Rattle.derivation_making.proofs.Arguments.{each_item}
 use Rattle.derivation_making.proofs.Standing.{Stands, Asks}
 use Rattle.derivation_making.proofs.Bodies.{has_block, derive_block}

@@ -176,7 +176,7 @@ abbrev mutual
       ++ added w true d bs) (λ k. need_block p k rest) rest)
       NoTrees))
 
-  -- The clauses behind the first. The match has these variables and credits.
+  -- The clauses after the first. The match has these variables and credits.
   pub made_clauses : Program → World → List Known → ℕ → Bool → Argument → List Known → (ℕ → ℕ) → Clauses → Trees
   made_clauses p w vs d taken a has' have NoClauses = NoTrees
   made_clauses p w vs d taken a has' have (MoreClauses r body cs) =

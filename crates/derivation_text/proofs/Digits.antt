@@ -1,4 +1,4 @@
--- Numbers as digits: the digits that go on with a number, and the bytes behind them.
+-- Numbers as digits: the digits that go on with a number, and the bytes after them.
 use Rattle.std.proofs.Common.{◌≡◌, ◌⊎◌, inl, inr, ℕ, zero, suc, ◌+◌, ◌-◌, ◌*◌, ◌/◌, ◌%◌, ◌^◌, ◌<◌, ◌≤◌, List, [], ◌∷◌, ◌++◌, Bool, true, false, refl, sym, ap, ap₂, ◌∙◌, append_assoc, arith}
 use Rattle.std.specs.Prelude.{◌&&◌, ◌==◌, nat_lt, nat_le, if◌then◌else◌}
 use Rattle.std.specs.Fmt.{decimal}
@@ -19,7 +19,7 @@ digit_range b h =
     let p = and_true (nat_le 48 b) (nat_le b 57) h in
     (leb-true 48 b p.0, leb-true b 57 p.1)
 
--- ---- digits behind a number
+-- ---- digits after a number
 
 abbrev pub number_on : ℕ → List ℕ → ℕ
 number_on n [] = n
@@ -29,7 +29,7 @@ abbrev pub after_digits : List ℕ → List ℕ
 after_digits [] = []
 after_digits (b ∷ bs) = if is_digit b then after_digits bs else b ∷ bs
 
--- The digits of bs make m of n, and then more comes. Behind a leading zero there is none.
+-- The digits of bs make m of n, and then more comes. After a leading zero there is none.
 abbrev pub Continues : ℕ → List ℕ → ℕ → List ℕ → Type 0
 Continues n bs m more = (number_on n bs ≡ m) × (after_digits bs ≡ more) × (n ≡ 0 → bs ≡ more)
 
@@ -192,7 +192,7 @@ continues_begins (suc n) bs m more least most break h a b small =
     begins_more (suc n) least most (omega arith) ∙ true_and (nat_le least most) (reaches 10 (suc n) (suc n) least most) (le-leb least most (omega arith))
     (reached 10 (suc n) (suc n) (suc n) least most bs (omega arith) (omega arith) (omega arith) (omega arith) (omega arith))
 
--- digits with which n goes on to m, whatever comes behind them
+-- digits with which n goes on to m, whatever comes after them
 abbrev Extends : ℕ → List ℕ → ℕ → Type 0
 Extends n ds m = (more : List ℕ) → (number_on n (ds ++ more) ≡ number_on m more) × (after_digits (ds ++ more) ≡ after_digits more)
 

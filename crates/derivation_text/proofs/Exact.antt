@@ -13,7 +13,7 @@ use Rattle.derivation_text.specs.declared.spot.Spot.TheVariants as S
 use Rattle.derivation_text.specs.ProofText.{rule_text, variables_text, credits_text, tree_text, parts_text, more_parts, lines_text, GREATEST, AreVariables, AreCredits, IsNode, AreEntries, IsProofText}
 use Rattle.derivation_text.specs.Machine.{Made, State, start, step, final}
 use Rattle.derivation_text.proofs.Numbers.{no_cons, want_end, going_end, want_alive, going_alive}
-use Rattle.derivation_text.proofs.Residual.{Zipper, Roots, Part, join, depth, zippers, mades, Finish, After, AfterHead, HeadRest, CreditsFrom, Named, BehindLine, BehindVariable, BehindCount, BehindSize, at, Residual, Completes, Fit, Good}
+use Rattle.derivation_text.proofs.Residual.{Zipper, Roots, Part, join, depth, zippers, mades, Finish, After, AfterHead, HeadRest, CreditsFrom, Named, AfterLine, AfterVariable, AfterCount, AfterSize, at, Residual, Completes, Fit, Good}
 use Rattle.derivation_text.proofs.Parts.{line_follow, variable_follow, count_follow, size_follow, variables_want, credits_want, lines_want, after_alive, after_head_alive, credits_alive, more_credits_alive, variables_alive, more_variables_alive, size_alive, named_alive, node_alive, line_alive}
 use Rattle.derivation_text.proofs.Takes.{takes}
 use Rattle.derivation_text.proofs.Gives.{moves}
@@ -22,17 +22,17 @@ use Rattle.derivation_text.proofs.Gives.{moves}
 
 alive_at : (k : Spot) (s : State Zipper) → Fit k s → (bs : List ℕ) × (x : List Made) × Residual k s bs x
 alive_at S.Line s g = ([], s.lines, ([], tt, refl, sym (append-nil s.lines)))
-alive_at S.LineNumber s g = going_alive (BehindLine s.lines) (line_follow s.lines) s.least GREATEST (omega arith) s.number g (λ m a b. line_alive s.lines m)
+alive_at S.LineNumber s g = going_alive (AfterLine s.lines) (line_follow s.lines) s.least GREATEST (omega arith) s.number g (λ m a b. line_alive s.lines m)
 alive_at S.Rule s g = node_alive (at s) g
 alive_at S.Name s g = named_alive (at s) s.rule s.letters
 alive_at S.Variables s g = variables_alive (at s) s.rule s.variables s.least
-alive_at S.Variable s g = want_alive (BehindVariable (at s) s.rule s.variables) (variable_follow (at s) s.rule s.variables) s.least GREATEST (omega arith) g.1 (λ m a b. more_variables_alive (at s) s.rule (s.variables ++ m ∷ []) (suc m))
-alive_at S.VariableNumber s g = going_alive (BehindVariable (at s) s.rule s.variables) (variable_follow (at s) s.rule s.variables) s.least GREATEST (omega arith) s.number g.1 (λ m a b. more_variables_alive (at s) s.rule (s.variables ++ m ∷ []) (suc m))
+alive_at S.Variable s g = want_alive (AfterVariable (at s) s.rule s.variables) (variable_follow (at s) s.rule s.variables) s.least GREATEST (omega arith) g.1 (λ m a b. more_variables_alive (at s) s.rule (s.variables ++ m ∷ []) (suc m))
+alive_at S.VariableNumber s g = going_alive (AfterVariable (at s) s.rule s.variables) (variable_follow (at s) s.rule s.variables) s.least GREATEST (omega arith) s.number g.1 (λ m a b. more_variables_alive (at s) s.rule (s.variables ++ m ∷ []) (suc m))
 alive_at S.Credits s g = credits_alive (at s) s.rule s.variables s.credits s.least
-alive_at S.Size s g = want_alive (BehindSize (at s) s.rule s.variables s.credits) (size_follow (at s) s.rule s.variables s.credits) s.least MOST_FIELDS (omega arith) g.1 (λ m a b. size_alive (at s) s.rule s.variables s.credits m)
-alive_at S.SizeNumber s g = going_alive (BehindSize (at s) s.rule s.variables s.credits) (size_follow (at s) s.rule s.variables s.credits) s.least MOST_FIELDS (omega arith) s.number g.1 (λ m a b. size_alive (at s) s.rule s.variables s.credits m)
-alive_at S.Count s g = want_alive (BehindCount (at s) s.rule s.variables s.credits s.size) (count_follow (at s) s.rule s.variables s.credits s.size) s.least GREATEST (omega arith) g.1 (λ m a b. more_credits_alive (at s) s.rule s.variables (s.credits ++ record { size = s.size; count = m } ∷ []) (suc s.size))
-alive_at S.CountNumber s g = going_alive (BehindCount (at s) s.rule s.variables s.credits s.size) (count_follow (at s) s.rule s.variables s.credits s.size) s.least GREATEST (omega arith) s.number g.1 (λ m a b. more_credits_alive (at s) s.rule s.variables (s.credits ++ record { size = s.size; count = m } ∷ []) (suc s.size))
+alive_at S.Size s g = want_alive (AfterSize (at s) s.rule s.variables s.credits) (size_follow (at s) s.rule s.variables s.credits) s.least MOST_FIELDS (omega arith) g.1 (λ m a b. size_alive (at s) s.rule s.variables s.credits m)
+alive_at S.SizeNumber s g = going_alive (AfterSize (at s) s.rule s.variables s.credits) (size_follow (at s) s.rule s.variables s.credits) s.least MOST_FIELDS (omega arith) s.number g.1 (λ m a b. size_alive (at s) s.rule s.variables s.credits m)
+alive_at S.Count s g = want_alive (AfterCount (at s) s.rule s.variables s.credits s.size) (count_follow (at s) s.rule s.variables s.credits s.size) s.least GREATEST (omega arith) g.1 (λ m a b. more_credits_alive (at s) s.rule s.variables (s.credits ++ record { size = s.size; count = m } ∷ []) (suc s.size))
+alive_at S.CountNumber s g = going_alive (AfterCount (at s) s.rule s.variables s.credits s.size) (count_follow (at s) s.rule s.variables s.credits s.size) s.least GREATEST (omega arith) s.number g.1 (λ m a b. more_credits_alive (at s) s.rule s.variables (s.credits ++ record { size = s.size; count = m } ∷ []) (suc s.size))
 alive_at S.Head s g = after_head_alive s.lines s.instance s.nodes
 alive_at S.Node s g = after_alive s.lines s.instance s.nodes
 
@@ -83,7 +83,7 @@ lines_some s x h = by_entries h.0 h.1 h.2 h.3
   where
     by_entries : (es : List Entry) → AreEntries s.least es → [] ≡ lines_text es → x ≡ s.lines ++ mades es → Some s.lines ≡ Some x
     by_entries [] a e f = ap Some (sym (f ∙ append-nil s.lines))
-    by_entries (e ∷ es) a b f = absurd (want_end (BehindLine s.lines) (line_follow s.lines) s.least GREATEST (omega arith) x (lines_want s.lines s.least e es [] x a b f))
+    by_entries (e ∷ es) a b f = absurd (want_end (AfterLine s.lines) (line_follow s.lines) s.least GREATEST (omega arith) x (lines_want s.lines s.least e es [] x a b f))
 
 named_some : (s : State Zipper) (x : List Made) → Named (at s) s.rule s.letters [] x → ⊥
 named_some s x (inl h) = letters_some s.letters 91 h.0 h.1
@@ -94,7 +94,7 @@ variables_some s x h = by_items h.0 h.2 h.3 h.4
   where
     by_items : (us : List ℕ) → AreVariables s.least us → [] ≡ variables_text us (124 ∷ h.1) → CreditsFrom (at s) s.rule (s.variables ++ us) [] 1 h.1 x → ⊥
     by_items [] a e c = no_cons 124 h.1 e
-    by_items (v ∷ us) a e c = want_end (BehindVariable (at s) s.rule s.variables) (variable_follow (at s) s.rule s.variables) s.least GREATEST (omega arith) x
+    by_items (v ∷ us) a e c = want_end (AfterVariable (at s) s.rule s.variables) (variable_follow (at s) s.rule s.variables) s.least GREATEST (omega arith) x
         (variables_want (at s) s.rule s.variables s.least v us h.1 [] x a e c)
 
 credits_some : (s : State Zipper) (x : List Made) → Residual S.Credits s [] x → ⊥
@@ -102,22 +102,22 @@ credits_some s x h = by_items h.0 h.2 h.3 h.4
   where
     by_items : (ds : List Credit) → AreCredits s.least ds → [] ≡ credits_text ds h.1 → HeadRest (at s) s.rule s.variables (s.credits ++ ds) h.1 x → ⊥
     by_items [] a e c = no_cons 93 (parts_text c.0 c.1) (e ∙ c.3)
-    by_items (d ∷ ds) a e c = want_end (BehindSize (at s) s.rule s.variables s.credits) (size_follow (at s) s.rule s.variables s.credits) s.least MOST_FIELDS (omega arith) x
+    by_items (d ∷ ds) a e c = want_end (AfterSize (at s) s.rule s.variables s.credits) (size_follow (at s) s.rule s.variables s.credits) s.least MOST_FIELDS (omega arith) x
         (credits_want (at s) s.rule s.variables s.credits s.least d ds h.1 [] x a e c)
 
 ends_at : (k : Spot) (s : State Zipper) (x : List Made) → Residual k s [] x → final (record s { spot = k }) ≡ Some x
 ends_at S.Line s x h = lines_some s x h
-ends_at S.LineNumber s x h = absurd (going_end (BehindLine s.lines) (line_follow s.lines) s.least GREATEST (omega arith) s.number x h)
+ends_at S.LineNumber s x h = absurd (going_end (AfterLine s.lines) (line_follow s.lines) s.least GREATEST (omega arith) s.number x h)
 ends_at S.Rule s x h = absurd (node_some (suc (depth s.nodes)) h.0 h.1 h.2 h.3)
 ends_at S.Name s x h = absurd (named_some s x h)
 ends_at S.Variables s x h = absurd (variables_some s x h)
-ends_at S.Variable s x h = absurd (want_end (BehindVariable (at s) s.rule s.variables) (variable_follow (at s) s.rule s.variables) s.least GREATEST (omega arith) x h)
-ends_at S.VariableNumber s x h = absurd (going_end (BehindVariable (at s) s.rule s.variables) (variable_follow (at s) s.rule s.variables) s.least GREATEST (omega arith) s.number x h)
+ends_at S.Variable s x h = absurd (want_end (AfterVariable (at s) s.rule s.variables) (variable_follow (at s) s.rule s.variables) s.least GREATEST (omega arith) x h)
+ends_at S.VariableNumber s x h = absurd (going_end (AfterVariable (at s) s.rule s.variables) (variable_follow (at s) s.rule s.variables) s.least GREATEST (omega arith) s.number x h)
 ends_at S.Credits s x h = absurd (credits_some s x h)
-ends_at S.Size s x h = absurd (want_end (BehindSize (at s) s.rule s.variables s.credits) (size_follow (at s) s.rule s.variables s.credits) s.least MOST_FIELDS (omega arith) x h)
-ends_at S.SizeNumber s x h = absurd (going_end (BehindSize (at s) s.rule s.variables s.credits) (size_follow (at s) s.rule s.variables s.credits) s.least MOST_FIELDS (omega arith) s.number x h)
-ends_at S.Count s x h = absurd (want_end (BehindCount (at s) s.rule s.variables s.credits s.size) (count_follow (at s) s.rule s.variables s.credits s.size) s.least GREATEST (omega arith) x h)
-ends_at S.CountNumber s x h = absurd (going_end (BehindCount (at s) s.rule s.variables s.credits s.size) (count_follow (at s) s.rule s.variables s.credits s.size) s.least GREATEST (omega arith) s.number x h)
+ends_at S.Size s x h = absurd (want_end (AfterSize (at s) s.rule s.variables s.credits) (size_follow (at s) s.rule s.variables s.credits) s.least MOST_FIELDS (omega arith) x h)
+ends_at S.SizeNumber s x h = absurd (going_end (AfterSize (at s) s.rule s.variables s.credits) (size_follow (at s) s.rule s.variables s.credits) s.least MOST_FIELDS (omega arith) s.number x h)
+ends_at S.Count s x h = absurd (want_end (AfterCount (at s) s.rule s.variables s.credits s.size) (count_follow (at s) s.rule s.variables s.credits s.size) s.least GREATEST (omega arith) x h)
+ends_at S.CountNumber s x h = absurd (going_end (AfterCount (at s) s.rule s.variables s.credits s.size) (count_follow (at s) s.rule s.variables s.credits s.size) s.least GREATEST (omega arith) s.number x h)
 ends_at S.Head s x h = absurd (head_some s s.nodes x h)
 ends_at S.Node s x h = absurd (after_some s s.nodes x h)
 

@@ -18,9 +18,9 @@ use Rattle.fip_language.proofs.Facts.{take_last}
 
 -- ---- lists
 
-alter_behind : (f : Head → Head) (xs : List Head) (h : Head) (ys : List Head) → alter f (length xs) (xs ++ h ∷ ys) ≡ xs ++ f h ∷ ys
-alter_behind f [] h ys = refl
-alter_behind f (x ∷ xs) h ys = ap (λ zs. x ∷ zs) (alter_behind f xs h ys)
+alter_after : (f : Head → Head) (xs : List Head) (h : Head) (ys : List Head) → alter f (length xs) (xs ++ h ∷ ys) ≡ xs ++ f h ∷ ys
+alter_after f [] h ys = refl
+alter_after f (x ∷ xs) h ys = ap (λ zs. x ∷ zs) (alter_after f xs h ys)
 
 get_last : (xs : List ℕ) (x : ℕ) → innermost (xs ++ x ∷ []) ≡ Some x
 get_last xs x = (let l = length-append xs (x ∷ []) in let e : length (xs ++ x ∷ []) - 1 ≡ length xs = omega (arith, l) in ap (slice_get (xs ++ x ∷ [])) e) ∙ at xs
@@ -74,7 +74,7 @@ open_flat (Part q us bs ds o) r vs cs =
     let z = Part q us bs ds o in
     let i = length (front o 1) in
     let c : (count ds + 0) + 1 ≡ count ds + 1 = omega arith in
-    let e : alter with_part i (front z 0) ≡ front z 1 = alter_behind with_part (front o 1) (open_head q us bs (count ds + 0)) (flat_all ds) ∙ ap (λ n. front o 1 ++ open_head q us bs n ∷ flat_all ds) c in
+    let e : alter with_part i (front z 0) ≡ front z 1 = alter_after with_part (front o 1) (open_head q us bs (count ds + 0)) (flat_all ds) ∙ ap (λ n. front o 1 ++ open_head q us bs n ∷ flat_all ds) c in
     ap₂ (λ hs k. record { nodes = hs ++ open_head r vs cs 0 ∷ []; open_at = places z ++ k ∷ [] })
     (ap (λ o. Rattle.derivation_trees.specs.Building.alter_at with_part o (front z 0)) (get_last (places o) i) ∙ e) (front_length z 0 1)
 
@@ -100,7 +100,7 @@ close_flat (Part r vs cs ds o) =
     let n : length (front z 0) - i ≡ suc (size_all ds) = omega (arith, l, k) in
     let c : count ds + 0 ≡ count ds = omega arith in
     let e : alter (with_span (length (front z 0) - i)) i (front z 0) ≡ front (add o t) 0 =
-    alter_behind (with_span (length (front z 0) - i)) (front o 1) h (flat_all ds)
+    alter_after (with_span (length (front z 0) - i)) (front o 1) h (flat_all ds)
     ∙ ap₂ (λ n m. front o 1 ++ record { rule = r; variables = vs; credits = cs; parts = m; span = n } ∷ flat_all ds) n c
     ∙ sym (front_add o t) in
     ap (λ o. closed_at o (flatten z)) (get_last (places o) i)

@@ -1,4 +1,4 @@
--- A byte that the machine takes may come, and what comes behind it completes the state.
+-- A byte that the machine takes may come, and what comes after it completes the state.
 use Rattle.std.proofs.Common.{◌≡◌, ◌⊎◌, inl, inr, ℕ, suc, ◌+◌, ◌-◌, ◌*◌, ◌<◌, ◌≤◌, List, [], ◌∷◌, ◌++◌, Option, Some, None, Bool, true, false, refl, sym, ap, ap₂, ◌∙◌, subst, append_assoc, arith}
 use Rattle.std.specs.Prelude.{◌&&◌, ◌==◌, nat_lt, nat_le, if◌then◌else◌}
 use Rattle.std.proofs.lemmas.Bool.{eqb-true, leb-true, ltb-true}
@@ -12,10 +12,10 @@ use Rattle.derivation_trees.specs.Trees.{Tree, Branch, NoTrees, MoreTrees}
 use Rattle.derivation_text.specs.declared.spot.Spot.{Spot}
 use Rattle.derivation_text.specs.declared.spot.Spot.TheVariants as S
 use Rattle.derivation_text.specs.ProofText.{rule_text, variables_text, credits_text, tree_text, GREATEST, DEEPEST}
-use Rattle.derivation_text.specs.Machine.{begins, Made, State, rule_at, is_match, behind_first, begun, longer, going, pass_line, act_rule, act_name, to_credits, with_variable, pass_variable, to_parts, pass_size, with_credit, pass_count, act_node, act_head, act}
+use Rattle.derivation_text.specs.Machine.{begins, Made, State, rule_at, is_match, following_first, begun, longer, going, pass_line, act_rule, act_name, to_credits, with_variable, pass_variable, to_parts, pass_size, with_credit, pass_count, act_node, act_head, act}
 use Rattle.derivation_text.proofs.Digits.{and_true}
-use Rattle.derivation_text.proofs.Numbers.{Follow, IsFollow, Going, want_gives, going_longer, behind_going, bits_differ}
-use Rattle.derivation_text.proofs.Residual.{Zipper, Roots, Part, add, depth, zippers, mades, finished, Place, Finish, After, AfterHead, BeforeNode, HeadRest, CreditsFrom, VariablesFrom, Named, BehindLine, BehindVariable, BehindCount, BehindSize, at, Residual, Completes, Fit, Good}
+use Rattle.derivation_text.proofs.Numbers.{Follow, IsFollow, Going, want_gives, going_longer, after_going, bits_differ}
+use Rattle.derivation_text.proofs.Residual.{Zipper, Roots, Part, add, depth, zippers, mades, finished, Place, Finish, After, AfterHead, BeforeNode, HeadRest, CreditsFrom, VariablesFrom, Named, AfterLine, AfterVariable, AfterCount, AfterSize, at, Residual, Completes, Fit, Good}
 use Rattle.derivation_text.proofs.Parts.{line_follow, variable_follow, count_follow, size_follow, join_nothing, after_finish, want_variables, want_credits, want_lines}
 use Rattle.derivation_text.proofs.Takes.{inside, deeper}
 use Rattle.fip_language.proofs.Facts.{if_some_both as if_some}
@@ -34,7 +34,7 @@ if_split : {A : Type 0} (c : Bool) (o p : Option A) (b : A) → (if c then o els
 if_split true o p b h = inl (refl, h)
 if_split false o p b h = inr (refl, h)
 
--- The state is one that is met, and what completes it completes the one before behind this byte.
+-- The state is one that is met, and what completes it completes the one before after this byte.
 abbrev Moves : State Zipper → (List ℕ → List Made → Type 0) → ℕ → Type 0
 Moves s' R t = Good s' × ((ts : List ℕ) (x : List Made) → Completes s' ts x → R (t ∷ ts) x)
 
@@ -51,21 +51,21 @@ going_moves : (P : Follow) → IsFollow P → (s s' : State Zipper) (most : ℕ)
     → ((n : ℕ) (ts : List ℕ) (x : List Made) → Completes (record s { number = n }) ts x → Going n s.least most P ts x)
     → (s.least ≤ s.number → s.number ≤ most → pass s t ≡ Some s' → Moves s' (P s.number) t)
     → going zippers most pass s t ≡ Some s' → Moves s' (Going s.number s.least most P) t
-going_moves P law s s' most small pass t fit same other h =
+going_moves P theorem s s' most small pass t fit same other h =
     elim (if_split (is_digit t) (longer zippers most s t) (if nat_le s.least s.number && nat_le s.number most then pass s t else None) s' h) as (λ _. Moves s' (Going s.number s.least most P) t) [
       | inl p ↦ (
           let n = 10 * s.number + (t - 48) in
           let a = if_else (s.number == 0) (if begins n s.least most then Some (record s { number = n }) else None) s' p.1 in
           let b = if_some (begins n s.least most) (record s { number = n }) s' a.1 in
           subst (λ s'. Moves s' (Going s.number s.least most P) t) b.1
-          (fit n b.0, λ ts x c. going_longer P law s.least most small s.number t ts x p.0 a.0 (same n ts x c)))
+          (fit n b.0, λ ts x c. going_longer P theorem s.least most small s.number t ts x p.0 a.0 (same n ts x c)))
       | inr p ↦ (
           let a = if_then (nat_le s.least s.number && nat_le s.number most) (pass s t) s' p.1 in
           let b = and_true (nat_le s.least s.number) (nat_le s.number most) a.0 in
           let l = leb-true s.least s.number b.0 in
           let m = leb-true s.number most b.1 in
           let q = other l m a.1 in
-          (q.0, λ ts x c. behind_going P law s.least most small s.number t ts x p.0 l m (q.1 ts x c)))
+          (q.0, λ ts x c. after_going P theorem s.least most small s.number t ts x p.0 l m (q.1 ts x c)))
     ]
 
 -- ---- lines
@@ -76,16 +76,16 @@ line_moves s s' t h =
     subst (λ s'. Moves s' (Residual S.Line s) t) p.2 (
       p.1,
       λ ts x c.
-          let w = want_lines s.lines s.least (t ∷ ts) x (want_gives (BehindLine s.lines) (line_follow s.lines) s.least GREATEST (omega arith) t ts x p.0 c) in
+          let w = want_lines s.lines s.least (t ∷ ts) x (want_gives (AfterLine s.lines) (line_follow s.lines) s.least GREATEST (omega arith) t ts x p.0 c) in
           (w.0 ∷ w.1, w.2, w.3, w.4),
     )
 
 line_number_moves : (s s' : State Zipper) (t : ℕ) → act zippers S.LineNumber (record s { spot = S.LineNumber }) t ≡ Some s' → Moves s' (Residual S.LineNumber s) t
-line_number_moves s s' t h = going_moves (BehindLine s.lines) (line_follow s.lines) (record s { spot = S.LineNumber }) s' GREATEST (omega arith) (pass_line zippers) t
+line_number_moves s s' t h = going_moves (AfterLine s.lines) (line_follow s.lines) (record s { spot = S.LineNumber }) s' GREATEST (omega arith) (pass_line zippers) t
     (λ n b. b) (λ n ts x c. c)
     (λ l m e.
     let p = if_some (t == 32) (record s { spot = S.Rule; instance = s.number; nodes = Roots NoTrees }) s' e in
-    subst (λ s'. Moves s' (BehindLine s.lines s.number) t) p.1
+    subst (λ s'. Moves s' (AfterLine s.lines s.number) t) p.1
     (omega arith, λ ts x c. (ts, ap (λ t. t ∷ ts) (eqb-true t 32 p.0), c)))
     h
 
@@ -93,7 +93,7 @@ line_number_moves s s' t h = going_moves (BehindLine s.lines) (line_follow s.lin
 
 -- the first letter of a rule's name; that of a match is no other rule's
 abbrev IsFirst : RuleName → ℕ → Type 0
-IsFirst r t = (rule_text r ≡ t ∷ behind_first (rule_text r)) × (is_match r ≡ true → r ≡ R.Match)
+IsFirst r t = (rule_text r ≡ t ∷ following_first (rule_text r)) × (is_match r ≡ true → r ≡ R.Match)
 
 first_is : (t c : ℕ) (q r : RuleName) → IsFirst q c → (t == c) ≡ true → Some q ≡ Some r → IsFirst r t
 first_is t c q r f e h = subst (λ r. IsFirst r t) (same_Some q r h) (subst (IsFirst q) (sym (eqb-true t c e)) f)
@@ -140,17 +140,17 @@ node_named k r bs rest x lt e h =
       n.4,
     )
 
-named_node : (k : Place) (r : RuleName) (t : ℕ) (ts : List ℕ) (x : List Made) → depth k.nodes < DEEPEST → IsFirst r t → Named k r (behind_first (rule_text r)) ts x → BeforeNode k (t ∷ ts) x
+named_node : (k : Place) (r : RuleName) (t : ℕ) (ts : List ℕ) (x : List Made) → depth k.nodes < DEEPEST → IsFirst r t → Named k r (following_first (rule_text r)) ts x → BeforeNode k (t ∷ ts) x
 named_node k r t ts x lt f (inl h) = node_named k r (t ∷ ts) h.0 x lt (ap (λ l. t ∷ l) h.1 ∙ ap (λ l. l ++ 91 ∷ h.0) (sym f.0)) h.2
 named_node k r t ts x lt f (inr h) =
     let m = f.1 h.1 in
-    let e : rule_text R.Match ≡ t ∷ behind_first (rule_text R.Match) = subst (λ r. rule_text r ≡ t ∷ behind_first (rule_text r)) m f.0 in
+    let e : rule_text R.Match ≡ t ∷ following_first (rule_text R.Match) = subst (λ r. rule_text r ≡ t ∷ following_first (rule_text r)) m f.0 in
     node_named k R.TakingMatch (t ∷ ts) h.0 x lt
-    (ap (λ l. t ∷ l) (h.2 ∙ ap (λ r. behind_first (rule_text r) ++ 33 ∷ 91 ∷ h.0) m) ∙ ap (λ l. l ++ 33 ∷ 91 ∷ h.0) (sym e)) h.3
+    (ap (λ l. t ∷ l) (h.2 ∙ ap (λ r. following_first (rule_text r) ++ 33 ∷ 91 ∷ h.0) m) ∙ ap (λ l. l ++ 33 ∷ 91 ∷ h.0) (sym e)) h.3
 
 rule_moves : (s s' : State Zipper) (t : ℕ) → Fit S.Rule s → (o : Option RuleName) → rule_at t ≡ o → act_rule zippers o (record s { spot = S.Rule }) ≡ Some s' → Moves s' (Residual S.Rule s) t
 rule_moves s s' t g None e h = cc
-rule_moves s s' t g (Some r) e h = subst (λ s'. Moves s' (Residual S.Rule s) t) (same_Some (record s { spot = S.Name; rule = r; letters = behind_first (rule_text r) }) s' h)
+rule_moves s s' t g (Some r) e h = subst (λ s'. Moves s' (Residual S.Rule s) t) (same_Some (record s { spot = S.Name; rule = r; letters = following_first (rule_text r) }) s' h)
     (g, λ ts x c. named_node (at s) r t ts x g (rule_first t r e) c)
 
 name_moves : (letters : List ℕ) (s s' : State Zipper) (t : ℕ) → depth s.nodes < DEEPEST → act_name zippers letters (record s { spot = S.Name; letters = letters }) t ≡ Some s' → Moves s' (Named (at s) s.rule letters) t
@@ -164,19 +164,19 @@ name_moves [] s s' t g h =
           let q = if_some ((t == 33) && is_match s.rule) taken s' p.1 in
           let b = and_true (t == 33) (is_match s.rule) q.0 in
           subst (λ s'. Moves s' (Named (at s) s.rule []) t) q.1
-          (g, λ ts x c. behind (eqb-true t 33 b.0) b.1 ts x c))
+          (g, λ ts x c. following (eqb-true t 33 b.0) b.1 ts x c))
     ]
   where
-    behind : t ≡ 33 → is_match s.rule ≡ true → (ts : List ℕ) (x : List Made) → Named (at s) R.TakingMatch [] ts x → Named (at s) s.rule [] (t ∷ ts) x
-    behind e m ts x (inl c) = inr (c.0, m, ap₂ (λ t l. t ∷ l) e c.1, c.2)
-    behind e m ts x (inr c) = bits_differ false c.1 refl
+    following : t ≡ 33 → is_match s.rule ≡ true → (ts : List ℕ) (x : List Made) → Named (at s) R.TakingMatch [] ts x → Named (at s) s.rule [] (t ∷ ts) x
+    following e m ts x (inl c) = inr (c.0, m, ap₂ (λ t l. t ∷ l) e c.1, c.2)
+    following e m ts x (inr c) = bits_differ false c.1 refl
 name_moves (c ∷ letters) s s' t g h =
     let p = if_some (t == c) (record s { spot = S.Name; letters = letters }) s' h in
-    subst (λ s'. Moves s' (Named (at s) s.rule (c ∷ letters)) t) p.1 (g, λ ts x n. behind (eqb-true t c p.0) ts x n)
+    subst (λ s'. Moves s' (Named (at s) s.rule (c ∷ letters)) t) p.1 (g, λ ts x n. following (eqb-true t c p.0) ts x n)
   where
-    behind : t ≡ c → (ts : List ℕ) (x : List Made) → Named (at s) s.rule letters ts x → Named (at s) s.rule (c ∷ letters) (t ∷ ts) x
-    behind e ts x (inl n) = inl (n.0, ap₂ (λ t l. t ∷ l) e n.1, n.2)
-    behind e ts x (inr n) = inr (n.0, n.1, ap₂ (λ t l. t ∷ l) e n.2, n.3)
+    following : t ≡ c → (ts : List ℕ) (x : List Made) → Named (at s) s.rule letters ts x → Named (at s) s.rule (c ∷ letters) (t ∷ ts) x
+    following e ts x (inl n) = inl (n.0, ap₂ (λ t l. t ∷ l) e n.1, n.2)
+    following e ts x (inr n) = inr (n.0, n.1, ap₂ (λ t l. t ∷ l) e n.2, n.3)
 
 -- ---- variables
 
@@ -190,7 +190,7 @@ variables_moves s s' t g h =
           subst (λ s'. Moves s' (Residual S.Variables s) t) p.2 (
             (g, p.1),
             λ ts x c.
-                let w = want_variables (at s) s.rule s.variables s.least (t ∷ ts) x (want_gives (BehindVariable (at s) s.rule s.variables) (variable_follow (at s) s.rule s.variables) s.least GREATEST (omega arith) t ts x p.0 c) in
+                let w = want_variables (at s) s.rule s.variables s.least (t ∷ ts) x (want_gives (AfterVariable (at s) s.rule s.variables) (variable_follow (at s) s.rule s.variables) s.least GREATEST (omega arith) t ts x p.0 c) in
                 (w.0 ∷ w.1, w.2, w.3, w.4, w.5),
           ))
     ]
@@ -199,19 +199,19 @@ variable_moves : (s s' : State Zipper) (t : ℕ) → Fit S.Variable s → act zi
 variable_moves s s' t g h =
     let p = begun_cases S.VariableNumber (record s { spot = S.Variable }) s' GREATEST t h in
     subst (λ s'. Moves s' (Residual S.Variable s) t) p.2
-    ((g.0, p.1), λ ts x c. want_gives (BehindVariable (at s) s.rule s.variables) (variable_follow (at s) s.rule s.variables) s.least GREATEST (omega arith) t ts x p.0 c)
+    ((g.0, p.1), λ ts x c. want_gives (AfterVariable (at s) s.rule s.variables) (variable_follow (at s) s.rule s.variables) s.least GREATEST (omega arith) t ts x p.0 c)
 
-variable_passes : (s s' : State Zipper) (t : ℕ) → depth s.nodes < DEEPEST → pass_variable zippers s t ≡ Some s' → Moves s' (BehindVariable (at s) s.rule s.variables s.number) t
+variable_passes : (s s' : State Zipper) (t : ℕ) → depth s.nodes < DEEPEST → pass_variable zippers s t ≡ Some s' → Moves s' (AfterVariable (at s) s.rule s.variables s.number) t
 variable_passes s s' t g h =
     let next : State Zipper = record (with_variable zippers s) { spot = S.Variable; least = suc s.number } in
-    elim (if_split (t == 124) (to_credits zippers (with_variable zippers s)) (if (t == 32) && nat_lt s.number GREATEST then Some next else None) s' h) as (λ _. Moves s' (BehindVariable (at s) s.rule s.variables s.number) t) [
-      | inl p ↦ subst (λ s'. Moves s' (BehindVariable (at s) s.rule s.variables s.number) t) (same_Some (record (with_variable zippers s) { spot = S.Credits; credits = []; least = 1 }) s' p.1)
+    elim (if_split (t == 124) (to_credits zippers (with_variable zippers s)) (if (t == 32) && nat_lt s.number GREATEST then Some next else None) s' h) as (λ _. Moves s' (AfterVariable (at s) s.rule s.variables s.number) t) [
+      | inl p ↦ subst (λ s'. Moves s' (AfterVariable (at s) s.rule s.variables s.number) t) (same_Some (record (with_variable zippers s) { spot = S.Credits; credits = []; least = 1 }) s' p.1)
           (g, λ ts x c. ([], ts, tt, ap (λ t. t ∷ ts) (eqb-true t 124 p.0), subst (λ vs. CreditsFrom (at s) s.rule vs [] 1 ts x) (sym (append-nil (s.variables ++ s.number ∷ []))) c))
       | inr p ↦ (
           let q = if_some ((t == 32) && nat_lt s.number GREATEST) next s' p.1 in
           let b = and_true (t == 32) (nat_lt s.number GREATEST) q.0 in
           let lt = ltb-true s.number GREATEST b.1 in
-          subst (λ s'. Moves s' (BehindVariable (at s) s.rule s.variables s.number) t) q.1 (
+          subst (λ s'. Moves s' (AfterVariable (at s) s.rule s.variables s.number) t) q.1 (
             (g, omega arith),
             λ ts x c.
                 let w = want_variables (at s) s.rule (s.variables ++ s.number ∷ []) (suc s.number) ts x c in
@@ -220,7 +220,7 @@ variable_passes s s' t g h =
     ]
 
 variable_number_moves : (s s' : State Zipper) (t : ℕ) → Fit S.VariableNumber s → act zippers S.VariableNumber (record s { spot = S.VariableNumber }) t ≡ Some s' → Moves s' (Residual S.VariableNumber s) t
-variable_number_moves s s' t g h = going_moves (BehindVariable (at s) s.rule s.variables) (variable_follow (at s) s.rule s.variables) (record s { spot = S.VariableNumber }) s' GREATEST (omega arith) (pass_variable zippers) t
+variable_number_moves s s' t g h = going_moves (AfterVariable (at s) s.rule s.variables) (variable_follow (at s) s.rule s.variables) (record s { spot = S.VariableNumber }) s' GREATEST (omega arith) (pass_variable zippers) t
     (λ n b. (g.0, b)) (λ n ts x c. c) (λ l m e. variable_passes (record s { spot = S.VariableNumber }) s' t g.0 e) h
 
 -- ---- credits
@@ -241,7 +241,7 @@ credits_moves s s' t g h =
           subst (λ s'. Moves s' (Residual S.Credits s) t) p.2 (
             (g, p.1),
             λ ts x c.
-                let w = want_credits (at s) s.rule s.variables s.credits s.least (t ∷ ts) x (want_gives (BehindSize (at s) s.rule s.variables s.credits) (size_follow (at s) s.rule s.variables s.credits) s.least MOST_FIELDS (omega arith) t ts x p.0 c) in
+                let w = want_credits (at s) s.rule s.variables s.credits s.least (t ∷ ts) x (want_gives (AfterSize (at s) s.rule s.variables s.credits) (size_follow (at s) s.rule s.variables s.credits) s.least MOST_FIELDS (omega arith) t ts x p.0 c) in
                 (w.0 ∷ w.1, w.2, w.3, w.4, w.5),
           ))
     ]
@@ -250,14 +250,14 @@ size_moves : (s s' : State Zipper) (t : ℕ) → Fit S.Size s → act zippers S.
 size_moves s s' t g h =
     let p = begun_cases S.SizeNumber (record s { spot = S.Size }) s' MOST_FIELDS t h in
     subst (λ s'. Moves s' (Residual S.Size s) t) p.2
-    ((g.0, p.1), λ ts x c. want_gives (BehindSize (at s) s.rule s.variables s.credits) (size_follow (at s) s.rule s.variables s.credits) s.least MOST_FIELDS (omega arith) t ts x p.0 c)
+    ((g.0, p.1), λ ts x c. want_gives (AfterSize (at s) s.rule s.variables s.credits) (size_follow (at s) s.rule s.variables s.credits) s.least MOST_FIELDS (omega arith) t ts x p.0 c)
 
 size_number_moves : (s s' : State Zipper) (t : ℕ) → Fit S.SizeNumber s → act zippers S.SizeNumber (record s { spot = S.SizeNumber }) t ≡ Some s' → Moves s' (Residual S.SizeNumber s) t
-size_number_moves s s' t g h = going_moves (BehindSize (at s) s.rule s.variables s.credits) (size_follow (at s) s.rule s.variables s.credits) (record s { spot = S.SizeNumber }) s' MOST_FIELDS (omega arith) (pass_size zippers) t
+size_number_moves s s' t g h = going_moves (AfterSize (at s) s.rule s.variables s.credits) (size_follow (at s) s.rule s.variables s.credits) (record s { spot = S.SizeNumber }) s' MOST_FIELDS (omega arith) (pass_size zippers) t
     (λ n b. (g.0, b)) (λ n ts x c. c)
     (λ l m e.
     let p = if_some (t == 58) (record s { spot = S.Count; size = s.number; least = 1 }) s' e in
-    subst (λ s'. Moves s' (BehindSize (at s) s.rule s.variables s.credits s.number) t) p.1
+    subst (λ s'. Moves s' (AfterSize (at s) s.rule s.variables s.credits s.number) t) p.1
     ((g.0, omega arith), λ ts x c. (ts, ap (λ t. t ∷ ts) (eqb-true t 58 p.0), c)))
     h
 
@@ -265,13 +265,13 @@ count_moves : (s s' : State Zipper) (t : ℕ) → Fit S.Count s → act zippers 
 count_moves s s' t g h =
     let p = begun_cases S.CountNumber (record s { spot = S.Count }) s' GREATEST t h in
     subst (λ s'. Moves s' (Residual S.Count s) t) p.2
-    ((g.0, p.1), λ ts x c. want_gives (BehindCount (at s) s.rule s.variables s.credits s.size) (count_follow (at s) s.rule s.variables s.credits s.size) s.least GREATEST (omega arith) t ts x p.0 c)
+    ((g.0, p.1), λ ts x c. want_gives (AfterCount (at s) s.rule s.variables s.credits s.size) (count_follow (at s) s.rule s.variables s.credits s.size) s.least GREATEST (omega arith) t ts x p.0 c)
 
-count_passes : (s s' : State Zipper) (t : ℕ) → depth s.nodes < DEEPEST → pass_count zippers s t ≡ Some s' → Moves s' (BehindCount (at s) s.rule s.variables s.credits s.size s.number) t
+count_passes : (s s' : State Zipper) (t : ℕ) → depth s.nodes < DEEPEST → pass_count zippers s t ≡ Some s' → Moves s' (AfterCount (at s) s.rule s.variables s.credits s.size s.number) t
 count_passes s s' t g h =
     let next : State Zipper = record (with_credit zippers s) { spot = S.Size; least = suc s.size } in
     let cs = s.credits ++ record { size = s.size; count = s.number } ∷ [] in
-    elim (if_split (t == 93) (to_parts zippers (with_credit zippers s)) (if (t == 32) && nat_lt s.size MOST_FIELDS then Some next else None) s' h) as (λ _. Moves s' (BehindCount (at s) s.rule s.variables s.credits s.size s.number) t) [
+    elim (if_split (t == 93) (to_parts zippers (with_credit zippers s)) (if (t == 32) && nat_lt s.size MOST_FIELDS then Some next else None) s' h) as (λ _. Moves s' (AfterCount (at s) s.rule s.variables s.credits s.size s.number) t) [
       | inl p ↦ (
           let m = parts_moves (with_credit zippers s) s' t g p.0 p.1 in
           (m.0, λ ts x c. ([], t ∷ ts, tt, refl, subst (λ cs. HeadRest (at s) s.rule s.variables cs (t ∷ ts) x) (sym (append-nil cs)) (m.1 ts x c))))
@@ -279,7 +279,7 @@ count_passes s s' t g h =
           let q = if_some ((t == 32) && nat_lt s.size MOST_FIELDS) next s' p.1 in
           let b = and_true (t == 32) (nat_lt s.size MOST_FIELDS) q.0 in
           let lt = ltb-true s.size MOST_FIELDS b.1 in
-          subst (λ s'. Moves s' (BehindCount (at s) s.rule s.variables s.credits s.size s.number) t) q.1 (
+          subst (λ s'. Moves s' (AfterCount (at s) s.rule s.variables s.credits s.size s.number) t) q.1 (
             (g, omega arith),
             λ ts x c.
                 let w = want_credits (at s) s.rule s.variables cs (suc s.size) ts x c in
@@ -288,7 +288,7 @@ count_passes s s' t g h =
     ]
 
 count_number_moves : (s s' : State Zipper) (t : ℕ) → Fit S.CountNumber s → act zippers S.CountNumber (record s { spot = S.CountNumber }) t ≡ Some s' → Moves s' (Residual S.CountNumber s) t
-count_number_moves s s' t g h = going_moves (BehindCount (at s) s.rule s.variables s.credits s.size) (count_follow (at s) s.rule s.variables s.credits s.size) (record s { spot = S.CountNumber }) s' GREATEST (omega arith) (pass_count zippers) t
+count_number_moves s s' t g h = going_moves (AfterCount (at s) s.rule s.variables s.credits s.size) (count_follow (at s) s.rule s.variables s.credits s.size) (record s { spot = S.CountNumber }) s' GREATEST (omega arith) (pass_count zippers) t
     (λ n b. (g.0, b)) (λ n ts x c. c) (λ l m e. count_passes (record s { spot = S.CountNumber }) s' t g.0 e) h
 
 -- ---- nodes

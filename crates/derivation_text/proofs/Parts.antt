@@ -1,4 +1,4 @@
--- Laws of what may still come: what stands behind numbers is no digit, each place can be completed, and items that are
+-- Theorems of what may still come: what stands after numbers is no digit, each place can be completed, and items that are
 -- read one after another are items together.
 use Rattle.std.proofs.Common.{◌≡◌, inl, ℕ, suc, ◌<◌, ◌≤◌, List, [], ◌∷◌, ◌++◌, refl, sym, ap, ◌∙◌, subst, append_assoc, arith}
 use Rattle.std.specs.Fmt.{decimal}
@@ -12,14 +12,14 @@ use Rattle.derivation_text.specs.ProofText.{more_variables, variables_text, cred
 use Rattle.derivation_text.specs.Machine.{Made}
 use Rattle.derivation_text.proofs.Digits.{IsBreak}
 use Rattle.derivation_text.proofs.Numbers.{IsFollow, Want, no_cons, cons_head, want_alive}
-use Rattle.derivation_text.proofs.Residual.{Zipper, Roots, Part, join, snoc, add, depth, made_of, mades, finished, Place, Lines, Finish, After, AfterHead, BeforeNode, HeadRest, CreditsFrom, MoreCredits, VariablesFrom, MoreVariables, Named, BehindLine, BehindVariable, BehindCount, BehindSize}
+use Rattle.derivation_text.proofs.Residual.{Zipper, Roots, Part, join, snoc, add, depth, made_of, mades, finished, Place, Lines, Finish, After, AfterHead, BeforeNode, HeadRest, CreditsFrom, MoreCredits, VariablesFrom, MoreVariables, Named, AfterLine, AfterVariable, AfterCount, AfterSize}
 
--- ---- no digit stands behind a number
+-- ---- no digit stands after a number
 
 break_at : (b : ℕ) (bs more : List ℕ) → IsBreak (b ∷ bs) → more ≡ b ∷ bs → IsBreak more
 break_at b bs more h e = subst IsBreak (sym e) h
 
-pub line_follow : (ls : List Made) → IsFollow (BehindLine ls)
+pub line_follow : (ls : List Made) → IsFollow (AfterLine ls)
 line_follow ls = record {
   breaks = λ m more x p. break_at 32 p.0 more refl p.1;
   some = λ m x p. no_cons 32 p.0 p.1;
@@ -33,7 +33,7 @@ variables_some : (us rest : List ℕ) → [] ≡ more_variables us (124 ∷ rest
 variables_some [] rest e = no_cons 124 rest e
 variables_some (v ∷ us) rest e = no_cons 32 (decimal v ++ more_variables us (124 ∷ rest)) e
 
-pub variable_follow : (k : Place) (r : RuleName) (vs : List ℕ) → IsFollow (BehindVariable k r vs)
+pub variable_follow : (k : Place) (r : RuleName) (vs : List ℕ) → IsFollow (AfterVariable k r vs)
 variable_follow k r vs = record {
   breaks = λ m more x p. variables_break p.0 p.1 more p.3;
   some = λ m x p. variables_some p.0 p.1 p.3;
@@ -53,14 +53,14 @@ credits_some : (ds : List Credit) (rest : List ℕ) → ([] ≡ rest → ⊥) �
 credits_some [] rest h e = h e
 credits_some (d ∷ ds) rest h e = no_cons 32 (credit_text d (more_credits ds rest)) e
 
-pub count_follow : (k : Place) (r : RuleName) (vs : List ℕ) (cs : List Credit) (size : ℕ) → IsFollow (BehindCount k r vs cs size)
+pub count_follow : (k : Place) (r : RuleName) (vs : List ℕ) (cs : List Credit) (size : ℕ) → IsFollow (AfterCount k r vs cs size)
 count_follow k r vs cs size = record {
   breaks = λ m more x p. credits_break p.0 p.1 more (head_break k r vs ((cs ++ record { size = size; count = m } ∷ []) ++ p.0) p.1 x p.4) p.3;
   some = λ m x p. credits_some p.0 p.1 (λ e. head_some k r vs ((cs ++ record { size = size; count = m } ∷ []) ++ p.0) x
       (subst (λ bs. HeadRest k r vs ((cs ++ record { size = size; count = m } ∷ []) ++ p.0) bs x) (sym e) p.4)) p.3;
 }
 
-pub size_follow : (k : Place) (r : RuleName) (vs : List ℕ) (cs : List Credit) → IsFollow (BehindSize k r vs cs)
+pub size_follow : (k : Place) (r : RuleName) (vs : List ℕ) (cs : List Credit) → IsFollow (AfterSize k r vs cs)
 size_follow k r vs cs = record {
   breaks = λ m more x p. break_at 58 p.0 more refl p.1;
   some = λ m x p. no_cons 58 p.0 p.1;
@@ -150,9 +150,9 @@ more_variables_alive k r vs least =
     let p = credits_alive k r (vs ++ []) [] 1 in
     (124 ∷ p.0, p.1, ([], p.0, tt, refl, p.2))
 
-pub size_alive : (k : Place) (r : RuleName) (vs : List ℕ) (cs : List Credit) (size : ℕ) → Some2 (BehindSize k r vs cs size)
+pub size_alive : (k : Place) (r : RuleName) (vs : List ℕ) (cs : List Credit) (size : ℕ) → Some2 (AfterSize k r vs cs size)
 size_alive k r vs cs size =
-    let p = want_alive (BehindCount k r vs cs size) (count_follow k r vs cs size) 1 GREATEST (omega arith) (omega arith)
+    let p = want_alive (AfterCount k r vs cs size) (count_follow k r vs cs size) 1 GREATEST (omega arith) (omega arith)
     (λ m a b. more_credits_alive k r vs (cs ++ record { size = size; count = m } ∷ []) (suc size)) in
     (58 ∷ p.0, p.1, (p.0, refl, p.2))
 
@@ -167,23 +167,23 @@ node_alive k lt =
     let p = finish_alive k.lines k.instance k.nodes (Branch R.Atom [] [] NoTrees) in
     (tree_text (Branch R.Atom [] [] NoTrees) p.0, p.1, (Branch R.Atom [] [] NoTrees, p.0, (omega arith, tt, tt, tt), refl, p.2))
 
-pub line_alive : (ls : List Made) (m : ℕ) → Some2 (BehindLine ls m)
+pub line_alive : (ls : List Made) (m : ℕ) → Some2 (AfterLine ls m)
 line_alive ls m =
     let p = node_alive (record { lines = ls; instance = m; nodes = Roots NoTrees }) (omega arith) in
     (32 ∷ p.0, p.1, (p.0, refl, p.2))
 
 -- ---- items one after another
 
-pub variables_want : (k : Place) (r : RuleName) (vs : List ℕ) (least v : ℕ) (us rest bs : List ℕ) (x : List Made) → AreVariables least (v ∷ us) → bs ≡ variables_text (v ∷ us) (124 ∷ rest) → CreditsFrom k r (vs ++ v ∷ us) [] 1 rest x → Want least GREATEST (BehindVariable k r vs) bs x
+pub variables_want : (k : Place) (r : RuleName) (vs : List ℕ) (least v : ℕ) (us rest bs : List ℕ) (x : List Made) → AreVariables least (v ∷ us) → bs ≡ variables_text (v ∷ us) (124 ∷ rest) → CreditsFrom k r (vs ++ v ∷ us) [] 1 rest x → Want least GREATEST (AfterVariable k r vs) bs x
 variables_want k r vs least v us rest bs x a e h =
     (v, more_variables us (124 ∷ rest), a.0, a.1, e, (us, rest, a.2, refl, subst (λ ws. CreditsFrom k r ws [] 1 rest x) (sym (append_assoc vs (v ∷ []) us)) h))
 
-pub want_variables : (k : Place) (r : RuleName) (vs : List ℕ) (least : ℕ) (bs : List ℕ) (x : List Made) → Want least GREATEST (BehindVariable k r vs) bs x → (v : ℕ) × (us : List ℕ) × (rest : List ℕ) × AreVariables least (v ∷ us) × (bs ≡ variables_text (v ∷ us) (124 ∷ rest)) × CreditsFrom k r (vs ++ v ∷ us) [] 1 rest x
+pub want_variables : (k : Place) (r : RuleName) (vs : List ℕ) (least : ℕ) (bs : List ℕ) (x : List Made) → Want least GREATEST (AfterVariable k r vs) bs x → (v : ℕ) × (us : List ℕ) × (rest : List ℕ) × AreVariables least (v ∷ us) × (bs ≡ variables_text (v ∷ us) (124 ∷ rest)) × CreditsFrom k r (vs ++ v ∷ us) [] 1 rest x
 want_variables k r vs least bs x h =
     let b = h.5 in
     (h.0, b.0, b.1, (h.2, h.3, b.2), h.4 ∙ ap (λ l. decimal h.0 ++ l) b.3, subst (λ ws. CreditsFrom k r ws [] 1 b.1 x) (append_assoc vs (h.0 ∷ []) b.0) b.4)
 
-pub credits_want : (k : Place) (r : RuleName) (vs : List ℕ) (cs : List Credit) (least : ℕ) (d : Credit) (ds : List Credit) (rest bs : List ℕ) (x : List Made) → AreCredits least (d ∷ ds) → bs ≡ credits_text (d ∷ ds) rest → HeadRest k r vs (cs ++ d ∷ ds) rest x → Want least MOST_FIELDS (BehindSize k r vs cs) bs x
+pub credits_want : (k : Place) (r : RuleName) (vs : List ℕ) (cs : List Credit) (least : ℕ) (d : Credit) (ds : List Credit) (rest bs : List ℕ) (x : List Made) → AreCredits least (d ∷ ds) → bs ≡ credits_text (d ∷ ds) rest → HeadRest k r vs (cs ++ d ∷ ds) rest x → Want least MOST_FIELDS (AfterSize k r vs cs) bs x
 credits_want k r vs cs least d ds rest bs x a e h = (
   d.size,
   58 ∷ decimal d.count ++ more_credits ds rest,
@@ -197,7 +197,7 @@ credits_want k r vs cs least d ds rest bs x a e h = (
   ),
 )
 
-pub want_credits : (k : Place) (r : RuleName) (vs : List ℕ) (cs : List Credit) (least : ℕ) (bs : List ℕ) (x : List Made) → Want least MOST_FIELDS (BehindSize k r vs cs) bs x → (d : Credit) × (ds : List Credit) × (rest : List ℕ) × AreCredits least (d ∷ ds) × (bs ≡ credits_text (d ∷ ds) rest) × HeadRest k r vs (cs ++ d ∷ ds) rest x
+pub want_credits : (k : Place) (r : RuleName) (vs : List ℕ) (cs : List Credit) (least : ℕ) (bs : List ℕ) (x : List Made) → Want least MOST_FIELDS (AfterSize k r vs cs) bs x → (d : Credit) × (ds : List Credit) × (rest : List ℕ) × AreCredits least (d ∷ ds) × (bs ≡ credits_text (d ∷ ds) rest) × HeadRest k r vs (cs ++ d ∷ ds) rest x
 want_credits k r vs cs least bs x h =
     let b = h.5 in
     let c = b.2 in
@@ -214,7 +214,7 @@ want_credits k r vs cs least bs x h =
 finished_entry : (e : Entry) → finished e.instance (MoreTrees e.tree NoTrees) ≡ made_of e
 finished_entry e = ap (λ hs. record { instance = e.instance; nodes = hs }) (append-nil (flat e.tree))
 
-pub lines_want : (ls : List Made) (least : ℕ) (e : Entry) (es : List Entry) (bs : List ℕ) (x : List Made) → AreEntries least (e ∷ es) → bs ≡ lines_text (e ∷ es) → x ≡ ls ++ mades (e ∷ es) → Want least GREATEST (BehindLine ls) bs x
+pub lines_want : (ls : List Made) (least : ℕ) (e : Entry) (es : List Entry) (bs : List ℕ) (x : List Made) → AreEntries least (e ∷ es) → bs ≡ lines_text (e ∷ es) → x ≡ ls ++ mades (e ∷ es) → Want least GREATEST (AfterLine ls) bs x
 lines_want ls least e es bs x a b h = (
   e.instance,
   32 ∷ tree_text e.tree (10 ∷ lines_text es),
@@ -228,7 +228,7 @@ lines_want ls least e es bs x a b h = (
   ),
 )
 
-pub want_lines : (ls : List Made) (least : ℕ) (bs : List ℕ) (x : List Made) → Want least GREATEST (BehindLine ls) bs x → (e : Entry) × (es : List Entry) × AreEntries least (e ∷ es) × (bs ≡ lines_text (e ∷ es)) × (x ≡ ls ++ mades (e ∷ es))
+pub want_lines : (ls : List Made) (least : ℕ) (bs : List ℕ) (x : List Made) → Want least GREATEST (AfterLine ls) bs x → (e : Entry) × (es : List Entry) × AreEntries least (e ∷ es) × (bs ≡ lines_text (e ∷ es)) × (x ≡ ls ++ mades (e ∷ es))
 want_lines ls least bs x h =
     let b = h.5 in
     let n = b.2 in

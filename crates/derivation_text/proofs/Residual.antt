@@ -74,11 +74,11 @@ pub record Place : Type 0 where
   pub instance : ℕ
   pub nodes : Zipper
 
--- the lines behind this one
+-- the lines after this one
 abbrev pub Lines : List Made → ℕ → Trees → List ℕ → List Made → Type 0
 Lines ls i ds bs x = (es : List Entry) × (bs ≡ 10 ∷ lines_text es) × AreEntries (suc i) es × (x ≡ ls ++ finished i ds ∷ mades es)
 
--- behind the node t, a further part of the innermost open node
+-- after the node t, a further part of the innermost open node
 abbrev pub Finish : List Made → ℕ → Zipper → Tree → List ℕ → List Made → Type 0
 Finish ls i (Roots ds) t bs x = Lines ls i (snoc ds t) bs x
 Finish ls i (Part r vs cs ds o) t bs x = (ts : Trees) × (rest : List ℕ) × AreNodes (suc (suc (depth o))) ts × (bs ≡ more_parts ts rest)
@@ -90,7 +90,7 @@ After ls i (Roots ds) bs x = Lines ls i ds bs x
 After ls i (Part r vs cs ds o) bs x = (ts : Trees) × (rest : List ℕ) × AreNodes (suc (suc (depth o))) ts × (bs ≡ more_parts ts rest)
     × Finish ls i o (Branch r vs cs (join ds ts)) rest x
 
--- behind the bracket of the innermost open node
+-- after the bracket of the innermost open node
 abbrev pub AfterHead : List Made → ℕ → Zipper → List ℕ → List Made → Type 0
 AfterHead ls i (Roots ds) bs x = Lines ls i ds bs x
 AfterHead ls i (Part r vs cs ds o) bs x = (ts : Trees) × (rest : List ℕ) × AreNodes (suc (suc (depth o))) ts × (bs ≡ parts_text ts rest)
@@ -115,24 +115,24 @@ VariablesFrom k r vs least bs x = (us : List ℕ) × (rest : List ℕ) × AreVar
 abbrev pub MoreVariables : Place → RuleName → List ℕ → ℕ → List ℕ → List Made → Type 0
 MoreVariables k r vs least bs x = (us : List ℕ) × (rest : List ℕ) × AreVariables least us × (bs ≡ more_variables us (124 ∷ rest)) × CreditsFrom k r (vs ++ us) [] 1 rest x
 
--- behind letters of a rule's name; that of a match may go on
+-- after letters of a rule's name; that of a match may go on
 abbrev pub Named : Place → RuleName → List ℕ → List ℕ → List Made → Type 0
 Named k r letters bs x = ((rest : List ℕ) × (bs ≡ letters ++ 91 ∷ rest) × VariablesFrom k r [] 0 rest x)
     ⊎ ((rest : List ℕ) × (is_match r ≡ true) × (bs ≡ letters ++ 33 ∷ 91 ∷ rest) × VariablesFrom k R.TakingMatch [] 0 rest x)
 
--- ---- behind numbers
+-- ---- after numbers
 
-abbrev pub BehindLine : List Made → Follow
-BehindLine ls m more x = (rest : List ℕ) × (more ≡ 32 ∷ rest) × BeforeNode (record { lines = ls; instance = m; nodes = Roots NoTrees }) rest x
+abbrev pub AfterLine : List Made → Follow
+AfterLine ls m more x = (rest : List ℕ) × (more ≡ 32 ∷ rest) × BeforeNode (record { lines = ls; instance = m; nodes = Roots NoTrees }) rest x
 
-abbrev pub BehindVariable : Place → RuleName → List ℕ → Follow
-BehindVariable k r vs m more x = MoreVariables k r (vs ++ m ∷ []) (suc m) more x
+abbrev pub AfterVariable : Place → RuleName → List ℕ → Follow
+AfterVariable k r vs m more x = MoreVariables k r (vs ++ m ∷ []) (suc m) more x
 
-abbrev pub BehindCount : Place → RuleName → List ℕ → List Credit → ℕ → Follow
-BehindCount k r vs cs size m more x = MoreCredits k r vs (cs ++ record { size = size; count = m } ∷ []) (suc size) more x
+abbrev pub AfterCount : Place → RuleName → List ℕ → List Credit → ℕ → Follow
+AfterCount k r vs cs size m more x = MoreCredits k r vs (cs ++ record { size = size; count = m } ∷ []) (suc size) more x
 
-abbrev pub BehindSize : Place → RuleName → List ℕ → List Credit → Follow
-BehindSize k r vs cs size more x = (rest : List ℕ) × (more ≡ 58 ∷ rest) × Want 1 GREATEST (BehindCount k r vs cs size) rest x
+abbrev pub AfterSize : Place → RuleName → List ℕ → List Credit → Follow
+AfterSize k r vs cs size more x = (rest : List ℕ) × (more ≡ 58 ∷ rest) × Want 1 GREATEST (AfterCount k r vs cs size) rest x
 
 -- ---- at each spot
 
@@ -141,17 +141,17 @@ at s = record { lines = s.lines; instance = s.instance; nodes = s.nodes }
 
 abbrev pub Residual : Spot → State Zipper → List ℕ → List Made → Type 0
 Residual S.Line s bs x = (es : List Entry) × AreEntries s.least es × (bs ≡ lines_text es) × (x ≡ s.lines ++ mades es)
-Residual S.LineNumber s bs x = Going s.number s.least GREATEST (BehindLine s.lines) bs x
+Residual S.LineNumber s bs x = Going s.number s.least GREATEST (AfterLine s.lines) bs x
 Residual S.Rule s bs x = BeforeNode (at s) bs x
 Residual S.Name s bs x = Named (at s) s.rule s.letters bs x
 Residual S.Variables s bs x = VariablesFrom (at s) s.rule s.variables s.least bs x
-Residual S.Variable s bs x = Want s.least GREATEST (BehindVariable (at s) s.rule s.variables) bs x
-Residual S.VariableNumber s bs x = Going s.number s.least GREATEST (BehindVariable (at s) s.rule s.variables) bs x
+Residual S.Variable s bs x = Want s.least GREATEST (AfterVariable (at s) s.rule s.variables) bs x
+Residual S.VariableNumber s bs x = Going s.number s.least GREATEST (AfterVariable (at s) s.rule s.variables) bs x
 Residual S.Credits s bs x = CreditsFrom (at s) s.rule s.variables s.credits s.least bs x
-Residual S.Size s bs x = Want s.least MOST_FIELDS (BehindSize (at s) s.rule s.variables s.credits) bs x
-Residual S.SizeNumber s bs x = Going s.number s.least MOST_FIELDS (BehindSize (at s) s.rule s.variables s.credits) bs x
-Residual S.Count s bs x = Want s.least GREATEST (BehindCount (at s) s.rule s.variables s.credits s.size) bs x
-Residual S.CountNumber s bs x = Going s.number s.least GREATEST (BehindCount (at s) s.rule s.variables s.credits s.size) bs x
+Residual S.Size s bs x = Want s.least MOST_FIELDS (AfterSize (at s) s.rule s.variables s.credits) bs x
+Residual S.SizeNumber s bs x = Going s.number s.least MOST_FIELDS (AfterSize (at s) s.rule s.variables s.credits) bs x
+Residual S.Count s bs x = Want s.least GREATEST (AfterCount (at s) s.rule s.variables s.credits s.size) bs x
+Residual S.CountNumber s bs x = Going s.number s.least GREATEST (AfterCount (at s) s.rule s.variables s.credits s.size) bs x
 Residual S.Head s bs x = AfterHead s.lines s.instance s.nodes bs x
 Residual S.Node s bs x = After s.lines s.instance s.nodes bs x
 

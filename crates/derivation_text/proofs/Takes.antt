@@ -13,10 +13,10 @@ use Rattle.derivation_trees.specs.Trees.{Tree, Missing, Branch, Trees, NoTrees, 
 use Rattle.derivation_text.specs.declared.spot.Spot.{Spot}
 use Rattle.derivation_text.specs.declared.spot.Spot.TheVariants as S
 use Rattle.derivation_text.specs.ProofText.{rule_text, more_variables, variables_text, more_credits, credits_text, tree_text, parts_text, more_parts, lines_text, GREATEST, DEEPEST, AreVariables, AreCredits, IsNode, AreNodes, AreEntries}
-use Rattle.derivation_text.specs.Machine.{begins, Made, State, rule_at, is_match, behind_first, begun, longer, going, pass_line, act_rule, act_name, to_credits, act_variables, with_variable, pass_variable, to_parts, act_credits, pass_size, with_credit, pass_count, act_node, act_head, act}
+use Rattle.derivation_text.specs.Machine.{begins, Made, State, rule_at, is_match, following_first, begun, longer, going, pass_line, act_rule, act_name, to_credits, act_variables, with_variable, pass_variable, to_parts, act_credits, pass_size, with_credit, pass_count, act_node, act_head, act}
 use Rattle.derivation_text.proofs.Digits.{if_yes, if_not, true_and, either, digit_range}
-use Rattle.derivation_text.proofs.Numbers.{Follow, IsFollow, Want, Going, cons_head, cons_tail, no_cons, want_takes, going_digit, going_behind}
-use Rattle.derivation_text.proofs.Residual.{Zipper, Roots, Part, join, add, depth, zippers, made, mades, finished, Finish, After, AfterHead, BeforeNode, HeadRest, CreditsFrom, VariablesFrom, Named, BehindLine, BehindVariable, BehindCount, BehindSize, at, Residual, Completes, Fit, Good}
+use Rattle.derivation_text.proofs.Numbers.{Follow, IsFollow, Want, Going, cons_head, cons_tail, no_cons, want_takes, going_digit, going_after}
+use Rattle.derivation_text.proofs.Residual.{Zipper, Roots, Part, join, add, depth, zippers, made, mades, finished, Finish, After, AfterHead, BeforeNode, HeadRest, CreditsFrom, VariablesFrom, Named, AfterLine, AfterVariable, AfterCount, AfterSize, at, Residual, Completes, Fit, Good}
 use Rattle.derivation_text.proofs.Parts.{line_follow, variable_follow, count_follow, size_follow, join_nothing, finish_after, node_depth, after_sign, variables_want, credits_want, lines_want}
 
 abbrev pub Takes : Spot → State Zipper → ℕ → List ℕ → List Made → Type 0
@@ -24,14 +24,14 @@ Takes k s t ts x = (s' : State Zipper) × (act zippers k (record s { spot = k })
 
 -- ---- numbers
 
--- a digit is no sign behind the digits
+-- a digit is no sign after the digits
 pub other_sign : (t c : ℕ) → is_digit t ≡ true → 57 < c → (t == c) ≡ false
 other_sign t c d lt = ne_eqb t c (λ e. let r = digit_range t d in let r1 = r.1 in absurd (omega (arith, e)))
 
 -- the first digit
 begun_takes : (P : Follow) → IsFollow P → (k : Spot) (s : State Zipper) (most : ℕ) → most ≤ GREATEST → (t : ℕ) (ts : List ℕ) (x : List Made) → Want s.least most P (t ∷ ts) x → (begun zippers k most s t ≡ Some (record s { spot = k; number = t - 48 })) × Going (t - 48) s.least most P ts x × (is_digit t ≡ true)
-begun_takes P law k s most small t ts x h =
-    let w = want_takes P law s.least most small t ts x h in
+begun_takes P theorem k s most small t ts x h =
+    let w = want_takes P theorem s.least most small t ts x h in
     (if_yes (is_digit t && begins (t - 48) s.least most) (Some (record s { spot = k; number = t - 48 })) None (true_and (is_digit t) (begins (t - 48) s.least most) w.0 w.1), w.2, w.0)
 
 -- a further byte
@@ -39,9 +39,9 @@ going_takes : (P : Follow) → IsFollow P → (s : State Zipper) (most : ℕ) �
     → ((n : ℕ) → Going n s.least most P ts x → Completes (record s { number = n }) ts x)
     → (s.least ≤ s.number → s.number ≤ most → P s.number (t ∷ ts) x → (s' : State Zipper) × (pass s t ≡ Some s') × Completes s' ts x)
     → Going s.number s.least most P (t ∷ ts) x → (s' : State Zipper) × (going zippers most pass s t ≡ Some s') × Completes s' ts x
-going_takes P law s most small pass t ts x digit other h = elim (either (is_digit t)) as (λ _. (s' : State Zipper) × (going zippers most pass s t ≡ Some s') × Completes s' ts x) [
+going_takes P theorem s most small pass t ts x digit other h = elim (either (is_digit t)) as (λ _. (s' : State Zipper) × (going zippers most pass s t ≡ Some s') × Completes s' ts x) [
   | inl d ↦ (
-      let g = going_digit P law s.least most small s.number t ts x d h in
+      let g = going_digit P theorem s.least most small s.number t ts x d h in
       let n = 10 * s.number + (t - 48) in
       let o : Option (State Zipper) = if begins n s.least most then Some (record s { number = n }) else None in
       let p : Option (State Zipper) = if nat_le s.least s.number && nat_le s.number most then pass s t else None in (
@@ -50,7 +50,7 @@ going_takes P law s most small pass t ts x digit other h = elim (either (is_digi
         digit n g.2,
       ))
   | inr d ↦ (
-      let g = going_behind P law s.least most small s.number t ts x d h in
+      let g = going_after P theorem s.least most small s.number t ts x d h in
       let r = other g.0 g.1 g.2 in
       let p : Option (State Zipper) = if nat_le s.least s.number && nat_le s.number most then pass s t else None in (
         r.0,
@@ -68,11 +68,11 @@ line_takes s t ts x h = by_entries h.0 h.1 h.2 h.3
     by_entries : (es : List Entry) → AreEntries s.least es → t ∷ ts ≡ lines_text es → x ≡ s.lines ++ mades es → Takes S.Line s t ts x
     by_entries [] a e f = absurd (no_cons t ts (sym e))
     by_entries (e ∷ es) a b f =
-        let p = begun_takes (BehindLine s.lines) (line_follow s.lines) S.LineNumber (record s { spot = S.Line }) GREATEST (omega arith) t ts x (lines_want s.lines s.least e es (t ∷ ts) x a b f) in
+        let p = begun_takes (AfterLine s.lines) (line_follow s.lines) S.LineNumber (record s { spot = S.Line }) GREATEST (omega arith) t ts x (lines_want s.lines s.least e es (t ∷ ts) x a b f) in
         (record s { spot = S.LineNumber; number = t - 48 }, p.0, p.1)
 
 line_number_takes : (s : State Zipper) (t : ℕ) (ts : List ℕ) (x : List Made) → Residual S.LineNumber s (t ∷ ts) x → Takes S.LineNumber s t ts x
-line_number_takes s t ts x h = going_takes (BehindLine s.lines) (line_follow s.lines) (record s { spot = S.LineNumber }) GREATEST (omega arith) (pass_line zippers) t ts x
+line_number_takes s t ts x h = going_takes (AfterLine s.lines) (line_follow s.lines) (record s { spot = S.LineNumber }) GREATEST (omega arith) (pass_line zippers) t ts x
     (λ n g. g)
     (λ a b p.
     let e : t ≡ 32 = cons_head t 32 ts p.0 p.1 in
@@ -89,13 +89,13 @@ cut : (t : ℕ) (ts : List ℕ) (c : ℕ) (letters rest : List ℕ) → t ∷ ts
 cut t ts c letters rest e = (cons_head t c ts (letters ++ rest) e, cons_tail t c ts (letters ++ rest) e)
 
 module _ (s : State Zipper) (t : ℕ) (ts : List ℕ) (x : List Made) where
-  -- a rule whose name tells it from the others
-  named_takes : (r : RuleName) (c : ℕ) (letters rest : List ℕ) → rule_at c ≡ Some r → behind_first (rule_text r) ≡ letters → t ∷ ts ≡ c ∷ (letters ++ 91 ∷ rest) → VariablesFrom (at s) r [] 0 rest x → Takes S.Rule s t ts x
-  named_takes r c letters rest first behind e h =
+  -- a rule whose name reports it from the others
+  named_takes : (r : RuleName) (c : ℕ) (letters rest : List ℕ) → rule_at c ≡ Some r → following_first (rule_text r) ≡ letters → t ∷ ts ≡ c ∷ (letters ++ 91 ∷ rest) → VariablesFrom (at s) r [] 0 rest x → Takes S.Rule s t ts x
+  named_takes r c letters rest first following e h =
       let k = cut t ts c letters (91 ∷ rest) e in (
-        record s { spot = S.Name; rule = r; letters = behind_first (rule_text r) },
+        record s { spot = S.Name; rule = r; letters = following_first (rule_text r) },
         ap (λ t. act_rule zippers (rule_at t) (record s { spot = S.Rule })) k.0 ∙ ap (λ o. act_rule zippers o (record s { spot = S.Rule })) first,
-        subst (λ letters. Named (at s) r letters ts x) (sym behind) (inl (rest, k.1, h)),
+        subst (λ letters. Named (at s) r letters ts x) (sym following) (inl (rest, k.1, h)),
       )
 
   rule_takes : (r : RuleName) (rest : List ℕ) → t ∷ ts ≡ rule_text r ++ 91 ∷ rest → VariablesFrom (at s) r [] 0 rest x → Takes S.Rule s t ts x
@@ -159,7 +159,7 @@ variables_takes s t ts x h = by_items h.0 h.2 h.3 h.4
       subst (λ l. CreditsFrom (at s) s.rule s.variables [] 1 l x) (sym (cons_tail t 124 ts h.1 e)) (subst (λ vs. CreditsFrom (at s) s.rule vs [] 1 h.1 x) (append-nil s.variables) c),
     )
     by_items (v ∷ us) a e c =
-        let p = begun_takes (BehindVariable (at s) s.rule s.variables) (variable_follow (at s) s.rule s.variables) S.VariableNumber (record s { spot = S.Variables }) GREATEST (omega arith) t ts x
+        let p = begun_takes (AfterVariable (at s) s.rule s.variables) (variable_follow (at s) s.rule s.variables) S.VariableNumber (record s { spot = S.Variables }) GREATEST (omega arith) t ts x
         (variables_want (at s) s.rule s.variables s.least v us h.1 (t ∷ ts) x a e c) in (
           record s { spot = S.VariableNumber; number = t - 48 },
           if_not (t == 124) (to_credits zippers (record s { spot = S.Variables })) (begun zippers S.VariableNumber GREATEST (record s { spot = S.Variables }) t) (other_sign t 124 p.2 (omega arith)) ∙ p.0,
@@ -168,11 +168,11 @@ variables_takes s t ts x h = by_items h.0 h.2 h.3 h.4
 
 variable_takes : (s : State Zipper) (t : ℕ) (ts : List ℕ) (x : List Made) → Residual S.Variable s (t ∷ ts) x → Takes S.Variable s t ts x
 variable_takes s t ts x h =
-    let p = begun_takes (BehindVariable (at s) s.rule s.variables) (variable_follow (at s) s.rule s.variables) S.VariableNumber (record s { spot = S.Variable }) GREATEST (omega arith) t ts x h in
+    let p = begun_takes (AfterVariable (at s) s.rule s.variables) (variable_follow (at s) s.rule s.variables) S.VariableNumber (record s { spot = S.Variable }) GREATEST (omega arith) t ts x h in
     (record s { spot = S.VariableNumber; number = t - 48 }, p.0, p.1)
 
-behind_variable : (s : State Zipper) (t : ℕ) (ts : List ℕ) (x : List Made) → BehindVariable (at s) s.rule s.variables s.number (t ∷ ts) x → (s' : State Zipper) × (pass_variable zippers s t ≡ Some s') × Completes s' ts x
-behind_variable s t ts x h = by_items h.0 h.2 h.3 h.4
+after_variable : (s : State Zipper) (t : ℕ) (ts : List ℕ) (x : List Made) → AfterVariable (at s) s.rule s.variables s.number (t ∷ ts) x → (s' : State Zipper) × (pass_variable zippers s t ≡ Some s') × Completes s' ts x
+after_variable s t ts x h = by_items h.0 h.2 h.3 h.4
   where
     by_items : (us : List ℕ) → AreVariables (suc s.number) us → t ∷ ts ≡ more_variables us (124 ∷ h.1) → CreditsFrom (at s) s.rule ((s.variables ++ s.number ∷ []) ++ us) [] 1 h.1 x → (s' : State Zipper) × (pass_variable zippers s t ≡ Some s') × Completes s' ts x
     by_items [] a e c = (
@@ -192,8 +192,8 @@ behind_variable s t ts x h = by_items h.0 h.2 h.3 h.4
         )
 
 variable_number_takes : (s : State Zipper) (t : ℕ) (ts : List ℕ) (x : List Made) → Residual S.VariableNumber s (t ∷ ts) x → Takes S.VariableNumber s t ts x
-variable_number_takes s t ts x h = going_takes (BehindVariable (at s) s.rule s.variables) (variable_follow (at s) s.rule s.variables) (record s { spot = S.VariableNumber }) GREATEST (omega arith) (pass_variable zippers) t ts x
-    (λ n g. g) (λ a b p. behind_variable (record s { spot = S.VariableNumber }) t ts x p) h
+variable_number_takes s t ts x h = going_takes (AfterVariable (at s) s.rule s.variables) (variable_follow (at s) s.rule s.variables) (record s { spot = S.VariableNumber }) GREATEST (omega arith) (pass_variable zippers) t ts x
+    (λ n g. g) (λ a b p. after_variable (record s { spot = S.VariableNumber }) t ts x p) h
 
 -- ---- credits
 
@@ -214,7 +214,7 @@ credits_takes s t ts x h = by_items h.0 h.2 h.3 h.4
         let p = head_takes (record s { spot = S.Credits }) t ts x (subst (λ l. HeadRest (at s) s.rule s.variables s.credits l x) (sym e) (subst (λ cs. HeadRest (at s) s.rule s.variables cs h.1 x) (append-nil s.credits) c)) in
         (p.0, ap (act_credits zippers (record s { spot = S.Credits })) p.1 ∙ p.2, p.3)
     by_items (d ∷ ds) a e c =
-        let p = begun_takes (BehindSize (at s) s.rule s.variables s.credits) (size_follow (at s) s.rule s.variables s.credits) S.SizeNumber (record s { spot = S.Credits }) MOST_FIELDS (omega arith) t ts x
+        let p = begun_takes (AfterSize (at s) s.rule s.variables s.credits) (size_follow (at s) s.rule s.variables s.credits) S.SizeNumber (record s { spot = S.Credits }) MOST_FIELDS (omega arith) t ts x
         (credits_want (at s) s.rule s.variables s.credits s.least d ds h.1 (t ∷ ts) x a e c) in (
           record s { spot = S.SizeNumber; number = t - 48 },
           if_not (t == 93) (to_parts zippers (record s { spot = S.Credits })) (begun zippers S.SizeNumber MOST_FIELDS (record s { spot = S.Credits }) t) (other_sign t 93 p.2 (omega arith)) ∙ p.0,
@@ -223,29 +223,29 @@ credits_takes s t ts x h = by_items h.0 h.2 h.3 h.4
 
 size_takes : (s : State Zipper) (t : ℕ) (ts : List ℕ) (x : List Made) → Residual S.Size s (t ∷ ts) x → Takes S.Size s t ts x
 size_takes s t ts x h =
-    let p = begun_takes (BehindSize (at s) s.rule s.variables s.credits) (size_follow (at s) s.rule s.variables s.credits) S.SizeNumber (record s { spot = S.Size }) MOST_FIELDS (omega arith) t ts x h in
+    let p = begun_takes (AfterSize (at s) s.rule s.variables s.credits) (size_follow (at s) s.rule s.variables s.credits) S.SizeNumber (record s { spot = S.Size }) MOST_FIELDS (omega arith) t ts x h in
     (record s { spot = S.SizeNumber; number = t - 48 }, p.0, p.1)
 
 size_number_takes : (s : State Zipper) (t : ℕ) (ts : List ℕ) (x : List Made) → Residual S.SizeNumber s (t ∷ ts) x → Takes S.SizeNumber s t ts x
-size_number_takes s t ts x h = going_takes (BehindSize (at s) s.rule s.variables s.credits) (size_follow (at s) s.rule s.variables s.credits) (record s { spot = S.SizeNumber }) MOST_FIELDS (omega arith) (pass_size zippers) t ts x
+size_number_takes s t ts x h = going_takes (AfterSize (at s) s.rule s.variables s.credits) (size_follow (at s) s.rule s.variables s.credits) (record s { spot = S.SizeNumber }) MOST_FIELDS (omega arith) (pass_size zippers) t ts x
     (λ n g. g)
     (λ a b p. (
       record s { spot = S.Count; size = s.number; least = 1 },
       ap (pass_size zippers (record s { spot = S.SizeNumber })) (cons_head t 58 ts p.0 p.1),
-      subst (λ l. Want 1 GREATEST (BehindCount (at s) s.rule s.variables s.credits s.number) l x) (sym (cons_tail t 58 ts p.0 p.1)) p.2,
+      subst (λ l. Want 1 GREATEST (AfterCount (at s) s.rule s.variables s.credits s.number) l x) (sym (cons_tail t 58 ts p.0 p.1)) p.2,
     ))
     h
 
 count_takes : (s : State Zipper) (t : ℕ) (ts : List ℕ) (x : List Made) → Residual S.Count s (t ∷ ts) x → Takes S.Count s t ts x
 count_takes s t ts x h =
-    let p = begun_takes (BehindCount (at s) s.rule s.variables s.credits s.size) (count_follow (at s) s.rule s.variables s.credits s.size) S.CountNumber (record s { spot = S.Count }) GREATEST (omega arith) t ts x h in
+    let p = begun_takes (AfterCount (at s) s.rule s.variables s.credits s.size) (count_follow (at s) s.rule s.variables s.credits s.size) S.CountNumber (record s { spot = S.Count }) GREATEST (omega arith) t ts x h in
     (record s { spot = S.CountNumber; number = t - 48 }, p.0, p.1)
 
 abbrev so_far : State Zipper → List Credit
 so_far s = s.credits ++ record { size = s.size; count = s.number } ∷ []
 
-behind_count : (s : State Zipper) (t : ℕ) (ts : List ℕ) (x : List Made) → BehindCount (at s) s.rule s.variables s.credits s.size s.number (t ∷ ts) x → (s' : State Zipper) × (pass_count zippers s t ≡ Some s') × Completes s' ts x
-behind_count s t ts x h = by_items h.0 h.2 h.3 h.4
+after_count : (s : State Zipper) (t : ℕ) (ts : List ℕ) (x : List Made) → AfterCount (at s) s.rule s.variables s.credits s.size s.number (t ∷ ts) x → (s' : State Zipper) × (pass_count zippers s t ≡ Some s') × Completes s' ts x
+after_count s t ts x h = by_items h.0 h.2 h.3 h.4
   where
     by_items : (ds : List Credit) → AreCredits (suc s.size) ds → t ∷ ts ≡ more_credits ds h.1 → HeadRest (at s) s.rule s.variables ((so_far s) ++ ds) h.1 x → (s' : State Zipper) × (pass_count zippers s t ≡ Some s') × Completes s' ts x
     by_items [] a e c =
@@ -262,15 +262,15 @@ behind_count s t ts x h = by_items h.0 h.2 h.3 h.4
         )
 
 count_number_takes : (s : State Zipper) (t : ℕ) (ts : List ℕ) (x : List Made) → Residual S.CountNumber s (t ∷ ts) x → Takes S.CountNumber s t ts x
-count_number_takes s t ts x h = going_takes (BehindCount (at s) s.rule s.variables s.credits s.size) (count_follow (at s) s.rule s.variables s.credits s.size) (record s { spot = S.CountNumber }) GREATEST (omega arith) (pass_count zippers) t ts x
-    (λ n g. g) (λ a b p. behind_count (record s { spot = S.CountNumber }) t ts x p) h
+count_number_takes s t ts x h = going_takes (AfterCount (at s) s.rule s.variables s.credits s.size) (count_follow (at s) s.rule s.variables s.credits s.size) (record s { spot = S.CountNumber }) GREATEST (omega arith) (pass_count zippers) t ts x
+    (λ n g. g) (λ a b p. after_count (record s { spot = S.CountNumber }) t ts x p) h
 
 -- ---- nodes
 
 abbrev pub inside : State Zipper → RuleName → List ℕ → List Credit → Trees → Zipper → State Zipper
 inside s r vs cs ds o = record s { nodes = Part r vs cs ds o }
 
--- behind a node within another one
+-- after a node within another one
 pub deeper : (s : State Zipper) (r : RuleName) (vs : List ℕ) (cs : List Credit) (ds : Trees) (o : Zipper) (t : ℕ) → act_node zippers (inside s r vs cs ds o) t ≡ (if t == 44 then Some (record (inside s r vs cs ds o) { spot = S.Rule }) else if t == 41 then Some (record (inside s r vs cs ds o) { spot = S.Node; nodes = add o (Branch r vs cs ds) }) else None)
 deeper s r vs cs ds o t = if_not (suc (depth o) == 0) (if t == 10 then Some (record (inside s r vs cs ds o) { spot = S.Line; lines = s.lines ++ record { instance = s.instance; nodes = made (Part r vs cs ds o) } ∷ []; least = suc s.instance; nodes = Roots NoTrees }) else None)
     (if t == 44 then Some (record (inside s r vs cs ds o) { spot = S.Rule }) else if t == 41 then Some (record (inside s r vs cs ds o) { spot = S.Node; nodes = add o (Branch r vs cs ds) }) else None)

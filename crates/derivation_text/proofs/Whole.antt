@@ -20,15 +20,15 @@ use Rattle.derivation_text.proofs.Flat.{flat_length, starts_same}
 
 -- ---- trees of lists
 
-get_behind : (xs : List Head) (h : Head) (ys : List Head) → slice_get (xs ++ h ∷ ys) (length xs) ≡ Some h
-get_behind [] h ys = refl
-get_behind (x ∷ xs) h ys = get_behind xs h ys
+get_after : (xs : List Head) (h : Head) (ys : List Head) → slice_get (xs ++ h ∷ ys) (length xs) ≡ Some h
+get_after [] h ys = refl
+get_after (x ∷ xs) h ys = get_after xs h ys
 
 node_span : (d : ℕ) (t : Tree) (hs xs ys : List Head) (i : ℕ) → IsNode d t → hs ≡ xs ++ (flat t ++ ys) → i ≡ length xs → span_of (slice_get hs i) ≡ size t
 node_span d Missing hs xs ys i v e k = absurd v
 node_span d (Branch r vs cs ts) hs xs ys i v e k =
     let h : Head = record { rule = r; variables = vs; credits = cs; parts = count ts; span = suc (size_all ts) } in
-    ap span_of (ap₂ (λ hs i. slice_get hs i) e k ∙ get_behind xs h (flat_all ts ++ ys))
+    ap span_of (ap₂ (λ hs i. slice_get hs i) e k ∙ get_after xs h (flat_all ts ++ ys))
 
 mutual
   tree_back : (d : ℕ) (t : Tree) (hs xs ys : List Head) (i : ℕ) → IsNode d t → hs ≡ xs ++ (flat t ++ ys) → i ≡ length xs → tree_at hs i ≡ t
@@ -36,7 +36,7 @@ mutual
   tree_back d (Branch r vs cs ts) hs xs ys i v e k =
       let h : Head = record { rule = r; variables = vs; credits = cs; parts = count ts; span = suc (size_all ts) } in
       let l = length-append xs (h ∷ []) in
-      tree_is hs i h (ap₂ (λ hs i. slice_get hs i) e k ∙ get_behind xs h (flat_all ts ++ ys))
+      tree_is hs i h (ap₂ (λ hs i. slice_get hs i) e k ∙ get_after xs h (flat_all ts ++ ys))
       ∙ ap (Branch r vs cs) (row_back (suc d) ts hs (xs ++ h ∷ []) ys (suc i) v.3 (e ∙ sym (append_assoc xs (h ∷ []) (flat_all ts ++ ys))) (omega (arith, k, l)))
 
   row_back : (d : ℕ) (ts : Trees) (hs xs ys : List Head) (i : ℕ) → AreNodes d ts → hs ≡ xs ++ (flat_all ts ++ ys) → i ≡ length xs → row (tree_at hs) hs i (count ts) ≡ ts

@@ -1,4 +1,4 @@
--- The writers' loops: an item behind another.
+-- The writers' loops: an item after another.
 use Rattle.std.proofs.Common.{◌≡◌, ℕ, zero, suc, ◌+◌, ◌-◌, ◌<◌, ◌≤◌, List, [], ◌∷◌, ◌++◌, length, drop, map, get_or, refl, sym, ap, ap₂, ◌∙◌, subst, append_assoc, arith}
 use Rattle.std.specs.Prelude.{nat_lt}
 use Rattle.std.specs.Fmt.{decimal}
@@ -10,7 +10,7 @@ use Rattle.derivation_trees.specs.declared.derivation.Line.{Line}
 use Rattle.derivation_trees.specs.Trees.{Head, head, heads, entry}
 use Rattle.derivation_trees.specs.WholeTrees.{IsTree, AreTrees}
 use Rattle.derivation_text.specs.ProofText.{rule_text, more_variables, variables_text, credit_text, more_credits, credits_text, tree_text, line_text, lines_text}
-use Rattle.derivation_text.specs.Writing.{head_text, ends_text, behind_ends, nodes_text, turned}
+use Rattle.derivation_text.specs.Writing.{head_text, ends_text, after_ends, nodes_text, turned}
 use Rattle.derivation_text.proofs.Digits.{if_yes, if_not}
 use Rattle.derivation_text.proofs.Written.{variables_on, credit_on, credits_on, nodes_leaf, nodes_parts, nodes_written, tree_on}
 use Rattle.fip_language.proofs.Facts.{drop_end as drop_all}
@@ -43,26 +43,26 @@ unfolding turned
 turned_push [] x = refl
 turned_push (y ∷ xs) x = ap (λ l. l ++ y ∷ []) (turned_push xs x)
 
-ends_part : (p : ℕ) (cs : List ℕ) → 1 < p → (ends_text (p ∷ cs) ≡ 44 ∷ []) × (behind_ends (p ∷ cs) ≡ (p - 1) ∷ cs)
-unfolding ends_text behind_ends
+ends_part : (p : ℕ) (cs : List ℕ) → 1 < p → (ends_text (p ∷ cs) ≡ 44 ∷ []) × (after_ends (p ∷ cs) ≡ (p - 1) ∷ cs)
+unfolding ends_text after_ends
 ends_part p cs lt =
     let e = lt-ltb 1 p lt in
-    (if_yes (nat_lt 1 p) (44 ∷ []) (41 ∷ ends_text cs) e, if_yes (nat_lt 1 p) ((p - 1) ∷ cs) (behind_ends cs) e)
+    (if_yes (nat_lt 1 p) (44 ∷ []) (41 ∷ ends_text cs) e, if_yes (nat_lt 1 p) ((p - 1) ∷ cs) (after_ends cs) e)
 
-ends_last : (p : ℕ) (cs : List ℕ) → p ≤ 1 → (ends_text (p ∷ cs) ≡ 41 ∷ ends_text cs) × (behind_ends (p ∷ cs) ≡ behind_ends cs)
-unfolding ends_text behind_ends
+ends_last : (p : ℕ) (cs : List ℕ) → p ≤ 1 → (ends_text (p ∷ cs) ≡ 41 ∷ ends_text cs) × (after_ends (p ∷ cs) ≡ after_ends cs)
+unfolding ends_text after_ends
 ends_last p cs le =
     let e = le-ltb 1 p le in
-    (if_not (nat_lt 1 p) (44 ∷ []) (41 ∷ ends_text cs) e, if_not (nat_lt 1 p) ((p - 1) ∷ cs) (behind_ends cs) e)
+    (if_not (nat_lt 1 p) (44 ∷ []) (41 ∷ ends_text cs) e, if_not (nat_lt 1 p) ((p - 1) ∷ cs) (after_ends cs) e)
 
 -- the innermost open node goes on
 pub comma_text : (here inner : List ℕ) (p : ℕ) (t t1 o : List ℕ) → here ≡ inner ++ p ∷ [] → 1 < p → t1 ≡ t ++ 44 ∷ [] → t ++ ends_text (turned here) ≡ o → t1 ≡ o
 comma_text here inner p t t1 o e lt f h =
     f ∙ ap (λ l. t ++ l) (sym (ends_part p (turned inner) lt).0) ∙ ap (λ l. t ++ ends_text l) (sym (ap turned e ∙ turned_push inner p)) ∙ h
 
-pub comma_open : (here inner next : List ℕ) (p : ℕ) (o : List ℕ) → here ≡ inner ++ p ∷ [] → 1 < p → next ≡ inner ++ (p - 1) ∷ [] → behind_ends (turned here) ≡ o → turned next ≡ o
+pub comma_open : (here inner next : List ℕ) (p : ℕ) (o : List ℕ) → here ≡ inner ++ p ∷ [] → 1 < p → next ≡ inner ++ (p - 1) ∷ [] → after_ends (turned here) ≡ o → turned next ≡ o
 comma_open here inner next p o e lt f h =
-    ap turned f ∙ turned_push inner (p - 1) ∙ sym (ends_part p (turned inner) lt).1 ∙ ap behind_ends (sym (ap turned e ∙ turned_push inner p)) ∙ h
+    ap turned f ∙ turned_push inner (p - 1) ∙ sym (ends_part p (turned inner) lt).1 ∙ ap after_ends (sym (ap turned e ∙ turned_push inner p)) ∙ h
 
 -- it ends
 pub close_text : (here inner : List ℕ) (p : ℕ) (t t1 o : List ℕ) → here ≡ inner ++ p ∷ [] → p ≤ 1 → t1 ≡ t ++ 41 ∷ [] → t ++ ends_text (turned here) ≡ o → t1 ++ ends_text (turned inner) ≡ o
@@ -70,17 +70,17 @@ close_text here inner p t t1 o e le f h =
     ap (λ l. l ++ ends_text (turned inner)) f ∙ append_assoc t (41 ∷ []) (ends_text (turned inner))
     ∙ ap (λ l. t ++ l) (sym (ends_last p (turned inner) le).0) ∙ ap (λ l. t ++ ends_text l) (sym (ap turned e ∙ turned_push inner p)) ∙ h
 
-pub close_open : (here inner : List ℕ) (p : ℕ) (o : List ℕ) → here ≡ inner ++ p ∷ [] → p ≤ 1 → behind_ends (turned here) ≡ o → behind_ends (turned inner) ≡ o
-close_open here inner p o e le h = sym (ends_last p (turned inner) le).1 ∙ ap behind_ends (sym (ap turned e ∙ turned_push inner p)) ∙ h
+pub close_open : (here inner : List ℕ) (p : ℕ) (o : List ℕ) → here ≡ inner ++ p ∷ [] → p ≤ 1 → after_ends (turned here) ≡ o → after_ends (turned inner) ≡ o
+close_open here inner p o e le h = sym (ends_last p (turned inner) le).1 ∙ ap after_ends (sym (ap turned e ∙ turned_push inner p)) ∙ h
 
 -- none is open
 pub ended_text : (here : List ℕ) (t o : List ℕ) → here ≡ [] → t ++ ends_text (turned here) ≡ o → t ≡ o
 unfolding ends_text turned
 ended_text here t o e h = sym (append-nil t) ∙ ap (λ l. t ++ ends_text (turned l)) (sym e) ∙ h
 
-pub ended_open : (here : List ℕ) (o : List ℕ) → here ≡ [] → behind_ends (turned here) ≡ o → turned here ≡ o
-unfolding behind_ends turned
-ended_open here o e h = ap turned e ∙ ap (λ l. behind_ends (turned l)) (sym e) ∙ h
+pub ended_open : (here : List ℕ) (o : List ℕ) → here ≡ [] → after_ends (turned here) ≡ o → turned here ≡ o
+unfolding after_ends turned
+ended_open here o e h = ap turned e ∙ ap (λ l. after_ends (turned l)) (sym e) ∙ h
 
 -- ---- nodes
 
@@ -91,11 +91,11 @@ node_open t t1 t2 here next h hs e f g lt =
     ∙ append_assoc t (head_text h) (40 ∷ nodes_text (h.parts ∷ turned here) hs)
     ∙ ap (λ l. t ++ l) (sym (nodes_parts (turned here) h hs lt))
 
-pub node_leaf : (t t1 t2 here next : List ℕ) (h : Head) (hs : List Head) → t1 ≡ t ++ head_text h → t2 ≡ t1 ++ ends_text (turned here) → turned next ≡ behind_ends (turned here) → h.parts ≡ 0 → t2 ++ nodes_text (turned next) hs ≡ t ++ nodes_text (turned here) (h ∷ hs)
+pub node_leaf : (t t1 t2 here next : List ℕ) (h : Head) (hs : List Head) → t1 ≡ t ++ head_text h → t2 ≡ t1 ++ ends_text (turned here) → turned next ≡ after_ends (turned here) → h.parts ≡ 0 → t2 ++ nodes_text (turned next) hs ≡ t ++ nodes_text (turned here) (h ∷ hs)
 node_leaf t t1 t2 here next h hs e f g z =
     ap₂ (λ l cs. l ++ nodes_text cs hs) (f ∙ ap (λ l. l ++ ends_text (turned here)) e) g
-    ∙ append_assoc (t ++ head_text h) (ends_text (turned here)) (nodes_text (behind_ends (turned here)) hs)
-    ∙ append_assoc t (head_text h) (ends_text (turned here) ++ nodes_text (behind_ends (turned here)) hs)
+    ∙ append_assoc (t ++ head_text h) (ends_text (turned here)) (nodes_text (after_ends (turned here)) hs)
+    ∙ append_assoc t (head_text h) (ends_text (turned here) ++ nodes_text (after_ends (turned here)) hs)
     ∙ ap (λ l. t ++ l) (sym (nodes_leaf (turned here) h hs z))
 
 pub node_next : (ns : List Node) (i : ℕ) (n : Node) (t t1 here next o : List ℕ) → i < length ns → n ≡ get_or ns i n → ((hs : List Head) → t1 ++ nodes_text (turned next) hs ≡ t ++ nodes_text (turned here) (head n ∷ hs)) → t ++ nodes_text (turned here) (heads (drop i ns)) ≡ o → t1 ++ nodes_text (turned next) (heads (drop (i + 1) ns)) ≡ o

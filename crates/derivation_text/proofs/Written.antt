@@ -1,4 +1,4 @@
--- Texts written one behind the other.
+-- Texts written one after the other.
 use Rattle.std.proofs.Common.{◌≡◌, ℕ, suc, ◌-◌, ◌<◌, List, [], ◌∷◌, ◌++◌, refl, sym, ap, ap₂, ◌∙◌, append_assoc, arith}
 use Rattle.std.specs.Prelude.{nat_lt}
 use Rattle.std.specs.Fmt.{decimal}
@@ -9,10 +9,10 @@ use Rattle.derivation_trees.specs.declared.derivation.Line.{Line}
 use Rattle.derivation_trees.specs.Trees.{Tree, Missing, Branch, Trees, NoTrees, MoreTrees, Head, heads, count, size_all, flat, flat_all, entry}
 use Rattle.derivation_trees.specs.WholeTrees.{IsWhole, AreWhole, IsTree}
 use Rattle.derivation_text.specs.ProofText.{rule_text, more_variables, variables_text, credit_text, more_credits, credits_text, tree_text, parts_text, more_parts}
-use Rattle.derivation_text.specs.Writing.{head_text, ends_text, behind_ends, nodes_text}
+use Rattle.derivation_text.specs.Writing.{head_text, ends_text, after_ends, nodes_text}
 use Rattle.derivation_text.proofs.Digits.{if_yes, if_not}
 
--- ---- what stands behind a text
+-- ---- what stands after a text
 
 more_variables_on : (vs rest : List ℕ) → more_variables vs rest ≡ more_variables vs [] ++ rest
 more_variables_on [] rest = refl
@@ -53,20 +53,20 @@ head_on h rest =
 -- ---- nodes in a list
 
 abbrev after : List ℕ → List Head → List ℕ
-after cs hs = ends_text cs ++ nodes_text (behind_ends cs) hs
+after cs hs = ends_text cs ++ nodes_text (after_ends cs) hs
 
--- behind the last part of an open node, and behind one that isn't the last
+-- after the last part of an open node, and after one that isn't the last
 after_last : (cs : List ℕ) (hs : List Head) → after (1 ∷ cs) hs ≡ 41 ∷ after cs hs
-unfolding ends_text behind_ends
+unfolding ends_text after_ends
 after_last cs hs = refl
 
 after_part : (n : ℕ) (cs : List ℕ) (hs : List Head) → after (suc (suc n) ∷ cs) hs ≡ 44 ∷ nodes_text (suc n ∷ cs) hs
-unfolding ends_text behind_ends
+unfolding ends_text after_ends
 after_part n cs hs =
     let e = lt-ltb 1 (suc (suc n)) (omega arith) in
     let m : suc (suc n) - 1 ≡ suc n = omega arith in
     ap₂ (λ a b. a ++ nodes_text b hs) (if_yes (nat_lt 1 (suc (suc n))) (44 ∷ []) (41 ∷ ends_text cs) e)
-    (if_yes (nat_lt 1 (suc (suc n))) ((suc (suc n) - 1) ∷ cs) (behind_ends cs) e ∙ ap (λ k. k ∷ cs) m)
+    (if_yes (nat_lt 1 (suc (suc n))) ((suc (suc n) - 1) ∷ cs) (after_ends cs) e ∙ ap (λ k. k ∷ cs) m)
 
 pub nodes_leaf : (cs : List ℕ) (h : Head) (hs : List Head) → h.parts ≡ 0 → nodes_text cs (h ∷ hs) ≡ head_text h ++ after cs hs
 unfolding nodes_text
@@ -99,10 +99,10 @@ mutual
 
 -- the nodes of a line
 pub nodes_written : (l : Line) → IsTree l → nodes_text [] (heads l.nodes.items) ≡ tree_text (entry l).tree []
-unfolding ends_text behind_ends nodes_text
+unfolding ends_text after_ends nodes_text
 nodes_written l h = ap (nodes_text []) (h.1 ∙ sym (append-nil (flat (entry l).tree))) ∙ tree_written (entry l).tree [] [] h.0
 
--- ---- a text behind another one
+-- ---- a text after another one
 
 mutual
   pub tree_on : (t : Tree) (rest : List ℕ) → IsWhole t → tree_text t rest ≡ tree_text t [] ++ rest

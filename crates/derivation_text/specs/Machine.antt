@@ -82,9 +82,9 @@ abbrev pub is_match : RuleName → Bool
 is_match R.Match = true
 is_match _ = false
 
-abbrev pub behind_first : List ℕ → List ℕ
-behind_first [] = []
-behind_first (b ∷ bs) = bs
+abbrev pub following_first : List ℕ → List ℕ
+following_first [] = []
+following_first (b ∷ bs) = bs
 
 module _ {N : Type 0} (building : Building N) where
   -- the first digit of a number
@@ -99,7 +99,7 @@ module _ {N : Type 0} (building : Building N) where
       else if begins (10 * s.number + (b - 48)) s.least most then Some (record s { number = 10 * s.number + (b - 48) })
       else None
 
-  -- behind a digit: one more, or what stands behind the number
+  -- after a digit: one more, or what stands after the number
   abbrev pub going : ℕ → (State N → ℕ → Option (State N)) → State N → ℕ → Option (State N)
   going most pass s b =
       if is_digit b then longer most s b
@@ -112,7 +112,7 @@ module _ {N : Type 0} (building : Building N) where
 
   abbrev pub act_rule : Option RuleName → State N → Option (State N)
   act_rule None s = None
-  act_rule (Some r) s = Some (record s { spot = S.Name; rule = r; letters = behind_first (rule_text r) })
+  act_rule (Some r) s = Some (record s { spot = S.Name; rule = r; letters = following_first (rule_text r) })
 
   abbrev pub act_name : List ℕ → State N → ℕ → Option (State N)
   act_name [] s b =

@@ -4,10 +4,10 @@
 --
 --     3 CALL[0 4|1:2](VAR[4|])
 --
--- and behind it a line feed. A derivation has one text. It is read again where the numbers of its instances, of each
+-- and after it a line feed. A derivation has one text. It is read again where the numbers of its instances, of each
 -- node's variables and of each node's sizes rise and are within their bounds, and no node lies too deep.
 --
--- Each function here gives the text of something, and behind it the text rest.
+-- Each function here gives the text of something, and after it the text rest.
 use Rattle.std.specs.Prelude.{◌≡◌, ◌≤◌, ℕ, suc, codes, List, [], ◌∷◌, ◌++◌}
 use Rattle.std.specs.Fmt.{decimal}
 use Rattle.fip_language.specs.declared.limits.TheConstants.{MOST_FIELDS}
@@ -29,7 +29,7 @@ rule_text R.Match = codes "MATCH"
 rule_text R.TakingMatch = codes "MATCH!"
 rule_text R.Weaken = codes "WEAKEN"
 
--- further variables, each behind a space
+-- further variables, each after a space
 abbrev pub more_variables : List ℕ → List ℕ → List ℕ
 more_variables [] rest = rest
 more_variables (v ∷ vs) rest = 32 ∷ decimal v ++ more_variables vs rest

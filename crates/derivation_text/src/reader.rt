@@ -7,7 +7,7 @@ ghost use Rattle.derivation_trees.specs.Building.{Built, built};
 ghost use Rattle.derivation_text.specs.ProofText.{GREATEST};
 ghost use Rattle.derivation_text.specs.Machine.{State, flats, begun, longer, going, pass_line, act_rule, rule_at};
 ghost use Rattle.derivation_text.specs.Machine.{act_name, to_credits, act_variables, pass_variable, to_parts, act_credits};
-ghost use Rattle.derivation_text.specs.Machine.{pass_size, pass_count, act_node, act_head, step, start, final, behind_first};
+ghost use Rattle.derivation_text.specs.Machine.{pass_size, pass_count, act_node, act_head, step, start, final, following_first};
 ghost use Rattle.derivation_text.specs.Reading.{lines_made, Steps};
 
 use crate::bounds::begins;
@@ -100,8 +100,8 @@ impl Reader {
             Spot::SizeNumber => self.in_size(byte),
             Spot::Count => self.first_digit(Spot::CountNumber, u32::MAX, byte),
             Spot::CountNumber => self.in_count(byte),
-            Spot::Head => self.behind_head(byte),
-            Spot::Node => self.behind_node(byte),
+            Spot::Head => self.after_head(byte),
+            Spot::Node => self.after_node(byte),
         }
     }
 
@@ -169,13 +169,13 @@ impl Reader {
             Some(rule) => {
                 self.spot = Spot::Name;
                 self.rule = rule;
-                self.letters = behind_first(rule_text(rule));
+                self.letters = following_first(rule_text(rule));
                 Ok(())
             }
         }
     }
 
-    // A further letter, or what stands behind the name.
+    // A further letter, or what stands after the name.
     fn name(&mut self, byte: u8) -> Result<(), ByteError>
         ensures { Steps result self.new (act_name flats self.old.letters self.old byte) }
     {
@@ -187,11 +187,11 @@ impl Reader {
                 self.letters = letters;
                 Ok(())
             }
-            None => self.behind_name(byte),
+            None => self.after_name(byte),
         }
     }
 
-    fn behind_name(&mut self, byte: u8) -> Result<(), ByteError>
+    fn after_name(&mut self, byte: u8) -> Result<(), ByteError>
         ensures { Steps result self.new (act_name flats [] self.old byte) }
     {
         if byte == b'[' {
@@ -207,7 +207,7 @@ impl Reader {
         Ok(())
     }
 
-    // Behind the bracket.
+    // After the bracket.
     fn variables(&mut self, byte: u8) -> Result<(), ByteError>
         ensures { Steps result self.new (act_variables flats self.old byte) }
     {
@@ -236,10 +236,10 @@ impl Reader {
         if !self.fits(u32::MAX) {
             return Err(ByteError::Bad);
         }
-        self.behind_variable(byte)
+        self.after_variable(byte)
     }
 
-    fn behind_variable(&mut self, byte: u8) -> Result<(), ByteError>
+    fn after_variable(&mut self, byte: u8) -> Result<(), ByteError>
         ensures { Steps result self.new (pass_variable flats self.old byte) }
     {
         if byte == b'|' {
@@ -256,7 +256,7 @@ impl Reader {
         Ok(())
     }
 
-    // Behind the bar.
+    // After the bar.
     fn credits(&mut self, byte: u8) -> Result<(), ByteError>
         ensures { Steps result self.new (act_credits flats self.old byte) }
     {
@@ -301,10 +301,10 @@ impl Reader {
         if !self.fits(u32::MAX) {
             return Err(ByteError::Bad);
         }
-        self.behind_count(byte)
+        self.after_count(byte)
     }
 
-    fn behind_count(&mut self, byte: u8) -> Result<(), ByteError>
+    fn after_count(&mut self, byte: u8) -> Result<(), ByteError>
         ensures { Steps result self.new (pass_count flats self.old byte) }
     {
         let credit = Credit {
@@ -324,13 +324,13 @@ impl Reader {
         Ok(())
     }
 
-    // Behind a head: the first part, or else what stands behind the node.
-    fn behind_head(&mut self, byte: u8) -> Result<(), ByteError>
+    // After a head: the first part, or else what stands after the node.
+    fn after_head(&mut self, byte: u8) -> Result<(), ByteError>
         ensures { Steps result self.new (act_head flats self.old byte) }
     {
         if byte != b'(' {
             self.nodes.close();
-            return self.behind_node(byte);
+            return self.after_node(byte);
         }
         if self.nodes.depth() >= DEEPEST_NODE {
             return Err(ByteError::Bad);
@@ -339,8 +339,8 @@ impl Reader {
         Ok(())
     }
 
-    // Behind a node: the end of the line, or the next part or the end of the node around.
-    fn behind_node(&mut self, byte: u8) -> Result<(), ByteError>
+    // After a node: the end of the line, or the next part or the end of the node around.
+    fn after_node(&mut self, byte: u8) -> Result<(), ByteError>
         ensures { Steps result self.new (act_node flats self.old byte) }
     {
         if self.nodes.depth() == 0 {
@@ -359,7 +359,7 @@ impl Reader {
             _ => Err(ByteError::Bad),
         }
     }
-    // The end of the line, behind its root.
+    // The end of the line, after its root.
     fn end_line(&mut self, byte: u8) -> Result<(), ByteError>
         requires { self.old.nodes.open_at ≡ [] }
         ensures { Steps result self.new (act_node flats self.old byte) }
@@ -386,8 +386,8 @@ impl Reader {
 }
 
 // A slice without its first byte.
-fn behind_first(bytes: &'static [u8]) -> &'static [u8]
-    ensures { result.now ≡ behind_first bytes.now }
+fn following_first(bytes: &'static [u8]) -> &'static [u8]
+    ensures { result.now ≡ following_first bytes.now }
 {
     match bytes.split_first() {
         Some((_, rest)) => rest,

@@ -7,7 +7,7 @@ pub enum Spot {
     Line,
     /// A digit of a line's number.
     LineNumber,
-    /// What a rule's name stands behind.
+    /// What a rule's name stands after.
     Rule,
     /// A letter of a rule's name.
     Name,
@@ -27,7 +27,7 @@ pub enum Spot {
     Count,
     /// A digit of a count.
     CountNumber,
-    /// The bracket behind the credits.
+    /// The bracket after the credits.
     Head,
     /// The end of a node that isn't the last one.
     Node,

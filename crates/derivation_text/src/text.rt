@@ -1,4 +1,4 @@
-// Texts with a limit, a line behind another.
+// Texts with a limit, a line after another.
 ghost use Rattle.std.specs.Prelude.{◌≡◌, ◌-◌, ◌<◌, ◌≤◌, [], ◌++◌, length, Err, OnOk};
 ghost use Rattle.derivation_trees.specs.Trees.{entry};
 ghost use Rattle.derivation_text.specs.declared.error.TextError.TheVariants.{TooLong};
@@ -54,7 +54,7 @@ impl Text {
 
     /// The text of a line. After an error the text is not to be used.
     pub fn line(&mut self, line: &Line) -> Result<(), TextError>
-        // It stands behind what was written, where the nodes are those of a tree.
+        // It stands after what was written, where the nodes are those of a tree.
         ensures line { IsTree line.now → OnOk result (self.new ≡ record {
           bytes = self.old.bytes ++ line_text (entry line.now) [];
           limit = self.old.limit;

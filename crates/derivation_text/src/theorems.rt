@@ -1,4 +1,4 @@
-// The laws of derivations' texts. Each is the contract of a function that does nothing.
+// The theorems of derivations' texts. Each is the contract of a function that does nothing.
 ghost use Rattle.std.specs.Prelude.{◌≡◌, ℕ, List};
 ghost use Rattle.derivation_trees.specs.Trees.{Entry};
 ghost use Rattle.derivation_text.specs.ProofText.{IsProofText};

@@ -6,7 +6,7 @@ ghost use Rattle.derivation_trees.specs.Trees.{Head, head, heads, entry, entries
 ghost use Rattle.derivation_text.specs.ProofText.{more_variables, variables_text, credit_text, more_credits, credits_text};
 ghost use Rattle.derivation_trees.specs.WholeTrees.{IsTree, AreTrees};
 ghost use Rattle.derivation_text.specs.ProofText.{line_text, lines_text};
-ghost use Rattle.derivation_text.specs.Writing.{head_text, ends_text, behind_ends, nodes_text, turned};
+ghost use Rattle.derivation_text.specs.Writing.{head_text, ends_text, after_ends, nodes_text, turned};
 
 use crate::rules::rule_text;
 use derivation_trees::{Credit, Derivation, Line, Node};
@@ -28,7 +28,7 @@ pub fn write_derivation(alloc: Global, derivation: &Derivation) -> Result<Vec<u8
     Ok(text)
 }
 
-/// The text of a line is put behind a text.
+/// The text of a line is put after a text.
 #[tactic(auto, using(crate::proofs::Writers::line_written))]
 pub fn write_line(alloc: Global, text: &mut Vec<u8>, line: &Line) -> Result<(), NoMemory>
     ensures text { IsTree line.now →
@@ -61,7 +61,7 @@ fn write_nodes(alloc: Global, text: &mut Vec<u8>, nodes: &[Node]) -> Result<(), 
     Ok(())
 }
 
-// A node, and what stands behind it.
+// A node, and what stands after it.
 #[tactic(auto, using(crate::proofs::Writers::node_open, crate::proofs::Writers::node_leaf))]
 fn write_node(text: &mut Vec<u8>, node: &Node, open: &mut Vec<usize>) -> Result<(), NoMemory>
     ensures { OnOk result ((hs : List Head) → text.new.items ++ nodes_text (turned open.new.items) hs ≡
@@ -76,11 +76,11 @@ fn write_node(text: &mut Vec<u8>, node: &Node, open: &mut Vec<usize>) -> Result<
     write_ends(text, open)
 }
 
-// Behind a node: the comma before the next part of the innermost open node, or the ends of open nodes.
+// After a node: the comma before the next part of the innermost open node, or the ends of open nodes.
 #[tactic(auto, using(crate::proofs::Writers::ended_open))]
 fn write_ends(text: &mut Vec<u8>, open: &mut Vec<usize>) -> Result<(), NoMemory>
     ensures text { OnOk result (text.new.items ≡ text.old.items ++ ends_text (turned open.old.items)) }
-    ensures open { OnOk result (turned open.new.items ≡ behind_ends (turned open.old.items)) }
+    ensures open { OnOk result (turned open.new.items ≡ after_ends (turned open.old.items)) }
 {
     while let Some(parts) = open.pop() {
         if parts > 1 {

@@ -26,7 +26,7 @@ alter_length f (Some i) hs = at i hs
     at zero (h ∷ hs) = refl
     at (suc i) (h ∷ hs) = ap suc (at i hs)
 
--- A node that is put behind the others, of which one has a part more.
+-- A node that is put after the others, of which one has a part more.
 pub opened_is : (b : Built) (ns : List Node) (n : Node) (rule : RuleName) (variables : List ℕ) (credits : List Credit) → heads ns ≡ alter_at with_part (innermost b.open_at) b.nodes → head n ≡ record { rule = rule; variables = variables; credits = credits; parts = 0; span = 1 } → record { nodes = heads (ns ++ n ∷ []); open_at = b.open_at ++ length ns ∷ [] } ≡ opened b rule variables credits
 opened_is b ns n rule variables credits e f =
     let l : length ns ≡ length b.nodes = sym (length-map ns head) ∙ ap length e ∙ alter_length with_part (innermost b.open_at) b.nodes in

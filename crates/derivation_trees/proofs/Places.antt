@@ -1,4 +1,4 @@
--- The tree at a place: its parts are the trees at the places behind it.
+-- The tree at a place: its parts are the trees at the places after it.
 use Rattle.std.proofs.Common.{◌≡◌, ℕ, zero, suc, ◌≤◌, ◌+◌, refl, sym, ap, ◌∙◌, List, [], ◌∷◌, length, Option, Some, None, arith}
 use Rattle.std.specs.Prelude.{slice_get}
 use Rattle.derivation_trees.specs.Trees.{Tree, Missing, Branch, Trees, MoreTrees, Head, span_of, row, rooted, cut_at, tree_at}
@@ -7,7 +7,7 @@ use Rattle.fip_base.proofs.fip_language.Facts.{get_none}
 pub more_same : {t u : Tree} {ts us : Trees} → t ≡ u → ts ≡ us → MoreTrees t ts ≡ MoreTrees u us
 more_same e f = cc
 
--- what stands before a place doesn't matter behind it
+-- what stands before a place doesn't matter after it
 row_same : (f g : ℕ → Tree) (hs : List Head) (i p : ℕ) → ((j : ℕ) → i ≤ j → f j ≡ g j) → row f hs i p ≡ row g hs i p
 row_same f g hs i zero e = refl
 row_same f g hs i (suc p) e = more_same (e i (omega arith)) (row_same f g hs (i + span_of (slice_get hs i)) p (λ j u. e j (omega arith)))
@@ -23,7 +23,7 @@ cut_same zero (suc n) hs i l k = sym (ap (rooted (cut_at n hs) hs i) (get_none h
 cut_same (suc m) zero hs i l k = ap (rooted (cut_at m hs) hs i) (get_none hs i (omega arith))
 cut_same (suc m) (suc n) hs i l k = rooted_same (cut_at m hs) (cut_at n hs) hs i (slice_get hs i) (λ j u. cut_same m n hs j (omega arith) (omega arith))
 
--- a node's parts are the trees at the places behind it
+-- a node's parts are the trees at the places after it
 pub tree_is : (hs : List Head) (i : ℕ) (h : Head) → slice_get hs i ≡ Some h → tree_at hs i ≡ Branch h.rule h.variables h.credits (row (tree_at hs) hs (suc i) h.parts)
 tree_is hs i h e = of (length hs) (omega arith)
   where

@@ -1,4 +1,4 @@
--- How the nodes of a derivation come together in a list: a node is opened as a part of the innermost open one, behind
+-- How the nodes of a derivation come together in a list: a node is opened as a part of the innermost open one, after
 -- all nodes so far, and closed when it has all its parts. A builder keeps the nodes and the places of the open ones.
 use Rattle.std.specs.Prelude.{ℕ, zero, suc, ◌+◌, ◌-◌, List, [], ◌∷◌, ◌++◌, Option, Some, None, length, take, slice_get}
 use Rattle.derivation_trees.specs.declared.derivation.RuleName.{RuleName}

@@ -1,6 +1,6 @@
 -- It serves the proofs on derivations: how trees lie in memory.
--- The nodes of a tree stand in a list, each before its parts, its first part directly behind it. A node keeps how many
--- parts it has, and its span, the number of the nodes of its tree: its next neighbour stands so many places behind it.
+-- The nodes of a tree stand in a list, each before its parts, its first part directly after it. A node keeps how many
+-- parts it has, and its span, the number of the nodes of its tree: its next neighbour stands so many places after it.
 use Rattle.std.specs.Prelude.{ℕ, zero, suc, ◌+◌, List, [], ◌∷◌, ◌++◌, Option, Some, None, map, length, slice_get}
 use Rattle.derivation_trees.specs.declared.derivation.RuleName.{RuleName}
 use Rattle.derivation_trees.specs.declared.derivation.Credit.{Credit}

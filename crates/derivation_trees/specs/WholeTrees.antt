@@ -1,5 +1,5 @@
 -- Lines that are trees: their nodes are those of a whole tree, each before its parts, and no others. So it is with each
--- line whose nodes were opened below one root, each closed behind its parts.
+-- line whose nodes were opened below one root, each closed after its parts.
 use Rattle.std.specs.Prelude.{◌≡◌, List, [], ◌∷◌}
 use Rattle.derivation_trees.specs.declared.derivation.Line.{Line}
 use Rattle.derivation_trees.specs.Trees.{Tree, Missing, Branch, Trees, NoTrees, MoreTrees, heads, flat, entry}

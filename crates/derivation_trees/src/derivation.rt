@@ -45,11 +45,11 @@ pub struct Node {
     /// The number of its parts.
     pub parts: usize,
     /// The number of the nodes of its tree, itself counted: the next node that isn't below it stands so many places
-    /// behind it.
+    /// after it.
     pub span: usize,
 }
 
-/// The derivation of an instance: the nodes of a tree, each before its parts, its first part directly behind it.
+/// The derivation of an instance: the nodes of a tree, each before its parts, its first part directly after it.
 #[derive(Drop)]
 pub struct Line {
     instance: u32,

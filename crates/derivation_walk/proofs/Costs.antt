@@ -105,7 +105,7 @@ two_cost r o xs need ts e =
 pub weaken_short : (r : RuleName) (o : Owned) (xs need : List ℕ) (ts : Trees) (n : ℕ) → (length xs == length o.variables) && same_from o.credits need 1 16 ≡ false → n < length o.variables + 1 → n < cost (node r o xs need ts)
 weaken_short r o xs need ts n e h = let a = two_cost r o xs need ts e in omega (arith, a, h)
 
--- the node behind the one that weakens: the room is n, then m
+-- the node after the one that weakens: the room is n, then m
 pub below_short : (r : RuleName) (o : Owned) (xs need : List ℕ) (ts : Trees) (n m : ℕ) (b c : Built) (cs : List Credit) → (length xs == length o.variables) && same_from o.credits need 1 16 ≡ false → c ≡ opened b R.Weaken o.variables cs → m + cost_of c.nodes ≡ n + cost_of b.nodes → m < length xs + 1 → n < cost (node r o xs need ts)
 below_short r o xs need ts n m b c cs e g k h =
     let a = two_cost r o xs need ts e in

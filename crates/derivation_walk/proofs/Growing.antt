@@ -48,7 +48,7 @@ mutual
 abbrev node_of : RuleName → List ℕ → List Credit → ℕ → ℕ → Head
 node_of r xs cs n m = record { rule = r; variables = xs; credits = cs; parts = n; span = m }
 
--- the open node h behind xs, with more parts behind those in ys
+-- the open node h after xs, with more parts after those in ys
 parts_come : (xs : List Head) (r : RuleName) (vs : List ℕ) (cs : List Credit) (n : ℕ) (ys : List Head) (os : List ℕ) (ts : Trees) → grown_all (record { nodes = xs ++ node_of r vs cs n 1 ∷ ys; open_at = os ++ length xs ∷ [] }) ts ≡ record { nodes = xs ++ node_of r vs cs (n + count ts) 1 ∷ (ys ++ flat_all ts); open_at = os ++ length xs ∷ [] }
 parts_come xs r vs cs n ys os NoTrees =
     let e : n ≡ n + 0 = omega arith in
@@ -127,7 +127,7 @@ closed_more m n b = ap (λ k. closed_times k b) (turn m n) ∙ from n m b
     from zero m b = ap (λ k. closed_times k b) (zero_first m)
     from (suc n) m b = ap (λ k. closed_times k b) (more n m) ∙ from n m (closed b)
 
--- b waits for the rest of a block behind m nodes, and c behind n more
+-- b waits for the rest of a block after m nodes, and c after n more
 pub waits_more : (m n k : ℕ) (b c g : Built) (f : Tree → Tree) (t : Tree) → AwaitsOne n b c f → k ≡ m + n → closed_times m (grown b (f t)) ≡ g → closed_times k (grown c t) ≡ g
 waits_more m n k b c g f t h e inv =
     ap (λ j. closed_times j (grown c t)) e ∙ closed_more m n (grown c t) ∙ ap (closed_times m) (h.done t) ∙ inv

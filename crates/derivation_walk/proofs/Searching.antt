@@ -1,4 +1,4 @@
--- Where numbers rise, the first one from a number on tells whether one lies within bounds.
+-- Where numbers rise, the first one from a number on reports whether one lies within bounds.
 use Rattle.std.proofs.Common.{◌≡◌, ℕ, zero, suc, ◌<◌, ◌≤◌, ◌⊎◌, inl, inr, refl, sym, ap, ap₂, ◌∙◌, subst, List, [], ◌∷◌, length, get_or, Bool, true, false, not, ◌&&◌, ◌||◌, nat_lt, Result, Ok, Err, arith}
 use Rattle.std.specs.Result.{MatchResult}
 use Rattle.std.specs.Ordering.{nat_cmp}

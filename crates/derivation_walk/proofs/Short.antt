@@ -12,7 +12,7 @@ use Rattle.derivation_trees.specs.Building.{Built, opened, closed}
 use Rattle.derivation_walk.specs.declared.error.LineError.{LineError}
 use Rattle.derivation_walk.specs.declared.error.LineError.TheVariants.{TooLong}
 use Rattle.derivation_walk.specs.Growing.{grown, grown_all, closed_times, Awaits}
-use Rattle.derivation_walk.specs.Walked.{Guided, Owned, Asked, asked, those, used, sorted, owning, credits, value, fields, passed, rule_of, node, let_node, behind, rest_owned, size, walked, walked_parts}
+use Rattle.derivation_walk.specs.Walked.{Guided, Owned, Asked, asked, those, used, sorted, owning, credits, value, fields, passed, rule_of, node, let_node, following, rest_owned, size, walked, walked_parts}
 use Rattle.derivation_walk.specs.Costs.{cost_of, cost, cost_all}
 use Rattle.derivation_walk.proofs.WalkSteps.{value_grown, let_opened}
 use Rattle.derivation_walk.proofs.Costs.{cost_append, tree_kept, trees_kept, closed_cost, awaited_cost, awaited_one_cost}
@@ -70,7 +70,7 @@ rest_short n m i a b u w e k l =
 
 pub binding_short : (g : Guided) (i : ℕ) (o : Owned) (a e : Asked) (d : BoundPart) (bs : List BoundPart) (last : T.Expression) (m : ℕ) → e ≡ asked g i → ((t : Tree) → m < cost (let_node g i o a e d.bound t)) → m < cost (walked_parts g i o a (block_of (d ∷ bs) last))
 binding_short g i o a e d bs last m he h =
-    let rest = walked_parts g (i + size d.bound) (rest_owned g a (asked g i) o d.binders) (behind a (asked g i)) (block_of bs last) in
+    let rest = walked_parts g (i + size d.bound) (rest_owned g a (asked g i) o d.binders) (following a (asked g i)) (block_of bs last) in
     subst (λ z. m < cost (let_node g i o a z d.bound rest)) he (h rest)
 
 -- what a let binds
@@ -87,7 +87,7 @@ pub clause_short : (n m k : ℕ) (a b : Built) (f : Trees → Tree) (t : Tree) (
 clause_short n m k a b f t ts w h e p l =
     subst (λ z. n < cost z) e (parts_short n m k a b f (MoreTrees t ts) h p (first_short t ts m l))
 
--- the room was l behind the first
+-- the room was l after the first
 pub clauses_short : (n m l k : ℕ) (a b c : Built) (f : Trees → Tree) (t : Tree) (ts : Trees) (w : Tree) → Awaits k a b f → f (MoreTrees t ts) ≡ w → m + cost_of b.nodes ≡ n + cost_of a.nodes → c ≡ grown b t → l + cost_of c.nodes ≡ m + cost_of b.nodes → l < cost_all ts → n < cost w
 clauses_short n m l k a b c f t ts w h e p g q r =
     let x = tree_kept b c t g in

@@ -28,7 +28,7 @@ use Rattle.derivation_trees.specs.declared.derivation.Credit as D
 use Rattle.derivation_trees.specs.Building.{Built, opened, closed}
 use Rattle.derivation_trees.specs.Trees.{Tree, Branch, Trees, NoTrees, MoreTrees}
 use Rattle.derivation_walk.specs.Growing.{grown, grown_all, closed_times, Awaits, AwaitsOne}
-use Rattle.derivation_walk.specs.Walked.{Guided, Owned, Asked, asked, those, behind, rest_owned, node, credits_from, credits, same_from, match_rule, binder_of, walked, walked_block, walked_parts, walked_clause, walked_clauses, let_node, size, size_parts, used, rule_of, constructor_rule, owning, sorted, value, fields, passed, begun}
+use Rattle.derivation_walk.specs.Walked.{Guided, Owned, Asked, asked, those, following, rest_owned, node, credits_from, credits, same_from, match_rule, binder_of, walked, walked_block, walked_parts, walked_clause, walked_clauses, let_node, size, size_parts, used, rule_of, constructor_rule, owning, sorted, value, fields, passed, begun}
 use Rattle.derivation_walk.proofs.Growing.{node_done, awaited, waits_more}
 pub use Rattle.credit_check.proofs.Steps.{bound_is}
 pub use Rattle.fip_rules.proofs.Views.{none_left}
@@ -97,14 +97,14 @@ pub block_begun : (g : Guided) (b : Built) (i : ℕ) (o : Owned) (a : Asked) (d 
 block_begun g b i o a d e h k = ap₂ (λ z y. grown b (walked_parts g (i + 1) o z y)) h (sym k)
 
 -- one binding more
-pub block_more : (g : Guided) (m n k : ℕ) (b c w : Built) (i j : ℕ) (o o1 : Owned) (a a1 e : Asked) (d : BoundPart) (bs : List BoundPart) (last : T.Expression) → AwaitsOne n b c (let_node g i o a e d.bound) → e ≡ asked g i → o1 ≡ rest_owned g a e o d.binders → a1 ≡ behind a e → j ≡ i + size d.bound → k ≡ m + n → closed_times m (grown b (walked_parts g i o a (block_of (d ∷ bs) last))) ≡ w → closed_times k (grown c (walked_parts g j o1 a1 (block_of bs last))) ≡ w
+pub block_more : (g : Guided) (m n k : ℕ) (b c w : Built) (i j : ℕ) (o o1 : Owned) (a a1 e : Asked) (d : BoundPart) (bs : List BoundPart) (last : T.Expression) → AwaitsOne n b c (let_node g i o a e d.bound) → e ≡ asked g i → o1 ≡ rest_owned g a e o d.binders → a1 ≡ following a e → j ≡ i + size d.bound → k ≡ m + n → closed_times m (grown b (walked_parts g i o a (block_of (d ∷ bs) last))) ≡ w → closed_times k (grown c (walked_parts g j o1 a1 (block_of bs last))) ≡ w
 block_more g m n k b c w i j o o1 a a1 e d bs last h he ho ha hj hk inv =
     let R : ℕ → Owned → Asked → Tree = λ x y z. walked_parts g x y z (block_of bs last) in
     ap (λ x. closed_times k (grown c (R x o1 a1))) hj
     ∙ ap (λ y. closed_times k (grown c (R (i + size d.bound) y a1))) ho
     ∙ ap (λ z. closed_times k (grown c (R (i + size d.bound) (rest_owned g a e o d.binders) z))) ha
-    ∙ waits_more m n k b c w (let_node g i o a e d.bound) (R (i + size d.bound) (rest_owned g a e o d.binders) (behind a e)) h hk
-    (ap (λ z. closed_times m (grown b (let_node g i o a z d.bound (R (i + size d.bound) (rest_owned g a z o d.binders) (behind a z))))) he ∙ inv)
+    ∙ waits_more m n k b c w (let_node g i o a e d.bound) (R (i + size d.bound) (rest_owned g a e o d.binders) (following a e)) h hk
+    (ap (λ z. closed_times m (grown b (let_node g i o a z d.bound (R (i + size d.bound) (rest_owned g a z o d.binders) (following a z))))) he ∙ inv)
 
 pub block_done : (g : Guided) (m : ℕ) (b c d w : Built) (i : ℕ) (o : Owned) (a : Asked) (later : List BoundPart) (last : T.Expression) → later ≡ [] → c ≡ grown b (walked g i o last) → d ≡ closed_times m c → closed_times m (grown b (walked_parts g i o a (block_of later last))) ≡ w → d ≡ w
 block_done g m b c d w i o a later last none e f inv =

@@ -10,7 +10,7 @@ use Rattle.fip_rules.specs.Shapes.{takes}
 use Rattle.derivation_trees.specs.declared.derivation.RuleName.{RuleName}
 use Rattle.derivation_trees.specs.Trees.{Tree, Branch, Trees, NoTrees, MoreTrees}
 use Rattle.derivation_trees.specs.WholeTrees.{IsWhole, AreWhole}
-use Rattle.derivation_walk.specs.Walked.{Guided, Owned, Asked, asked, those, weakened, node, value, values, fields, passed, params_of, rule_of, size, size_parts, binder_of, clause_owned, bound_owned, rest_owned, behind, walked, walked_parts, walked_clauses, walked_instance, match_rule, credits, same_from, owned_parameters}
+use Rattle.derivation_walk.specs.Walked.{Guided, Owned, Asked, asked, those, weakened, node, value, values, fields, passed, params_of, rule_of, size, size_parts, binder_of, clause_owned, bound_owned, rest_owned, following, walked, walked_parts, walked_clauses, walked_instance, match_rule, credits, same_from, owned_parameters}
 
 weakened_whole : (b : Bool) (o : Owned) (t : Tree) → IsWhole t → IsWhole (weakened b o t)
 weakened_whole true o t h = h
@@ -65,8 +65,8 @@ mutual
   parts_whole g i o a (Last e) = walked_whole g i o e
   parts_whole g i o a (Let bs e rest) =
       node_whole R.Let o (those g a o.variables) a.need
-      (MoreTrees (walked g i (bound_owned g a (asked g i) o) e) (MoreTrees (walked_parts g (i + size e) (rest_owned g a (asked g i) o bs) (behind a (asked g i)) rest) NoTrees))
-      (walked_whole g i (bound_owned g a (asked g i) o) e, (parts_whole g (i + size e) (rest_owned g a (asked g i) o bs) (behind a (asked g i)) rest, tt))
+      (MoreTrees (walked g i (bound_owned g a (asked g i) o) e) (MoreTrees (walked_parts g (i + size e) (rest_owned g a (asked g i) o bs) (following a (asked g i)) rest) NoTrees))
+      (walked_whole g i (bound_owned g a (asked g i) o) e, (parts_whole g (i + size e) (rest_owned g a (asked g i) o bs) (following a (asked g i)) rest, tt))
 
   clauses_whole : (g : Guided) (i : ℕ) (taken : Bool) (x : Option ℕ) (o : Owned) (cs : Clauses) → AreWhole (walked_clauses g i taken x o cs)
   clauses_whole g i taken x o NoClauses = tt

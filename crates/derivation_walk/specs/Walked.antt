@@ -101,7 +101,7 @@ rule_of g (Variable x n p) = rule_of_variable g x
 rule_of g (Literal i p) = R.Scalar
 rule_of g (Constructor t d c n p as') = constructor_rule as'
 
--- the variables of an argument that aren't scalar, behind others
+-- the variables of an argument that aren't scalar, after others
 abbrev pub owning_variable : Guided → List ℕ → Option ℕ → List ℕ
 owning_variable g xs None = xs
 owning_variable g xs (Some x) =
@@ -217,9 +217,9 @@ clause_owned g true x o q = record {
   credits = nodes_from o.credits q;
 }
 
--- what is asked for behind a binding
-abbrev pub behind : Asked → Asked → Asked
-behind a b = record { first = b.end; end = a.end; need = minus a.need b.need }
+-- what is asked for after a binding
+abbrev pub following : Asked → Asked → Asked
+following a b = record { first = b.end; end = a.end; need = minus a.need b.need }
 
 abbrev pub bound_owned : Guided → Asked → Asked → Owned → Owned
 bound_owned g a b o = record { variables = used g b (those g a o.variables); credits = b.need }
@@ -252,7 +252,7 @@ abbrev mutual
   walked_parts g i o a (Let bs e rest) =
       node R.Let o (those g a o.variables) a.need
       (MoreTrees (walked g i (bound_owned g a (asked g i) o) e)
-      (MoreTrees (walked_parts g (i + size e) (rest_owned g a (asked g i) o bs) (behind a (asked g i)) rest)
+      (MoreTrees (walked_parts g (i + size e) (rest_owned g a (asked g i) o bs) (following a (asked g i)) rest)
       NoTrees))
 
   -- clauses of a match that has these
@@ -280,7 +280,7 @@ walked_clause g i taken x o c = walked_block g i (clause_owned g taken x o c.pat
 
 -- ---- instances
 
--- the parameters that are owned and not scalar, numbered from n on, behind others
+-- the parameters that are owned and not scalar, numbered from n on, after others
 abbrev pub owned_parameters : Guided → List ℕ → ℕ → List Param → List ℕ
 owned_parameters g xs n [] = xs
 owned_parameters g xs n (p ∷ ps) =

@@ -191,7 +191,7 @@ impl Guide<'_> {
         }
     }
 
-    // What the next expression asks for; the one behind is the next.
+    // What the next expression asks for; the one after is the next.
     fn enter(&self, walk: &mut Walk) -> Result<Asked, NoMemory>
         ensures asked { IfOk result (λ a. asking a ≡ W.asked (guided self.now) walk.old.next) }
         ensures next { OnOk result (walk.new.next ≡ walk.old.next + 1) }

@@ -5,7 +5,7 @@ use Rattle.fip_language.specs.declared.TrapKind.TheVariants.{Overflow}
 use Rattle.fip_language.specs.Values.{Int, Values}
 use Rattle.fip_language.specs.Arithmetic.{Is, Fails, fits, int_or_overflow}
 use Rattle.fip_language.specs.Meaning.{Answer, Gives, Trap, Run, go_on, counted, operated}
-use Rattle.fip_language.specs.Laws.{AtMost}
+use Rattle.fip_language.specs.Theorems.{AtMost}
 use Rattle.evaluation_steps.specs.Gives.{GivesLeaving, one}
 
 -- after a call that gave values, the rest goes on with them

@@ -7,7 +7,7 @@ ghost use Rattle.std.specs.Prelude.{◌≡◌, ℕ, suc, ℤ, ◌≤◌, true, f
 ghost use Rattle.fip_language.specs.declared.Place.{Place};
 ghost use Rattle.fip_language.specs.declared.TrapKind.TheVariants.{Overflow};
 ghost use Rattle.fip_language.specs.Arithmetic.{fits, int_or_overflow};
-ghost use Rattle.fip_language.specs.Laws.{AtMost};
+ghost use Rattle.fip_language.specs.Theorems.{AtMost};
 ghost use Rattle.fip_language.specs.Meaning.{Answer, Trap, Run, go_on, counted, operated};
 ghost use Rattle.fip_language.specs.Values.{Int, Values};
 ghost use Rattle.evaluation_steps.specs.Gives.{GivesLeaving, one};

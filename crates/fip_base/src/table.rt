@@ -99,7 +99,7 @@ impl TypeTable {
         }
     }
 
-    /// Puts a data type behind the others; an error where no memory is left, and then nothing changes.
+    /// Puts a data type after the others; an error where no memory is left, and then nothing changes.
     pub fn push(&mut self, data_type: DataType) -> Result<(), NoMemory>
         ensures added { OnOk result (self.new ≡ self.old ++ data_type ∷ []) }
         ensures same { OnErr result (self.new ≡ self.old) }

@@ -2,7 +2,7 @@
 #![tactic(auto)]
 
 use fip_base::plain::NoMemory;
-use fip_driver::{fp2, tell_no_memory};
+use fip_driver::{fp2, report_no_memory};
 use fip_outside::real::{FileFolder, StdSink, StdSource};
 use std::env;
 use std::io::ErrorKind;
@@ -30,7 +30,7 @@ fn main(rt: HostRuntime) -> ExitCode {
     let mut err = StdSink::new(rt.stderr());
     let words = match words_of(&rt) {
         Ok(words) => words,
-        Err(NoMemory) => return ExitCode::from(tell_no_memory(&mut err).0),
+        Err(NoMemory) => return ExitCode::from(report_no_memory(&mut err).0),
     };
     let mut folder = FileFolder::new(rt.alloc(), &rt);
     let mut input = StdSource::new(rt.stdin());

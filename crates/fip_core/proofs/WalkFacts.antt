@@ -21,22 +21,22 @@ use Rattle.fip_base.specs.SurfaceView as surface
 use Rattle.fip_base.specs.SurfaceView.{Action, Leaves, Operates, Matches, Chooses, LetPart, Case, acted, kept, left_by, one_of, expressions_of, origin}
 use Rattle.fip_core.specs.Walk.{top_argument, stepped, Stepped, part_left, waits, operands_of, let_made, case_made, clauses_before}
 
--- behind lets
+-- after lets
 
-variable_behind-argument : (ls : List Binding) (a : C.Argument) (n : ℕ) → (form.variable_from ls a n).argument ≡ (form.variable_from [] a n).argument
-variable_behind-argument ls (C.Variable b x p) n = refl
-variable_behind-argument ls (C.Literal i p) n = refl
-variable_behind-argument ls (C.Constructor x p as') n = refl
+variable_after-argument : (ls : List Binding) (a : C.Argument) (n : ℕ) → (form.variable_from ls a n).argument ≡ (form.variable_from [] a n).argument
+variable_after-argument ls (C.Variable b x p) n = refl
+variable_after-argument ls (C.Literal i p) n = refl
+variable_after-argument ls (C.Constructor x p as') n = refl
 
-variable_behind-next : (ls : List Binding) (a : C.Argument) (n : ℕ) → (form.variable_from ls a n).next ≡ (form.variable_from [] a n).next
-variable_behind-next ls (C.Variable b x p) n = refl
-variable_behind-next ls (C.Literal i p) n = refl
-variable_behind-next ls (C.Constructor x p as') n = refl
+variable_after-next : (ls : List Binding) (a : C.Argument) (n : ℕ) → (form.variable_from ls a n).next ≡ (form.variable_from [] a n).next
+variable_after-next ls (C.Variable b x p) n = refl
+variable_after-next ls (C.Literal i p) n = refl
+variable_after-next ls (C.Constructor x p as') n = refl
 
-variable_behind-lets : (ls : List Binding) (a : C.Argument) (n : ℕ) → (form.variable_from ls a n).lets ≡ ls ++ (form.variable_from [] a n).lets
-variable_behind-lets ls (C.Variable b x p) n = sym (append-nil ls)
-variable_behind-lets ls (C.Literal i p) n = refl
-variable_behind-lets ls (C.Constructor x p as') n = refl
+variable_after-lets : (ls : List Binding) (a : C.Argument) (n : ℕ) → (form.variable_from ls a n).lets ≡ ls ++ (form.variable_from [] a n).lets
+variable_after-lets ls (C.Variable b x p) n = sym (append-nil ls)
+variable_after-lets ls (C.Literal i p) n = refl
+variable_after-lets ls (C.Constructor x p as') n = refl
 
 -- one step more
 
@@ -48,7 +48,7 @@ part_from_match : (ls : List Binding) (d : Bool) (p : Place) (a : C.Argument) (c
 part_from_match [] d p a cs n = refl
 part_from_match (l ∷ ls) d p a cs n = refl
 
--- a match whose scrutinee is made a variable, behind the lets of the scrutinee or not: f is the match, g the next number
+-- a match whose scrutinee is made a variable, after the lets of the scrutinee or not: f is the match, g the next number
 record Scrutinised (f : C.Argument → ℕ → C.Expression) (g : ℕ → ℕ) (ks ls : List Binding) (v w : Part) : Type 0 where
   lets : ks ++ v.lets ≡ (ks ++ ls) ++ w.lets
   expression : f v.argument v.next ≡ f w.argument w.next
@@ -61,10 +61,10 @@ scrutinised : (f : C.Argument → ℕ → C.Expression) (g : ℕ → ℕ) → ((
 scrutinised f g is_bound ks ls a n =
     let v = form.variable_from ls a n in
     let w = form.variable_from [] a n in
-    let e1 : ks ++ v.lets ≡ (ks ++ ls) ++ w.lets = ap (λ y. ks ++ y) (variable_behind-lets ls a n) ∙ sym (append_assoc ks ls w.lets) in
+    let e1 : ks ++ v.lets ≡ (ks ++ ls) ++ w.lets = ap (λ y. ks ++ y) (variable_after-lets ls a n) ∙ sym (append_assoc ks ls w.lets) in
     let e2 : f v.argument v.next ≡ f w.argument w.next =
-    ap (λ y. f y v.next) (variable_behind-argument ls a n) ∙ ap (λ m. f w.argument m) (variable_behind-next ls a n) in
-    let e3 : g v.next ≡ g w.next = ap g (variable_behind-next ls a n) in
+    ap (λ y. f y v.next) (variable_after-argument ls a n) ∙ ap (λ m. f w.argument m) (variable_after-next ls a n) in
+    let e3 : g v.next ≡ g w.next = ap g (variable_after-next ls a n) in
     record {
       lets = e1;
       expression = e2;
@@ -103,7 +103,7 @@ chosen_next s met unmet n =
     let y = form.as_block (form.contents s n met) in
     (form.as_block (form.contents s y.next unmet)).next
 
--- The step that follows these expressions, told by the parts that wait: what stays waiting, and what the step's
+-- The step that follows these expressions, reported by the parts that wait: what stays waiting, and what the step's
 -- expression comes to, both as an expression and as a part.
 pub record Follows (s : Scope) (n : ℕ) (a : Action) (es : List S.Expression) : Type 0 where
   pub lets : (waits s n (kept a es)).lets ++ (form.whole s (waits s n (kept a es)).next (acted a es)).lets ≡ (waits s n es).lets ++ (stepped s (waits s n es).next a (waits s n es).arguments).lets
@@ -408,8 +408,8 @@ case_first s n n' made k y ys hk hn =
 pub choice_stands : (s s' s'' : Scope) (n n' n'' : ℕ) (p : Place) (st : List C.Argument) (a v : C.Argument) (ls : List Binding) (met unmet : S.Block) (y u : C.Block) → a ≡ top_argument st → v ≡ (form.variable_from ls a n).argument → n' ≡ (form.variable_from ls a n).next → s' ≡ s → y ≡ (form.as_block (form.contents s' n' met)).block → n'' ≡ (form.as_block (form.contents s' n' met)).next → s'' ≡ s' → u ≡ (form.as_block (form.contents s'' n'' unmet)).block → form.if_match p v y u ≡ (stepped s n (Chooses p met unmet) st).expression
 choice_stands s s' s'' n n' n'' p st a v ls met unmet y u ha hv hn hs hy hn' hs' hu =
     let w = form.variable_from [] (top_argument st) n in
-    let ev : v ≡ w.argument = hv ∙ ap (λ x. (form.variable_from ls x n).argument) ha ∙ variable_behind-argument ls (top_argument st) n in
-    let en : n' ≡ w.next = hn ∙ ap (λ x. (form.variable_from ls x n).next) ha ∙ variable_behind-next ls (top_argument st) n in
+    let ev : v ≡ w.argument = hv ∙ ap (λ x. (form.variable_from ls x n).argument) ha ∙ variable_after-argument ls (top_argument st) n in
+    let en : n' ≡ w.next = hn ∙ ap (λ x. (form.variable_from ls x n).next) ha ∙ variable_after-next ls (top_argument st) n in
     let ec : form.contents s' n' met ≡ form.contents s w.next met =
     ap (λ z. form.contents z n' met) hs ∙ ap (λ m. form.contents s m met) en in
     let ey : y ≡ (form.as_block (form.contents s w.next met)).block = hy ∙ ap (λ z. (form.as_block z).block) ec in
@@ -425,7 +425,7 @@ choice_stands s s' s'' n n' n'' p st a v ls met unmet y u ha hv hn hs hy hn' hs'
 pub choice_next : (s s' s'' : Scope) (n n' n'' m : ℕ) (p : Place) (st : List C.Argument) (a : C.Argument) (ls : List Binding) (met unmet : S.Block) → a ≡ top_argument st → n' ≡ (form.variable_from ls a n).next → s' ≡ s → n'' ≡ (form.as_block (form.contents s' n' met)).next → s'' ≡ s' → m ≡ (form.as_block (form.contents s'' n'' unmet)).next → m ≡ (stepped s n (Chooses p met unmet) st).next
 choice_next s s' s'' n n' n'' m p st a ls met unmet ha hn hs hn' hs' hm =
     let w = form.variable_from [] (top_argument st) n in
-    let en : n' ≡ w.next = hn ∙ ap (λ x. (form.variable_from ls x n).next) ha ∙ variable_behind-next ls (top_argument st) n in
+    let en : n' ≡ w.next = hn ∙ ap (λ x. (form.variable_from ls x n).next) ha ∙ variable_after-next ls (top_argument st) n in
     let ec : form.contents s' n' met ≡ form.contents s w.next met =
     ap (λ z. form.contents z n' met) hs ∙ ap (λ k. form.contents s k met) en in
     let em : n'' ≡ (form.as_block (form.contents s w.next met)).next = hn' ∙ ap (λ z. (form.as_block z).next) ec in
@@ -433,7 +433,7 @@ choice_next s s' s'' n n' n'' m p st a ls met unmet ha hn hs hn' hs' hm =
 
 pub choice_lets : (s : Scope) (n : ℕ) (p : Place) (st : List C.Argument) (a : C.Argument) (ls out : List Binding) (met unmet : S.Block) → a ≡ top_argument st → out ≡ (form.variable_from ls a n).lets → out ≡ ls ++ (stepped s n (Chooses p met unmet) st).lets
 choice_lets s n p st a ls out met unmet ha ho =
-    ho ∙ ap (λ x. (form.variable_from ls x n).lets) ha ∙ variable_behind-lets ls (top_argument st) n
+    ho ∙ ap (λ x. (form.variable_from ls x n).lets) ha ∙ variable_after-lets ls (top_argument st) n
 
 -- the expression that steps stand for, by the last one
 

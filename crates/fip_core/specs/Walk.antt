@@ -22,10 +22,10 @@ bindings bs = map (λ b. binding_of (core.binding b)) bs
 abbrev pub fresh : ℕ → Name → Place → C.Binder
 fresh n x p = record { number = n; name = x; place = p; annotation = None }
 
--- an expression as a part, behind these lets; is_free: no let was made for it
-abbrev pub part_behind : Bool → List Binding → C.Expression → ℕ → Part
-part_behind true ls (C.Give a) n = record { lets = ls; argument = a; next = n }
-part_behind is_free ls e n = bound ls e n
+-- an expression as a part, after these lets; is_free: no let was made for it
+abbrev pub part_after : Bool → List Binding → C.Expression → ℕ → Part
+part_after true ls (C.Give a) n = record { lets = ls; argument = a; next = n }
+part_after is_free ls e n = bound ls e n
 
 -- the arguments that wait
 abbrev pub waiting : List Argument → List C.Argument

@@ -12,7 +12,7 @@ ghost use Rattle.fip_base.specs.fip_language.Surface as S;
 ghost use Rattle.fip_base.specs.fip_language.CoreForm as form;
 ghost use Rattle.fip_base.specs.CoreView as core_view;
 ghost use Rattle.fip_base.specs.SurfaceView as surface;
-ghost use Rattle.fip_core.specs.Walk.{bindings, fresh, part_behind, waiting, top_argument, under_top, stepped};
+ghost use Rattle.fip_core.specs.Walk.{bindings, fresh, part_after, waiting, top_argument, under_top, stepped};
 ghost use Rattle.fip_core.specs.Walk.{part_left, let_made, case_made, operands_of};
 
 use crate::scope::Scope;
@@ -296,10 +296,10 @@ impl Walk {
         out: &mut Vec<Binding>,
     ) -> Result<Argument, NoMemory>
         ensures given { IfOk result (λ a. core_view.argument a
-            ≡ (part_behind is_free (bindings out.old.items) (core_view.expression e) self.old.next).argument) }
+            ≡ (part_after is_free (bindings out.old.items) (core_view.expression e) self.old.next).argument) }
         ensures lets { OnOk result (bindings out.new.items
-            ≡ (part_behind is_free (bindings out.old.items) (core_view.expression e) self.old.next).lets) }
-        ensures next { OnOk result (self.new.next ≡ (part_behind is_free (bindings out.old.items)
+            ≡ (part_after is_free (bindings out.old.items) (core_view.expression e) self.old.next).lets) }
+        ensures next { OnOk result (self.new.next ≡ (part_after is_free (bindings out.old.items)
             (core_view.expression e) self.old.next).next) }
         ensures scope { self.new.scope ≡ self.old.scope }
     {

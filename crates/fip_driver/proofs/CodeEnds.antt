@@ -22,12 +22,12 @@ use Rattle.fip_driver.specs.Fetched.{StoreFails}
 use Rattle.fip_driver.specs.Faults.{end_of, IsFault, Closes}
 use Rattle.fip_driver.specs.Outcome.{IsInputFault, ReadOutcome, CodeOutcome, FileOutcome}
 use Rattle.fip_driver.proofs.SourceEnds.{comes_found, fault_up, input_fault_up, rose_later}
-use Rattle.fip_driver.proofs.Telling.{any_told, held}
+use Rattle.fip_driver.proofs.Telling.{any_reported, held}
 
 -- ---- the code
 
 pub code_kept : (c : Command) (bytes : List ℕ) (left : Option (List ℕ)) (fr ir : Type 0) (f : Failure) → KeepsFromCode bytes f → CodeOutcome c bytes left fr ir (Err f)
-code_kept c bytes left fr ir f h = let i = any_told left [] in (i.0, i.1, by f i.0 h)
+code_kept c bytes left fr ir f h = let i = any_reported left [] in (i.0, i.1, by f i.0 h)
   where
     by : (f : Failure) (input : List ℕ) → KeepsFromCode bytes f → IsFault c (HasWanted c bytes) fr ir (Err f) ⊎ OnCode bytes input c (Err f)
     by (F.BadCode at) input h = inr (CodeRefused (F.BadCode at) h)
@@ -37,13 +37,13 @@ code_kept c bytes left fr ir f h = let i = any_told left [] in (i.0, i.1, by f i
 
 -- `verify`
 pub verify_ends : (file bytes : List ℕ) (left : Option (List ℕ)) (fr ir : Type 0) (o : Result (Vec ℕ Global) Failure) → IfOk o (λ v. IsCodeListing bytes v.items) → IfErr o (KeepsFromCode bytes) → CodeOutcome (Verify file) bytes left fr ir (end_of o)
-verify_ends file bytes left fr ir (Ok v) h k = let i = any_told left [] in (i.0, i.1, inr (CodeSound (Ok v.items) h))
+verify_ends file bytes left fr ir (Ok v) h k = let i = any_reported left [] in (i.0, i.1, inr (CodeSound (Ok v.items) h))
 verify_ends file bytes left fr ir (Err f) h k = code_kept (Verify file) bytes left fr ir f k
 
 -- `upgrade`
 pub upgrade_refused : (file out bytes : List ℕ) (left : Option (List ℕ)) (fr ir : Type 0) (f : Failure) → KeepsFromUpgrade bytes f → CodeOutcome (Upgrade file out) bytes left fr ir (Err f)
 upgrade_refused file out bytes left fr ir f (inl h) = code_kept (Upgrade file out) bytes left fr ir f h
-upgrade_refused file out bytes left fr ir f (inr (code, sound, unspelt, h)) = let i = any_told left [] in (i.0, i.1, by f i.0 h)
+upgrade_refused file out bytes left fr ir f (inr (code, sound, unspelt, h)) = let i = any_reported left [] in (i.0, i.1, by f i.0 h)
   where
     by : (f : Failure) (input : List ℕ) → IsRefusedBy (λ r. r ≡ bare E61) f → IsFault (Upgrade file out) (HasWanted (Upgrade file out) bytes) fr ir (Err f) ⊎ OnCode bytes input (Upgrade file out) (Err f)
     by (F.Refused r) input e = inr (CodeSound (Err (F.Refused r)) ((code, sound, unspelt), ap F.Refused e))
@@ -51,7 +51,7 @@ upgrade_refused file out bytes left fr ir f (inr (code, sound, unspelt, h)) = le
     by failure input e = absurd e
 
 pub upgrade_ends : (file out bytes text again : List ℕ) (left : Option (List ℕ)) (ir : Type 0) (before mid now : ℕ) (o : Result (Vec ℕ Global) Failure) → before ≤ mid → IsCodeListing bytes text → IsUpgraded bytes again → IfOk o (λ v. v.items ≡ text) → IfErr o (StoreFails mid now) → CodeOutcome (Upgrade file out) bytes left (Rose before now) ir (end_of o)
-upgrade_ends file out bytes text again left ir before mid now o le listing spelt ok err = let i = any_told left [] in (i.0, i.1, by o i.0 ok err)
+upgrade_ends file out bytes text again left ir before mid now o le listing spelt ok err = let i = any_reported left [] in (i.0, i.1, by o i.0 ok err)
   where
     by : (o : Result (Vec ℕ Global) Failure) (input : List ℕ) → IfOk o (λ v. v.items ≡ text) → IfErr o (StoreFails mid now) → IsFault (Upgrade file out) (HasWanted (Upgrade file out) bytes) (Rose before now) ir (end_of o) ⊎ OnCode bytes input (Upgrade file out) (end_of o)
     by (Ok v) input e err = inr (CodeSound (Ok v.items) (subst (IsCodeListing bytes) (sym e) listing, (again, spelt)))
@@ -65,7 +65,7 @@ upgrade_ends file out bytes text again left ir before mid now o le listing spelt
 -- `run`
 pub run_refused : (r : Request) (bytes : List ℕ) (left : Option (List ℕ)) (fr ir : Type 0) (f : Failure) → KeepsFromRun bytes r.entry f → CodeOutcome (Run r) bytes left fr ir (Err f)
 run_refused r bytes left fr ir f (inl h) = code_kept (Run r) bytes left fr ir f h
-run_refused r bytes left fr ir f (inr (code, sound, none, h)) = let i = any_told left [] in (i.0, i.1, by f i.0 h)
+run_refused r bytes left fr ir f (inr (code, sound, none, h)) = let i = any_reported left [] in (i.0, i.1, by f i.0 h)
   where
     by : (f : Failure) (input : List ℕ) → IsRefusedBy (λ q. q ≡ of_entry E70 r.entry) f → IsFault (Run r) (HasFunction bytes r.entry) fr ir (Err f) ⊎ OnCode bytes input (Run r) (Err f)
     by (F.Refused q) input e = inr (subst (λ q. OnCode bytes input (Run r) (Err (F.Refused q))) (sym e) (CodeSound (Err (F.Refused (of_entry E70 r.entry))) (NoFunction code sound none)))
@@ -73,7 +73,7 @@ run_refused r bytes left fr ir f (inr (code, sound, none, h)) = let i = any_told
     by failure input e = absurd e
 
 pub run_ends : (r : Request) (bytes : List ℕ) (left : Option (List ℕ)) (fr rose : Type 0) (e : End) → HasFunction bytes r.entry → ReadOutcome (λ input. RunsCode bytes r.entry input r.room r.gauge) left rose e → CodeOutcome (Run r) bytes left fr rose e
-run_ends r bytes left fr rose e has (input, told, h) = (input, told, by h)
+run_ends r bytes left fr rose e has (input, reported, h) = (input, reported, by h)
   where
     by : IsInputFault rose e ⊎ (((16777216 < length input) × (e ≡ Err (F.BadInput 16777216))) ⊎ ((length input ≤ 16777216) × RunsCode bytes r.entry input r.room r.gauge e)) → IsFault (Run r) (HasFunction bytes r.entry) fr rose e ⊎ OnCode bytes input (Run r) e
     by (inl f) = inl (input_fault_up (Run r) (HasFunction bytes r.entry) fr rose e tt has f)

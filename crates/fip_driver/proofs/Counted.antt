@@ -1,4 +1,4 @@
--- A fault of a folder that tells nothing is named only where its count rose.
+-- A fault of a folder that reports nothing is named only where its count rose.
 use Rattle.std.proofs.Common.{◌≡◌, ◌≤◌, ℕ, List, subst, inl, inr}
 use Rattle.std.specs.Prelude.{◌⊎◌, Option, Some, None, Ok, Err, IfErr}
 use Rattle.fip_base.specs.declared.refusal.Refusal.{Refusal}
@@ -23,7 +23,7 @@ unfaulted_counted files rose (Err (F.Fault O.Out)) h = tt
 unfaulted_counted files rose (Err (F.Fault O.Err)) h = tt
 unfaulted_counted files rose (Err f) h = tt
 
--- what comes behind the input isn't one
+-- what comes after the input isn't one
 pub late_unfaulted : (o : Outcome) → (IsBeforeInput o → ⊥) → IsFolderFault o → ⊥
 late_unfaulted (Ok text) h b = b
 late_unfaulted (Err (F.Fault O.Folder)) h b = h tt

@@ -34,14 +34,14 @@ use Rattle.command_answers.specs.command_library.run_loading.TraceText.{trace_te
 use Rattle.command_answers.specs.command_trace.TraceAnswer as A
 use Rattle.command_answers.specs.command_trace.TraceAnswer.{IsRunTrace, IsLong}
 use Rattle.command_answers.specs.Asks.{HasWanted}
-use Rattle.command_answers.specs.Stored.{IsTold}
+use Rattle.command_answers.specs.Stored.{IsReported}
 use Rattle.command_answers.proofs.SourceCode.{source_code, source_entry}
 use Rattle.command_answers.proofs.command_library.command_source.Once.{refused_not_ready}
 use Rattle.fip_driver.specs.Delivered.{Outcome, Seen, Delivered}
 use Rattle.fip_driver.specs.Fetched.{FetchFails, StoreFails, StoreKeeps, ReadFails}
 use Rattle.fip_driver.specs.Made.{CompilesCode, TracesRun, IsUnmade, MadeBy}
 use Rattle.fip_driver.specs.Outcome.{IsDone, IsRefused, IsFileOfMade, KeepsFromFile}
-use Rattle.fip_driver.proofs.Telling.{any_told, bytes_of, whole_of}
+use Rattle.fip_driver.proofs.Telling.{any_reported, bytes_of, whole_of}
 use Rattle.fip_driver.proofs.Unread.{last_status, refused_status}
 
 -- ---- no code was made
@@ -81,10 +81,10 @@ module _ (c : Command) (w : Wanted) (wants : (source : List ℕ) → HasWanted c
 unasked : (c : Command) (file : List ℕ) (files : Option (List File)) (f : Failure) → (IsRefused (Err f) → ⊥) → IsUnmade c file files files (IsDone (Err f)) (IsRefused (Err f))
 unasked c file files f never = record { undone = λ d. d; kept = refl; unready = λ d. absurd (never d) }
 
-pub nothing_made : (c : Command) (files : Option (List File)) (told : Option (List ℕ)) (f : Failure) → (IsRefused (Err f) → ⊥) → MadeBy c files files told (IsDone (Err f)) (IsRefused (Err f)) None
-nothing_made (Compile file out) files told f never = unasked (Compile file out) file files f never
-nothing_made (Trace file entry out room) files told f never = unasked (Trace file entry out room) file files f never
-nothing_made c files told f never = tt
+pub nothing_made : (c : Command) (files : Option (List File)) (reported : Option (List ℕ)) (f : Failure) → (IsRefused (Err f) → ⊥) → MadeBy c files files reported (IsDone (Err f)) (IsRefused (Err f)) None
+nothing_made (Compile file out) files reported f never = unasked (Compile file out) file files f never
+nothing_made (Trace file entry out room) files reported f never = unasked (Trace file entry out room) file files f never
+nothing_made c files reported f never = tt
 
 -- ---- `compile`
 
@@ -106,9 +106,9 @@ own_unspelt source v (Err f) unspelt long = by f (λ r e. unspelt r (ap Err e)) 
     by F.NoMemory unspelt h = tt
     by f unspelt h = absurd h
 
-module _ (file out : List ℕ) (old mid new : Option (List File)) (told : Option (List ℕ)) (source text : List ℕ) (holds : HoldsFile old file source) (is : text ≡ source) (kept : mid ≡ old) where
+module _ (file out : List ℕ) (old mid new : Option (List File)) (reported : Option (List ℕ)) (source text : List ℕ) (holds : HoldsFile old file source) (is : text ≡ source) (kept : mid ≡ old) where
   -- its file was to be stored
-  pub compiled : (made : Option Checked) (bytes : List ℕ) (before now : ℕ) (o : Outcome) → IfSome made (λ v. IsCodeOfSource text (plain_code v.code)) → IsFileOfMade made bytes → IfErr o (StoreFails before now) → StoreKeeps out bytes mid new o → MadeBy (Compile file out) old new told (IsDone o) (IsRefused o) made
+  pub compiled : (made : Option Checked) (bytes : List ℕ) (before now : ℕ) (o : Outcome) → IfSome made (λ v. IsCodeOfSource text (plain_code v.code)) → IsFileOfMade made bytes → IfErr o (StoreFails before now) → StoreKeeps out bytes mid new o → MadeBy (Compile file out) old new reported (IsDone o) (IsRefused o) made
   compiled None bytes before now o code own fails keeps = absurd own
   compiled (Some v) bytes before now o code own fails keeps =
       (source, holds, source_code source (plain_code v.code) (subst (λ xs. IsCodeOfSource xs (plain_code v.code)) is code), record { stored = done o keeps; long = unrefused o fails })
@@ -122,7 +122,7 @@ module _ (file out : List ℕ) (old mid new : Option (List File)) (told : Option
       unrefused o k d = absurd d
 
   -- none was
-  pub uncompiled : (made : Option Checked) (f : Failure) → IfSome made (λ v. IsCodeOfSource text (plain_code v.code)) → IsRefusedBy (KeepsFromFile text made) f → MadeBy (Compile file out) old mid told (IsDone (Err f)) (IsRefused (Err f)) made
+  pub uncompiled : (made : Option Checked) (f : Failure) → IfSome made (λ v. IsCodeOfSource text (plain_code v.code)) → IsRefusedBy (KeepsFromFile text made) f → MadeBy (Compile file out) old mid reported (IsDone (Err f)) (IsRefused (Err f)) made
   uncompiled None f code h = refused (Compile file out) Lawful (λ s k. k) file old mid kept source text f holds is h
   uncompiled (Some v) f code h =
       (source, holds, source_code source (plain_code v.code) (subst (λ xs. IsCodeOfSource xs (plain_code v.code)) is code), record { stored = λ d. absurd d; long = by f h })
@@ -133,15 +133,15 @@ module _ (file out : List ℕ) (old mid new : Option (List File)) (told : Option
 
 -- ---- `trace`
 
-module _ (file entry out : List ℕ) (room : Room) (old mid new : Option (List File)) (told : Option (List ℕ)) (source text : List ℕ) (r : Chosen) (holds : HoldsFile old file source) (is : text ≡ source) (ran : IsEntryOf text entry r) (made : Option Checked) (own : made ≡ Some r.checked) where
-  its : (done refused : Type 0) (input : List ℕ) → IsTold told input → TracesRun r input room out new done refused → MadeBy (Trace file entry out room) old new told done refused made
-  its done refused input tells runs =
-      subst (λ m. MadeBy (Trace file entry out room) old new told done refused m) (sym own)
-      (source, holds, input, tells, r, refl, source_entry source entry r (subst (λ xs. IsEntryOf xs entry r) is ran), runs)
+module _ (file entry out : List ℕ) (room : Room) (old mid new : Option (List File)) (reported : Option (List ℕ)) (source text : List ℕ) (r : Chosen) (holds : HoldsFile old file source) (is : text ≡ source) (ran : IsEntryOf text entry r) (made : Option Checked) (own : made ≡ Some r.checked) where
+  its : (done refused : Type 0) (input : List ℕ) → IsReported reported input → TracesRun r input room out new done refused → MadeBy (Trace file entry out room) old new reported done refused made
+  its done refused input reports runs =
+      subst (λ m. MadeBy (Trace file entry out room) old new reported done refused m) (sym own)
+      (source, holds, input, reports, r, refl, source_entry source entry r (subst (λ xs. IsEntryOf xs entry r) is ran), runs)
 
   -- its file was to be stored
-  pub traced : (compiled : compiled_file) (before now : ℕ) (o : Outcome) → (bytes : List ℕ) × IsTold told bytes × A.TracesRun (plain r.checked.code) r.entry bytes room (Ok compiled) → IfErr o (StoreFails before now) → StoreKeeps out compiled.file.items mid new o → MadeBy (Trace file entry out room) old new told (IsDone o) (IsRefused o) made
-  traced compiled before now o (input, tells, (t, run, short, same)) fails keeps = its (IsDone o) (IsRefused o) input tells (record { stored = done o keeps; long = unrefused o fails })
+  pub traced : (compiled : compiled_file) (before now : ℕ) (o : Outcome) → (bytes : List ℕ) × IsReported reported bytes × A.TracesRun (plain r.checked.code) r.entry bytes room (Ok compiled) → IfErr o (StoreFails before now) → StoreKeeps out compiled.file.items mid new o → MadeBy (Trace file entry out room) old new reported (IsDone o) (IsRefused o) made
+  traced compiled before now o (input, reports, (t, run, short, same)) fails keeps = its (IsDone o) (IsRefused o) input reports (record { stored = done o keeps; long = unrefused o fails })
     where
       done : (o : Outcome) → StoreKeeps out compiled.file.items mid new o → IsDone o → (t : T.Trace) × IsRunTrace (plain r.checked.code) r.entry input room t × (IsLong t → ⊥) × HoldsFile new out (trace_text t)
       done (Ok v) k d = (t, run, short, subst (HoldsFile new out) same k.1)
@@ -152,21 +152,21 @@ module _ (file entry out : List ℕ) (room : Room) (old mid new : Option (List F
       unrefused o k d = absurd d
 
   -- none was
-  pub untraced : (f : Failure) → (bytes : List ℕ) × IsTold told bytes × A.TracesRun (plain r.checked.code) r.entry bytes room (Err f) → MadeBy (Trace file entry out room) old new told (IsDone (Err f)) (IsRefused (Err f)) made
-  untraced f (input, tells, h) = its (IsDone (Err f)) (IsRefused (Err f)) input tells (record { stored = λ d. absurd d; long = by f h })
+  pub untraced : (f : Failure) → (bytes : List ℕ) × IsReported reported bytes × A.TracesRun (plain r.checked.code) r.entry bytes room (Err f) → MadeBy (Trace file entry out room) old new reported (IsDone (Err f)) (IsRefused (Err f)) made
+  untraced f (input, reports, h) = its (IsDone (Err f)) (IsRefused (Err f)) input reports (record { stored = λ d. absurd d; long = by f h })
     where
       by : (f : Failure) → A.TracesRun (plain r.checked.code) r.entry input room (Err f) → IsRefused (Err f) → (t : T.Trace) × IsRunTrace (plain r.checked.code) r.entry input room t × IsLong t
       by (F.Refused r) h k = h
       by f h k = absurd k
 
 -- a run on an input that was read to its end, and one on an input that wasn't
-pub read_runs : (r : Chosen) (room : Room) (before left : Option (List ℕ)) (read text : List ℕ) (o : Result compiled_file Failure) → Consumes before left read → IsAtEnd left → text ≡ read → A.TracesRun (plain r.checked.code) r.entry text room o → (bytes : List ℕ) × IsTold before bytes × A.TracesRun (plain r.checked.code) r.entry bytes room o
+pub read_runs : (r : Chosen) (room : Room) (before left : Option (List ℕ)) (read text : List ℕ) (o : Result compiled_file Failure) → Consumes before left read → IsAtEnd left → text ≡ read → A.TracesRun (plain r.checked.code) r.entry text room o → (bytes : List ℕ) × IsReported before bytes × A.TracesRun (plain r.checked.code) r.entry bytes room o
 read_runs r room before left read text o all end is h = (read, whole_of before left read all end, subst (λ xs. A.TracesRun (plain r.checked.code) r.entry xs room o) is h)
 
-pub unread_runs : (r : Chosen) (room : Room) (before left : Option (List ℕ)) (old new : ℕ) (f : Failure) → ReadFails before left old new f → (bytes : List ℕ) × IsTold before bytes × A.TracesRun (plain r.checked.code) r.entry bytes room (Err f)
-unread_runs r room before left old new f h = let i = any_told before [] in (i.0, i.1, by f h)
+pub unread_runs : (r : Chosen) (room : Room) (before left : Option (List ℕ)) (old new : ℕ) (f : Failure) → ReadFails before left old new f → (bytes : List ℕ) × IsReported before bytes × A.TracesRun (plain r.checked.code) r.entry bytes room (Err f)
+unread_runs r room before left old new f h = let i = any_reported before [] in (i.0, i.1, by f h)
   where
-    by : (f : Failure) → ReadFails before left old new f → A.TracesRun (plain r.checked.code) r.entry (any_told before []).0 room (Err f)
+    by : (f : Failure) → ReadFails before left old new f → A.TracesRun (plain r.checked.code) r.entry (any_reported before []).0 room (Err f)
     by (F.Refused r) h = absurd h
     by f h = tt
 
@@ -182,16 +182,16 @@ traces_when r input room out new a b done refused f g h = record { stored = λ d
 unmade_when : (c : Command) (file : List ℕ) (old new : Option (List File)) (a b done refused : Type 0) → (done → a) → (refused → b) → IsUnmade c file old new a b → IsUnmade c file old new done refused
 unmade_when c file old new a b done refused f g h = record { undone = λ d. h.undone (f d); kept = h.kept; unready = λ d. h.unready (g d) }
 
-made_when : (c : Command) (old new : Option (List File)) (told : Option (List ℕ)) (a b done refused : Type 0) (made : Option Checked) → (done → a) → (refused → b) → MadeBy c old new told a b made → MadeBy c old new told done refused made
-made_when (Compile file out) old new told a b done refused None f g h = unmade_when (Compile file out) file old new a b done refused f g h
-made_when (Compile file out) old new told a b done refused (Some v) f g (source, holds, code, h) = (source, holds, code, compiles_when (plain_code v.code) out new a b done refused f g h)
-made_when (Trace file entry out room) old new told a b done refused None f g h = unmade_when (Trace file entry out room) file old new a b done refused f g h
-made_when (Trace file entry out room) old new told a b done refused (Some v) f g (source, holds, input, tells, r, is, such, h) = (source, holds, input, tells, r, is, such, traces_when r input room out new a b done refused f g h)
-made_when c old new told a b done refused made f g h = tt
+made_when : (c : Command) (old new : Option (List File)) (reported : Option (List ℕ)) (a b done refused : Type 0) (made : Option Checked) → (done → a) → (refused → b) → MadeBy c old new reported a b made → MadeBy c old new reported done refused made
+made_when (Compile file out) old new reported a b done refused None f g h = unmade_when (Compile file out) file old new a b done refused f g h
+made_when (Compile file out) old new reported a b done refused (Some v) f g (source, holds, code, h) = (source, holds, code, compiles_when (plain_code v.code) out new a b done refused f g h)
+made_when (Trace file entry out room) old new reported a b done refused None f g h = unmade_when (Trace file entry out room) file old new a b done refused f g h
+made_when (Trace file entry out room) old new reported a b done refused (Some v) f g (source, holds, input, reports, r, is, such, h) = (source, holds, input, reports, r, is, such, traces_when r input room out new a b done refused f g h)
+made_when c old new reported a b done refused made f g h = tt
 
-pub made_status : (c : Command) (old new : Option (List File)) (told : Option (List ℕ)) (made : Option Checked) (out out' err err' : Seen) (o : Outcome) (s : ℕ) → Delivered out out' err err' o s → MadeBy c old new told (IsDone o) (IsRefused o) made → MadeBy c old new told (s ≡ 0) (s ≡ 1) made
-made_status c old new told made out out' err err' o s d h =
-    made_when c old new told (IsDone o) (IsRefused o) (s ≡ 0) (s ≡ 1) made (last_status out out' err err' o s (IsDone o) d (by o)) (refused_status out out' err err' o s d) h
+pub made_status : (c : Command) (old new : Option (List File)) (reported : Option (List ℕ)) (made : Option Checked) (out out' err err' : Seen) (o : Outcome) (s : ℕ) → Delivered out out' err err' o s → MadeBy c old new reported (IsDone o) (IsRefused o) made → MadeBy c old new reported (s ≡ 0) (s ≡ 1) made
+made_status c old new reported made out out' err err' o s d h =
+    made_when c old new reported (IsDone o) (IsRefused o) (s ≡ 0) (s ≡ 1) made (last_status out out' err err' o s (IsDone o) d (by o)) (refused_status out out' err err' o s d) h
   where
     by : (o : Outcome) → OnOk o (IsDone o)
     by (Ok text) = tt

@@ -1,4 +1,4 @@
--- What words come to, where they are no command or memory is wanting; and the whole answer by what they come to.
+-- What words come to, where they are no command or memory runs out; and the whole answer by what they come to.
 use Rattle.std.proofs.Common.{◌≡◌, ℕ, List, [], sym, subst, inl, inr}
 use Rattle.std.specs.Prelude.{◌⊎◌, Option, Some, Result, Ok, Err}
 use Rattle.std.specs.declared.vec.Vec.{Vec}
@@ -14,21 +14,21 @@ use Rattle.fip_driver.specs.Delivered.{Seen, Delivered}
 use Rattle.fip_driver.specs.Faults.{IsUnasked, WordsOutcome, IsUntoldAudit, Closes, end_of}
 use Rattle.fip_driver.specs.Outcome.{AreKept, HadFolder}
 use Rattle.fip_driver.proofs.Storing.{failed_kept, stored_as}
-use Rattle.fip_driver.proofs.Telling.{any_told}
+use Rattle.fip_driver.proofs.Telling.{any_reported}
 use Rattle.fip_driver.proofs.WholeAnswer.{unasked_answer, closed_answer}
 
 -- ---- the words
 
 pub no_command_outcome : (words : List (List ℕ)) (files : Option (List File)) (left : Option (List ℕ)) (folder_rose rose : Type 0) → IsNoCommand words → WordsOutcome words files left folder_rose rose (Err F.NotUnderstood)
 no_command_outcome words files left fr rose h =
-    let t = any_told files [] in
-    let i = any_told left [] in
+    let t = any_reported files [] in
+    let i = any_reported left [] in
     (t.0, i.0, t.1, i.1, inl h)
 
 pub no_memory_outcome : (words : List (List ℕ)) (files : Option (List File)) (left : Option (List ℕ)) (folder_rose rose : Type 0) → WordsOutcome words files left folder_rose rose (Err F.NoMemory)
 no_memory_outcome words files left fr rose =
-    let t = any_told files [] in
-    let i = any_told left [] in
+    let t = any_reported files [] in
+    let i = any_reported left [] in
     (t.0, i.0, t.1, i.1, inl tt)
 
 -- ---- the whole
@@ -55,14 +55,14 @@ module _ (words : List (List ℕ)) (files : List File) (input : List ℕ) (out o
       failed_kept c (stored_name c) files input now f (stored_as c (stored_name c) files input folder_rose now (Err f) no_folder (kept c had.1))
 
   module _ (had : (now ≡ Some files) ⊎ HadFolder words o) (kept : (c : Command) → IsCommand words c → AreKept c (Some input) (stored_name c) folder_rose (Some files) now o) (d : Delivered out out' err err' o s) where
-    told_whole : Come files input → Whole files input
-    told_whole (inl h) = unasked_answer words files input out out' err err' now no_out no_err o s (unasked_kept o h had kept) h d
-    told_whole (inr (inl h)) =
+    reported_whole : Come files input → Whole files input
+    reported_whole (inl h) = unasked_answer words files input out out' err err' now no_out no_err o s (unasked_kept o h had kept) h d
+    reported_whole (inr (inl h)) =
         let stored = stored_as h.0 (stored_name h.0) files input folder_rose now o no_folder (kept h.0 h.1) in
         closed_answer words files input out out' err err' now no_out no_err h.0 folder_rose input_rose no_folder no_input o s h.1 h.2 stored d
-    told_whole (inr (inr h)) = absurd h.2
+    reported_whole (inr (inr h)) = absurd h.2
 
     -- where no count of faults rose, and the folder and the input tell what they hold
     pub whole_outcome : WordsOutcome words (Some files) (Some input) folder_rose input_rose o → Whole files input
     whole_outcome h =
-        told_whole (subst (λ fs. Come fs input) (sym h.2) (subst (λ bytes. Come h.0 bytes) (sym h.3) h.4))
+        reported_whole (subst (λ fs. Come fs input) (sym h.2) (subst (λ bytes. Come h.0 bytes) (sym h.3) h.4))

@@ -13,7 +13,7 @@ use Rattle.fip_trees.specs.Tree.{Program}
 use Rattle.command_answers.specs.command_tasks.run_loading.TraceText.{trace_text}
 use Rattle.command_answers.specs.command_tasks.TasksAnswer.{TakesTurns}
 use Rattle.command_answers.specs.command_trace.TraceAnswer.{Kept, Traces, Ended, Stored, TooLong as LongTrace, KeptOrNoMemory}
-use Rattle.command_answers.specs.Stored.{IsTold, IsTraceFile}
+use Rattle.command_answers.specs.Stored.{IsReported, IsTraceFile}
 use Rattle.std.proofs.lemmas.Option.{none-some}
 use Rattle.command_words.specs.Words.{Room, Request, Command, Check, Compile, Verify, Upgrade, Exec, Run, Trace, Tasks, Derive, Audit, Eval, Replay, Library, Gen, IsTextName}
 use Rattle.command_answers.specs.command_library.GenAnswer.{Generates}
@@ -45,7 +45,7 @@ use Rattle.command_answers.proofs.SourceCode.{long_code, source_trace}
 use Rattle.fip_driver.specs.Fetched.{FetchFails, FileFails, StoreFails, JudgeFails, ReadFails}
 use Rattle.fip_driver.specs.Faults.{end_of, IsFault, Closes}
 use Rattle.fip_driver.specs.Outcome.{compiled_end, IsInputFault, ReadOutcome, SourceOutcome, FileOutcome, AuditOutcome, CommandOutcome}
-use Rattle.fip_driver.proofs.Telling.{any_told, held, bytes_of, longer, told_fetch, told_input, whole_of, more_left}
+use Rattle.fip_driver.proofs.Telling.{any_reported, held, bytes_of, longer, reported_fetch, reported_input, whole_of, more_left}
 
 -- ---- faults
 
@@ -84,7 +84,7 @@ rose_later before mid now le h = grind arith
 
 -- an input that wasn't read
 pub unread_says : (Is : List ℕ → End → Type 0) (before left : Option (List ℕ)) (old new : ℕ) (f : Failure) → ReadFails before left old new f → ReadOutcome Is before (Rose old new) (Err f)
-unread_says Is before left old new f h = let t = told_input before left old new f h in (t.0, t.1, by f t.0 t.2.0 t.2.1)
+unread_says Is before left old new f h = let t = reported_input before left old new f h in (t.0, t.1, by f t.0 t.2.0 t.2.1)
   where
     by : (f : Failure) (input : List ℕ) (rest : Option (List ℕ)) → ReadFails (Some input) rest old new f → IsInputFault (Rose old new) (Err f) ⊎ (((16777216 < length input) × ◌≡◌ {A = End} (Err f) (Err (F.BadInput 16777216))) ⊎ ((length input ≤ 16777216) × Is input (Err f)))
     by (F.BadInput at) input rest h = inr (inl (more_left input rest h.1, ap (λ n. Err (F.BadInput n)) h.0))
@@ -118,10 +118,10 @@ read_traces source name room before left rose read o c end le h = (read, whole_o
     by (Err failure) h = inr (inr (le, trace_by_trees source name read room (Err failure) h))
 
 -- the file that is stored
-is_trace_file : (source name input : List ℕ) (left : Option (List ℕ)) (room : Room) (k : Kept) (e : Result Kept Failure) → IsTold left input → Traces source name input room e → e ≡ Ok k → IsTraceFile source name room left k.file
-is_trace_file source name input left room k e told (Ended failure h) is = absurd cc
-is_trace_file source name input left room k e told (Stored text t h of' short) is = let same : trace_text t ≡ k.file = cc in (input, told, t, source_trace source name input room t of', short, sym same)
-is_trace_file source name input left room k e told (LongTrace t of' long) is = absurd cc
+is_trace_file : (source name input : List ℕ) (left : Option (List ℕ)) (room : Room) (k : Kept) (e : Result Kept Failure) → IsReported left input → Traces source name input room e → e ≡ Ok k → IsTraceFile source name room left k.file
+is_trace_file source name input left room k e reported (Ended failure h) is = absurd cc
+is_trace_file source name input left room k e reported (Stored text t h of' short) is = let same : trace_text t ≡ k.file = cc in (input, reported, t, source_trace source name input room t of', short, sym same)
+is_trace_file source name input left room k e reported (LongTrace t of' long) is = absurd cc
 
 pub trace_made : (source name : List ℕ) (room : Room) (before left : Option (List ℕ)) (read : List ℕ) (o : Result compiled_file Failure) → Consumes before left read → IsAtEnd left → KeptOrNoMemory (Traces source name read room) o → IfOk o (λ c. IsTraceFile source name room before c.file.items)
 trace_made source name room before left read (Ok c) all end h = is_trace_file source name read before room (record { file = c.file.items; text = c.text.items }) (Ok (record { file = c.file.items; text = c.text.items })) (whole_of before left read all end) h refl
@@ -133,7 +133,7 @@ no_input : (c : Command) (input : List ℕ) → (ReadsInput c → ⊥) → IsTak
 no_input c input never reads = absurd (never reads)
 
 pub kept_ends : (c : Command) (w : Wanted) (source : List ℕ) (left : Option (List ℕ)) (fr ir : Type 0) (f : Failure) → KeepsFrom source w f → SourceOutcome c w source left fr ir (Err f)
-kept_ends c w source left fr ir f h = let i = any_told left [] in (i.0, i.1, by f i.0 h)
+kept_ends c w source left fr ir f h = let i = any_reported left [] in (i.0, i.1, by f i.0 h)
   where
     by : (f : Failure) (input : List ℕ) → KeepsFrom source w f → IsFault c (IsReady source w) fr ir (Err f) ⊎ OnSource source input c w (Err f)
     by (F.Refused r) input h = inr (Refused r h)
@@ -142,12 +142,12 @@ kept_ends c w source left fr ir f h = let i = any_told left [] in (i.0, i.1, by 
 
 -- `check`
 pub check_ends : (file source : List ℕ) (left : Option (List ℕ)) (fr ir : Type 0) (o : Result (Vec ℕ Global) Failure) → IfOk o (λ v. IsListing source v.items) → IfErr o (KeepsFrom source Lawful) → SourceOutcome (Check file) Lawful source left fr ir (end_of o)
-check_ends file source left fr ir (Ok v) h k = let i = any_told left [] in (i.0, i.1, inr (Ready (Ok v.items) (listing_ready source v.items h) (no_input (Check file) i.0 (λ r. r)) h))
+check_ends file source left fr ir (Ok v) h k = let i = any_reported left [] in (i.0, i.1, inr (Ready (Ok v.items) (listing_ready source v.items h) (no_input (Check file) i.0 (λ r. r)) h))
 check_ends file source left fr ir (Err f) h k = kept_ends (Check file) Lawful source left fr ir f k
 
--- what was made of a source is stored, and its text is told
+-- what was made of a source is stored, and its text is reported
 stored_ends : (c : Command) (source : List ℕ) (left : Option (List ℕ)) (ir : Type 0) (before mid now : ℕ) (o : Result (Vec ℕ Global) Failure) → (CallsNoFolder c → ⊥) → (ReadsInput c → ⊥) → before ≤ mid → IsReady source Lawful → ((input : List ℕ) → IfOk o (λ v. Does source input c (Ok v.items))) → IfErr o (StoreFails mid now) → SourceOutcome c Lawful source left (Rose before now) ir (end_of o)
-stored_ends c source left ir before mid now o calls never le ready ok err = let i = any_told left [] in (i.0, i.1, by o i.0 (ok i.0) err)
+stored_ends c source left ir before mid now o calls never le ready ok err = let i = any_reported left [] in (i.0, i.1, by o i.0 (ok i.0) err)
   where
     by : (o : Result (Vec ℕ Global) Failure) (input : List ℕ) → IfOk o (λ v. Does source input c (Ok v.items)) → IfErr o (StoreFails mid now) → IsFault c (IsReady source Lawful) (Rose before now) ir (end_of o) ⊎ OnSource source input c Lawful (end_of o)
     by (Ok v) input ok err = inr (Ready (Ok v.items) ready (no_input c input never) ok)
@@ -161,7 +161,7 @@ stored_ends c source left ir before mid now o calls never le ready ok err = let 
 -- `compile`
 pub compile_refused : (file out source : List ℕ) (left : Option (List ℕ)) (fr ir : Type 0) (f : Failure) → KeepsFromCompile source f → SourceOutcome (Compile file out) Lawful source left fr ir (Err f)
 compile_refused file out source left fr ir f (inl h) = kept_ends (Compile file out) Lawful source left fr ir f h
-compile_refused file out source left fr ir f (inr h) = let i = any_told left [] in (i.0, i.1, by f i.0 h.1)
+compile_refused file out source left fr ir f (inr h) = let i = any_reported left [] in (i.0, i.1, by f i.0 h.1)
   where
     ready : IsReady source Lawful
     ready = uncompiled_ready source h.0
@@ -182,7 +182,7 @@ compile_ends file out source text left ir before mid now o le listing ok err =
 -- `derive`
 pub derive_refused : (file out source : List ℕ) (left : Option (List ℕ)) (fr ir : Type 0) (f : Failure) → KeepsFromDerive source f → SourceOutcome (Derive file out) Lawful source left fr ir (Err f)
 derive_refused file out source left fr ir f (inl h) = kept_ends (Derive file out) Lawful source left fr ir f h
-derive_refused file out source left fr ir f (inr h) = let i = any_told left [] in (i.0, i.1, by f i.0 h.1)
+derive_refused file out source left fr ir f (inr h) = let i = any_reported left [] in (i.0, i.1, by f i.0 h.1)
   where
     by : (f : Failure) (input : List ℕ) → IsRefusedBy (λ r. r ≡ bare E74) f → IsFault (Derive file out) (IsReady source Lawful) fr ir (Err f) ⊎ OnSource source input (Derive file out) Lawful (Err f)
     by (F.Refused r) input e = inr (Ready (Err (F.Refused r)) (underived_ready source h.0) (no_input (Derive file out) input (λ r. r)) (h.0, ap F.Refused e))
@@ -199,7 +199,7 @@ derive_ends file out source text bytes left ir before mid now o le made derived 
 
 -- what comes of an input, of a source that has what is wanted
 pub input_ends : (c : Command) (w : Wanted) (source : List ℕ) (left : Option (List ℕ)) (fr rose : Type 0) (Is : List ℕ → End → Type 0) (e : End) → IsReady source w → ReadsInput c → ((input : List ℕ) (d : End) → Is input d → Does source input c d) → ReadOutcome Is left rose e → SourceOutcome c w source left fr rose e
-input_ends c w source left fr rose Is e ready reads up (input, told, h) = (input, told, by h)
+input_ends c w source left fr rose Is e ready reads up (input, reported, h) = (input, reported, by h)
   where
     long : (d : End) → 16777216 < length input → d ≡ Err (F.BadInput 16777216) → OnSource source input c w d
     long d more same = subst (OnSource source input c w) (sym same) (LongInput ready reads more)
@@ -209,24 +209,24 @@ input_ends c w source left fr rose Is e ready reads up (input, told, h) = (input
     by (inr (inl (more, same))) = inr (long e more same)
     by (inr (inr (le, m))) = inr (Ready e ready (λ r. le) (up input e m))
 
--- what `exec` tells
+-- what `exec` reports
 pub executed_ends : (r : Request) (source : List ℕ) (left : Option (List ℕ)) (fr rose : Type 0) (e : End) → IsReady source (Compiled r.entry) → ReadOutcome (λ bytes. Execs source r.entry bytes r.room r.gauge) left rose e → SourceOutcome (Exec r) (Compiled r.entry) source left fr rose e
 executed_ends r source left fr rose e ready h =
     input_ends (Exec r) (Compiled r.entry) source left fr rose (λ bytes. Execs source r.entry bytes r.room r.gauge) e ready tt (λ input d m. exec_by_trees source r.entry input r.room r.gauge d m) h
 
--- what `eval` tells
+-- what `eval` reports
 pub evaluated_ends : (file entry source : List ℕ) (calls frames : ℕ) (left : Option (List ℕ)) (fr rose : Type 0) (e : End) → IsReady source (Root entry) → ReadOutcome (λ bytes. Evaluates source entry bytes calls frames) left rose e → SourceOutcome (Eval file entry calls frames) (Root entry) source left fr rose e
 evaluated_ends file entry source calls frames left fr rose e ready h =
     input_ends (Eval file entry calls frames) (Root entry) source left fr rose (λ bytes. Evaluates source entry bytes calls frames) e ready tt (λ input d m. m) h
 
--- what `tasks` tells
+-- what `tasks` reports
 pub turns_ends : (file source : List ℕ) (seed turns : ℕ) (room : Room) (left : Option (List ℕ)) (fr rose : Type 0) (e : End) → IsReady source Lawful → ReadOutcome (λ bytes. TakesTurns source bytes room) left rose e → SourceOutcome (Tasks file seed turns room) Lawful source left fr rose e
 turns_ends file source seed turns room left fr rose e ready h =
     input_ends (Tasks file seed turns room) Lawful source left fr rose (λ bytes. TakesTurns source bytes room) e ready tt (λ input d m. m) h
 
 -- a trace that was made is stored
 pub trace_stored : (left : Option (List ℕ)) (rose : Type 0) (file entry out source text : List ℕ) (room : Room) (before mid now : ℕ) (w : Wanted) (o : Result (Vec ℕ Global) Failure) → before ≤ mid → IsReady source w → ReadOutcome (λ input. TracesTo source entry input room) left rose (Ok text) → IfOk o (λ v. v.items ≡ text) → IfErr o (StoreFails mid now) → SourceOutcome (Trace file entry out room) w source left (Rose before now) rose (end_of o)
-trace_stored left rose file entry out source text room before mid now w o le ready (input, told, h) ok err = (input, told, by o ok err)
+trace_stored left rose file entry out source text room before mid now w o le ready (input, reported, h) ok err = (input, reported, by o ok err)
   where
     short : IsInputFault rose (Ok text) ⊎ (((16777216 < length input) × ◌≡◌ {A = End} (Ok text) (Err (F.BadInput 16777216))) ⊎ ((length input ≤ 16777216) × TracesTo source entry input room (Ok text))) → length input ≤ 16777216
     short (inl f) = absurd f
@@ -289,8 +289,8 @@ too_long_said c w name files input r (Some source) e names wants same h =
 
 pub fetch_ends : (c : Command) (w : Wanted) (name : List ℕ) (files : Option (List File)) (left : Option (List ℕ)) (before now : ℕ) (ir : Type 0) (f : Failure) → fetched_name c ≡ Some name → wanted c ≡ Some w → (CallsNoFolder c → ⊥) → FetchFails files name before now f → FileOutcome c files left (Rose before now) ir (Err f)
 fetch_ends c w name files left before now ir f names wants calls h =
-    let t = told_fetch files name before now f h in
-    let i = any_told left [] in
+    let t = reported_fetch files name before now f h in
+    let i = any_reported left [] in
     (t.0, i.0, t.1, i.1, by f t.0 i.0 t.2)
   where
     by : (f : Failure) (all : List File) (input : List ℕ) → FetchFails (Some all) name before now f → Closes all input c (Rose before now) ir (Err f)
@@ -306,40 +306,40 @@ fetch_ends c w name files left before now ir f names wants calls h =
 
 pub library_ends : (name : List ℕ) (files : Option (List File)) (left : Option (List ℕ)) (fr ir : Type 0) (o : Result (Vec ℕ Global) Failure) → IsTextName name → IfOk o (λ v. IsText name v.items) → IfErr o (λ f. (f ≡ F.NoMemory) ⊎ ((f ≡ F.NotUnderstood) × (IsTextName name → ⊥))) → FileOutcome (Library name) files left fr ir (end_of o)
 library_ends name files left fr ir o known ok err =
-    let t = any_told files [] in
-    let i = any_told left [] in
+    let t = any_reported files [] in
+    let i = any_reported left [] in
     (t.0, i.0, t.1, i.1, by o ok err)
   where
-    by : (o : Result (Vec ℕ Global) Failure) → IfOk o (λ v. IsText name v.items) → IfErr o (λ f. (f ≡ F.NoMemory) ⊎ ((f ≡ F.NotUnderstood) × (IsTextName name → ⊥))) → Closes (any_told files []).0 (any_told left []).0 (Library name) fr ir (end_of o)
+    by : (o : Result (Vec ℕ Global) Failure) → IfOk o (λ v. IsText name v.items) → IfErr o (λ f. (f ≡ F.NoMemory) ⊎ ((f ≡ F.NotUnderstood) × (IsTextName name → ⊥))) → Closes (any_reported files []).0 (any_reported left []).0 (Library name) fr ir (end_of o)
     by (Ok v) ok err = inr ok
-    by (Err f) ok (inl same) = inl (subst (λ x. IsFault (Library name) (ComesToInput (Library name) (Some (any_told files []).0)) fr ir (Err x)) (sym same) tt)
+    by (Err f) ok (inl same) = inl (subst (λ x. IsFault (Library name) (ComesToInput (Library name) (Some (any_reported files []).0)) fr ir (Err x)) (sym same) tt)
     by (Err f) ok (inr none) = absurd (none.1 known)
 
 pub gen_ends : (seed count : ℕ) (files : Option (List File)) (left : Option (List ℕ)) (fr ir : Type 0) (o : Result (Vec ℕ Global) Failure) → OrNoMemory (Generates seed count) o → FileOutcome (Gen seed count) files left fr ir (end_of o)
 gen_ends seed count files left fr ir o generates =
-    let t = any_told files [] in
-    let i = any_told left [] in
+    let t = any_reported files [] in
+    let i = any_reported left [] in
     (t.0, i.0, t.1, i.1, by o generates)
   where
-    by : (o : Result (Vec ℕ Global) Failure) → OrNoMemory (Generates seed count) o → Closes (any_told files []).0 (any_told left []).0 (Gen seed count) fr ir (end_of o)
+    by : (o : Result (Vec ℕ Global) Failure) → OrNoMemory (Generates seed count) o → Closes (any_reported files []).0 (any_reported left []).0 (Gen seed count) fr ir (end_of o)
     by (Ok v) h = inr (gen_by_trees seed count (Ok v.items) h)
     by (Err F.NoMemory) h = inl tt
     by (Err f) h = inr (gen_by_trees seed count (Err f) h)
 
 -- ---- other files
 
--- the same cause, of files that are told
-pub told_file : (IsLong : Failure → Type 0) (files : Option (List File)) (name : List ℕ) (before now : ℕ) (f : Failure) → FileFails IsLong files name before now f → (all : List File) × IsTold files all × FileFails IsLong (Some all) name before now f
-told_file IsLong (Some all) name before now f h = (all, refl, h)
-told_file IsLong None name before now (F.Fault object) h = ([], tt, (h.0, elim h.1 [ inl up ↦ inl up | inr gone ↦ absurd gone ]))
-told_file IsLong None name before now F.NoMemory h = ([], tt, tt)
-told_file IsLong None name before now failure h = let l = longer name 16777216 in (l.0, tt, (h.0, l.1))
+-- the same cause, of files that are reported
+pub reported_file : (IsLong : Failure → Type 0) (files : Option (List File)) (name : List ℕ) (before now : ℕ) (f : Failure) → FileFails IsLong files name before now f → (all : List File) × IsReported files all × FileFails IsLong (Some all) name before now f
+reported_file IsLong (Some all) name before now f h = (all, refl, h)
+reported_file IsLong None name before now (F.Fault object) h = ([], tt, (h.0, elim h.1 [ inl up ↦ inl up | inr gone ↦ absurd gone ]))
+reported_file IsLong None name before now F.NoMemory h = ([], tt, tt)
+reported_file IsLong None name before now failure h = let l = longer name 16777216 in (l.0, tt, (h.0, l.1))
 
 -- what keeps a file from being fetched; or it is too long
 pub missed_ends : (c : Command) (IsLong : Failure → Type 0) (name : List ℕ) (files : Option (List File)) (left : Option (List ℕ)) (before now : ℕ) (ir : Type 0) (f : Failure) → fetched_name c ≡ Some name → (CallsNoFolder c → ⊥) → ((all : List File) (input bytes : List ℕ) (e : Failure) → IsLong e → 16777216 < length bytes → OnFile all bytes input c (Err e)) → FileFails IsLong files name before now f → FileOutcome c files left (Rose before now) ir (Err f)
 missed_ends c IsLong name files left before now ir f names calls long h =
-    let t = told_file IsLong files name before now f h in
-    let i = any_told left [] in
+    let t = reported_file IsLong files name before now f h in
+    let i = any_reported left [] in
     (t.0, i.0, t.1, i.1, by f t.0 i.0 t.2)
   where
     too_long : (f : Failure) (all : List File) (input : List ℕ) (o : Option (List ℕ)) → IsLong f → file_of name all ≡ o → IsSomeAnd o (λ bytes. 16777216 < length bytes) → Closes all input c (Rose before now) ir (Err f)
@@ -363,7 +363,7 @@ long_trace trace step all input bytes e same more =
 pub replay_ends : (trace : List ℕ) (step : ℕ) (files : Option (List File)) (left : Option (List ℕ)) (fr ir : Type 0) (bytes text : List ℕ) (o : Result (Vec ℕ Global) Failure) → HoldsFile files trace bytes → text ≡ bytes → IfOk o (λ v. IsReplayed text step v.items) → IfErr o (KeepsFromReplay text) → FileOutcome (Replay trace step) files left fr ir (end_of o)
 replay_ends trace step files left fr ir bytes text o holds same shown bad =
     let t = held files trace bytes holds in
-    let i = any_told left [] in
+    let i = any_reported left [] in
     (t.0, i.0, t.1, i.1, by o t.0 t.2 i.0 (subst (λ xs. IfOk o (λ v. IsReplayed xs step v.items)) same shown) (subst (λ xs. IfErr o (KeepsFromReplay xs)) same bad))
   where
     found : (e : End) (all : List File) (input : List ℕ) → file_of trace all ≡ Some bytes → OnFile all bytes input (Replay trace step) e → ComesTo all input (Replay trace step) e
@@ -377,20 +377,20 @@ replay_ends trace step files left fr ir bytes text o holds same shown bad =
 
 -- ---- `audit`
 
--- what a proof file that is too long is told by
+-- what a proof file that is too long is reported by
 pub long_judged : (files : Option (List File)) (name : List ℕ) (before now : ℕ) (f : Failure) → HoldsLonger files name 16777216 → IsRefusedBy (λ r. r ≡ of_entry E72 (decimal 16777216)) f → JudgeFails IsBadProof files name before now f
 long_judged files name before now (F.Refused r) h e = by files h
   where
-    told : (bytes : List ℕ) → 16777216 < length bytes → IsBadProof bytes r
-    told bytes more = (16777216, inl (more, refl), e)
+    reported : (bytes : List ℕ) → 16777216 < length bytes → IsBadProof bytes r
+    reported bytes more = (16777216, inl (more, refl), e)
 
     under : (o : Option (List ℕ)) (all : List File) → file_of name all ≡ o → IsSomeAnd o (λ bytes. 16777216 < length bytes) → (bytes : List ℕ) × (file_of name all ≡ Some bytes) × IsBadProof bytes r
     under None all same h = absurd h
-    under (Some bytes) all same h = (bytes, same, told bytes h)
+    under (Some bytes) all same h = (bytes, same, reported bytes h)
 
     by : (files : Option (List File)) → HoldsLonger files name 16777216 → (bytes : List ℕ) × HoldsFile files name bytes × IsBadProof bytes r
     by (Some all) h = under (file_of name all) all refl h
-    by None h = let b = bytes_of 16777217 in let n = b.1 in (b.0, tt, told b.0 (omega (arith, n)))
+    by None h = let b = bytes_of 16777217 in let n = b.1 in (b.0, tt, reported b.0 (omega (arith, n)))
 long_judged files name before now F.NoMemory h e = tt
 long_judged files name before now f h e = absurd e
 
@@ -419,7 +419,7 @@ module _ (p : Program) (files : Option (List File)) (name : List ℕ) (before no
 
 -- the end of a file is that of `audit`
 audit_says : (file proof : List ℕ) (files : List File) (left : Option (List ℕ)) (fr ir : Type 0) (source : List ℕ) (e : End) → file_of file files ≡ Some source → Audits source (file_of proof files) e → FileOutcome (Audit file proof) (Some files) left fr ir e
-audit_says file proof files left fr ir source e there h = let i = any_told left [] in (files, i.0, refl, i.1, inr (comes_found files i.0 (Audit file proof) file (Some source) e refl there h))
+audit_says file proof files left fr ir source e there h = let i = any_reported left [] in (files, i.0, refl, i.1, inr (comes_found files i.0 (Audit file proof) file (Some source) e refl there h))
 
 -- a proof file that was fetched and judged
 verdict_says : (file proof : List ℕ) (files : Option (List File)) (left : Option (List ℕ)) (fr ir : Type 0) (source bytes : List ℕ) (p : Program) (e : End) → HoldsFile files file source → HoldsFile files proof bytes → IsMatched source p → Judges p bytes e → AuditOutcome (Audit file proof) files left fr ir e
@@ -433,8 +433,8 @@ proof_missing file proof (Some all) left fr ir source p holds right gone =
     inl (audit_says file proof all left fr ir source (Err (F.Fault O.Folder)) holds (subst (λ o. Audits source o (Err (F.Fault O.Folder))) (sym gone) (NoProof p right)))
 
 -- a fault, or want of memory
-audit_fault : (file proof : List ℕ) (files : Option (List File)) (left : Option (List ℕ)) (fr ir : Type 0) (e : End) → IsFault (Audit file proof) (ComesToInput (Audit file proof) (Some (any_told files []).0)) fr ir e → AuditOutcome (Audit file proof) files left fr ir e
-audit_fault file proof files left fr ir e h = let t = any_told files [] in let i = any_told left [] in inl (t.0, i.0, t.1, i.1, inl h)
+audit_fault : (file proof : List ℕ) (files : Option (List File)) (left : Option (List ℕ)) (fr ir : Type 0) (e : End) → IsFault (Audit file proof) (ComesToInput (Audit file proof) (Some (any_reported files []).0)) fr ir e → AuditOutcome (Audit file proof) files left fr ir e
+audit_fault file proof files left fr ir e h = let t = any_reported files [] in let i = any_reported left [] in inl (t.0, i.0, t.1, i.1, inl h)
 
 -- a source whose types and matches are right
 pub judged_ends : (file proof : List ℕ) (files later : Option (List File)) (left : Option (List ℕ)) (ir : Type 0) (source text : List ℕ) (p : Program) (before mid now : ℕ) (o : Result (Vec ℕ Global) Failure) → HoldsFile files file source → later ≡ files → before ≤ mid → text ≡ source → IsMatched text p → IfOk o (λ v. v.items ≡ derived_text) → OnOk o ((bytes : List ℕ) × HoldsFile later proof bytes × IsProofOf bytes p) → IfErr o (JudgeFails (λ xs. IsRejectedOf xs p) later proof mid now) → AuditOutcome (Audit file proof) files left (Rose before now) ir (end_of o)
@@ -461,7 +461,7 @@ judged_ends file proof files later left ir source text p before mid now o holds 
 pub reported_ends : (file proof : List ℕ) (files : Option (List File)) (left : Option (List ℕ)) (fr ir : Type 0) (source text : List ℕ) (f : Failure) → HoldsFile files file source → text ≡ source → IsRefusedBy (IsEarlyReport text) f → AuditOutcome (Audit file proof) files left fr ir (Err f)
 reported_ends file proof files left fr ir source text f holds same h =
     let t = held files file source holds in
-    let i = any_told left [] in
+    let i = any_reported left [] in
     inl (t.0, i.0, t.1, i.1, by f t.0 i.0 t.2 (subst (λ s. IsRefusedBy (IsEarlyReport s) f) same h))
   where
     by : (f : Failure) (all : List File) (input : List ℕ) → file_of file all ≡ Some source → IsRefusedBy (IsEarlyReport source) f → Closes all input (Audit file proof) fr ir (Err f)
@@ -479,8 +479,8 @@ long_early source more = ((bare E05, TooLong more, refl), too_many)
 -- one that wasn't fetched
 pub audit_unfetched : (file proof : List ℕ) (files : Option (List File)) (left : Option (List ℕ)) (before now : ℕ) (ir : Type 0) (f : Failure) → FetchFails files file before now f → AuditOutcome (Audit file proof) files left (Rose before now) ir (Err f)
 audit_unfetched file proof files left before now ir f h =
-    let t = told_fetch files file before now f h in
-    let i = any_told left [] in
+    let t = reported_fetch files file before now f h in
+    let i = any_reported left [] in
     inl (t.0, i.0, t.1, i.1, by f t.0 i.0 t.2)
   where
     long : (r : Refusal) (all : List File) (input : List ℕ) (o : Option (List ℕ)) → file_of file all ≡ o → r ≡ bare E05 → IsSomeAnd o (λ bytes. 1048576 < length bytes) → Closes all input (Audit file proof) (Rose before now) ir (Err (F.Refused r))
@@ -508,6 +508,6 @@ file_outcome c files left fr ir mi o up h words asked = (h.0, h.1, h.2, h.3, inr
 pub audit_outcome : (c : Command) (files : Option (List File)) (left : Option (List ℕ)) (fr ir more_ir : Type 0) (o : Result (Vec ℕ Global) Failure) → (ir → more_ir) → AuditOutcome c files left fr ir (end_of o) → CommandOutcome c files left fr more_ir o
 audit_outcome c files left fr ir mi o up (inl h) words asked = file_outcome c files left fr ir mi o up h words asked
 audit_outcome c files left fr ir mi o up (inr h) words asked =
-    let t = any_told files [] in
-    let i = any_told left [] in
+    let t = any_reported files [] in
+    let i = any_reported left [] in
     (t.0, i.0, t.1, i.1, inr (inr (c, asked, h)))

@@ -8,7 +8,7 @@ use Rattle.command_words.specs.Words.{Command, Exec, Run, Eval, Trace, Session, 
 use Rattle.command_outcome.specs.Stages.{IsOfSource, IsOfRun, IsOfTasks, IsOfTrace}
 use Rattle.command_outcome.specs.Failures.{failure_status, failure_text}
 use Rattle.command_outcome.specs.Texts.{no_memory_text}
-use Rattle.fip_driver.specs.Delivered.{Seen, Told, ToldFailure, Delivered, Outcome}
+use Rattle.fip_driver.specs.Delivered.{Seen, Reported, ReportedFailure, Delivered, Outcome}
 use Rattle.fip_driver.specs.Faults.{IsBeforeInput, IsBeforeTrace, IsBeforeInputOf, HadInput, LeavesInput, IsEarly, MayHaveRead, HasRead, HasCalled, AreAfter}
 use Rattle.fip_driver.specs.Outcome.{AreKept, IsBeforeSource, HadFolder, IsRefused}
 use Rattle.command_answers.specs.Asks.{ReadsInput, CallsNoFolder, ComesToInput}
@@ -205,15 +205,15 @@ on_ok (Err failure) A B up h = tt
 
 -- ---- statuses
 
--- the status of a text that was told is its own, or 9
-told_status : (old new : Seen) (status : ℕ) (text : List ℕ) (s : ℕ) → Told old new status text s → (s ≡ status) ⊎ (s ≡ 9)
-told_status old new status text s (inl t) = inl t.0
-told_status old new status text s (inr t) = inr t.0
+-- the status of a text that was reported is its own, or 9
+reported_status : (old new : Seen) (status : ℕ) (text : List ℕ) (s : ℕ) → Reported old new status text s → (s ≡ status) ⊎ (s ≡ 9)
+reported_status old new status text s (inl t) = inl t.0
+reported_status old new status text s (inr t) = inr t.0
 
 -- that of a failure is its own, or 9, or 10
-either_status : (old new : Seen) (status : ℕ) (text : List ℕ) (s : ℕ) → Told old new status text s ⊎ Told old new 10 no_memory_text s → (s ≡ status) ⊎ ((s ≡ 9) ⊎ (s ≡ 10))
-either_status old new status text s (inl t) = elim (told_status old new status text s t) [ inl a ↦ inl a | inr a ↦ inr (inl a) ]
-either_status old new status text s (inr t) = elim (told_status old new 10 no_memory_text s t) [ inl a ↦ inr (inr a) | inr a ↦ inr (inl a) ]
+either_status : (old new : Seen) (status : ℕ) (text : List ℕ) (s : ℕ) → Reported old new status text s ⊎ Reported old new 10 no_memory_text s → (s ≡ status) ⊎ ((s ≡ 9) ⊎ (s ≡ 10))
+either_status old new status text s (inl t) = elim (reported_status old new status text s t) [ inl a ↦ inl a | inr a ↦ inr (inl a) ]
+either_status old new status text s (inr t) = elim (reported_status old new 10 no_memory_text s t) [ inl a ↦ inr (inr a) | inr a ↦ inr (inl a) ]
 
 differs : (s status n : ℕ) → (s ≡ status) ⊎ ((s ≡ 9) ⊎ (s ≡ 10)) → (status ≡ n → ⊥) → n ≤ 8 → s ≡ n → ⊥
 differs s status n (inl a) differ le e = differ (sym a ∙ e)
@@ -236,7 +236,7 @@ late s status (inl a) low high e = not_early status low high (subst IsEarly a e)
 late s status (inr (inl a)) low high e = (early_below s e).1.0 a
 late s status (inr (inr a)) low high e = (early_below s e).1.1 a
 
-failure_early : (old new : Seen) (f : Failure) (s : ℕ) → ToldFailure old new f s → IsEarly s → IsBeforeInput (Err f)
+failure_early : (old new : Seen) (f : Failure) (s : ℕ) → ReportedFailure old new f s → IsEarly s → IsBeforeInput (Err f)
 failure_early old new F.NotUnderstood s h e = tt
 failure_early old new (F.Refused r) s h e = tt
 failure_early old new (F.BadCode at) s h e = tt
@@ -252,7 +252,7 @@ early_status out out' err err' (Ok text) s (inl d) e = absurd ((early_below s e)
 early_status out out' err err' (Ok text) s (inr d) e = absurd ((early_below s e).1.0 d.0)
 early_status out out' err err' (Err f) s d e = failure_early err err' f s d.1 e
 
-failure_first : (old new : Seen) (f : Failure) (s : ℕ) → ToldFailure old new f s → s ≡ 2 → IsBeforeSource (Err f)
+failure_first : (old new : Seen) (f : Failure) (s : ℕ) → ReportedFailure old new f s → s ≡ 2 → IsBeforeSource (Err f)
 failure_first old new F.NotUnderstood s h e = tt
 failure_first old new (F.Fault object) s h e = absurd (let nine = h.0 in omega (arith, nine, e))
 failure_first old new f s h e = absurd (differs s (failure_status f) 2 (either_status old new (failure_status f) (failure_text f) s h) (λ a. omega (arith, a)) (omega arith) e)
@@ -263,7 +263,7 @@ first_status out out' err err' (Ok text) s (inl d) e = absurd (let zero = d.0 in
 first_status out out' err err' (Ok text) s (inr d) e = absurd (let nine = d.0 in omega (arith, nine, e))
 first_status out out' err err' (Err f) s d e = failure_first err err' f s d.1 e
 
-failure_last : (old new : Seen) (f : Failure) (s : ℕ) → ToldFailure old new f s → s ≡ 0 → ⊥
+failure_last : (old new : Seen) (f : Failure) (s : ℕ) → ReportedFailure old new f s → s ≡ 0 → ⊥
 failure_last old new (F.Fault object) s h e = let nine = h.0 in omega (arith, nine, e)
 failure_last old new f s h e = differs s (failure_status f) 0 (either_status old new (failure_status f) (failure_text f) s h) (λ a. omega (arith, a)) (omega arith) e
 
@@ -272,12 +272,12 @@ pub last_status : (out out' err err' : Seen) (o : Outcome) (s : ℕ) (A : Type 0
 last_status out out' err err' (Ok text) s A d h e = h
 last_status out out' err err' (Err f) s A d h e = absurd (failure_last err err' f s d.1 e)
 
-failure_refused : (old new : Seen) (f : Failure) (s : ℕ) → ToldFailure old new f s → s ≡ 1 → IsRefused (Err f)
+failure_refused : (old new : Seen) (f : Failure) (s : ℕ) → ReportedFailure old new f s → s ≡ 1 → IsRefused (Err f)
 failure_refused old new (F.Refused r) s h e = tt
 failure_refused old new (F.Fault object) s h e = absurd (let nine = h.0 in omega (arith, nine, e))
 failure_refused old new f s h e = differs s (failure_status f) 1 (either_status old new (failure_status f) (failure_text f) s h) (λ a. omega (arith, a)) (omega arith) e
 
--- status 1 comes with a rule that is told
+-- status 1 comes with a rule that is reported
 pub refused_status : (out out' err err' : Seen) (o : Outcome) (s : ℕ) → Delivered out out' err err' o s → s ≡ 1 → IsRefused o
 refused_status out out' err err' (Ok text) s (inl d) e = absurd (let zero = d.0 in omega (arith, zero, e))
 refused_status out out' err err' (Ok text) s (inr d) e = absurd (let nine = d.0 in omega (arith, nine, e))
@@ -301,7 +301,7 @@ source_trace (Ok text) b = absurd b
 source_trace (Err F.NotUnderstood) b = tt
 source_trace (Err f) b = absurd b
 
-failure_eight : (old new : Seen) (f : Failure) (s : ℕ) → ToldFailure old new f s → s ≡ 8 → IsBeforeTrace (Err f)
+failure_eight : (old new : Seen) (f : Failure) (s : ℕ) → ReportedFailure old new f s → s ≡ 8 → IsBeforeTrace (Err f)
 failure_eight old new (F.BadCode at) s h e = tt
 failure_eight old new (F.Unsound function at rule) s h e = tt
 failure_eight old new (F.BadTrace at) s h e = tt

@@ -7,7 +7,7 @@ use Rattle.std.specs.declared.alloc.Global.{Global}
 use Rattle.fip_outside.specs.Faults.{Rose}
 use Rattle.fip_outside.specs.Files.{File}
 use Rattle.command_outcome.specs.Texts.{no_memory_text}
-use Rattle.fip_driver.specs.Delivered.{Seen, Tried, Told, ToldFailure, Delivered}
+use Rattle.fip_driver.specs.Delivered.{Seen, Tried, Reported, ReportedFailure, Delivered}
 use Rattle.fip_driver.specs.Faults.{end_of, IsFault, IsUnasked, Closes}
 use Rattle.command_answers.specs.Answer.{Shows, ComesTo, IsAnswer, host, Answered}
 use Rattle.command_answers.specs.Asks.{ComesToInput, stored_name}
@@ -30,41 +30,41 @@ module _ (words : List (List ℕ)) (files : List File) (input : List ℕ) (out o
   abbrev Whole : ℕ → Type 0
   Whole s = Answered words files input (host out.written out'.written err.written err'.written now s)
 
-  no_memory : (s : ℕ) → now ≡ Some files → out' ≡ out → Told err err' 10 no_memory_text s → Whole s
+  no_memory : (s : ℕ) → now ≡ Some files → out' ≡ out → Reported err err' 10 no_memory_text s → Whole s
   no_memory s kept same (inl t) = inl (record { ended = t.0; unwritten = ap (λ o. o.written) same; shown = t.1; kept = kept })
   no_memory s kept same (inr t) = absurd (no_err t.1)
 
   -- words that are no command, or want of memory
-  unasked_told : (f : Failure) (s : ℕ) → now ≡ Some files → out' ≡ out → IsUnasked words (Err f) → ToldFailure err err' f s → Whole s
-  unasked_told F.NotUnderstood s kept same none (inl (inl t)) = inr (inl (none, record { ended = t.0; unwritten = ap (λ o. o.written) same; shown = t.1; kept = kept }))
-  unasked_told F.NotUnderstood s kept same none (inl (inr t)) = absurd (no_err t.1)
-  unasked_told F.NotUnderstood s kept same none (inr t) = no_memory s kept same t
-  unasked_told F.NoMemory s kept same h (inl t) = no_memory s kept same t
-  unasked_told F.NoMemory s kept same h (inr t) = no_memory s kept same t
-  unasked_told f s kept same h t = absurd h
+  unasked_reported : (f : Failure) (s : ℕ) → now ≡ Some files → out' ≡ out → IsUnasked words (Err f) → ReportedFailure err err' f s → Whole s
+  unasked_reported F.NotUnderstood s kept same none (inl (inl t)) = inr (inl (none, record { ended = t.0; unwritten = ap (λ o. o.written) same; shown = t.1; kept = kept }))
+  unasked_reported F.NotUnderstood s kept same none (inl (inr t)) = absurd (no_err t.1)
+  unasked_reported F.NotUnderstood s kept same none (inr t) = no_memory s kept same t
+  unasked_reported F.NoMemory s kept same h (inl t) = no_memory s kept same t
+  unasked_reported F.NoMemory s kept same h (inr t) = no_memory s kept same t
+  unasked_reported f s kept same h t = absurd h
 
   pub unasked_answer : (outcome : Result (Vec ℕ Global) Failure) (s : ℕ) → now ≡ Some files → IsUnasked words outcome → Delivered out out' err err' outcome s → Whole s
   unasked_answer (Ok text) s kept h d = absurd h
-  unasked_answer (Err f) s kept h d = unasked_told f s kept d.0 h d.1
+  unasked_answer (Err f) s kept h d = unasked_reported f s kept d.0 h d.1
 
   -- ---- an end
 
-  -- how an end is shown, or that memory was wanting for its text
+  -- how an end is shown, or that memory ran out for its text
   abbrev Shown : End → ℕ → Type 0
   Shown e s = Shows e out.written out'.written err.written err'.written s
 
-  told_or_not : (f : Failure) (s : ℕ) → now ≡ Some files → out' ≡ out → Told err err' (failure_status f) (failure_text f) s ⊎ Told err err' 10 no_memory_text s → Shown (Err f) s ⊎ Whole s
-  told_or_not f s kept same (inl (inl t)) = inl (t.0, ap (λ o. o.written) same, t.1)
-  told_or_not f s kept same (inl (inr t)) = absurd (no_err t.1)
-  told_or_not f s kept same (inr t) = inr (no_memory s kept same t)
+  reported_or_not : (f : Failure) (s : ℕ) → now ≡ Some files → out' ≡ out → Reported err err' (failure_status f) (failure_text f) s ⊎ Reported err err' 10 no_memory_text s → Shown (Err f) s ⊎ Whole s
+  reported_or_not f s kept same (inl (inl t)) = inl (t.0, ap (λ o. o.written) same, t.1)
+  reported_or_not f s kept same (inl (inr t)) = absurd (no_err t.1)
+  reported_or_not f s kept same (inr t) = inr (no_memory s kept same t)
 
   tried_end : (object : Object) (s : ℕ) → out' ≡ out → s ≡ 9 → Tried err err' (fault_text object) → Shown (Err (F.Fault object)) s
   tried_end object s same e (inl t) = (e, ap (λ o. o.written) same, t)
   tried_end object s same e (inr t) = absurd (no_err t.0)
 
-  failure_end : (f : Failure) (s : ℕ) → now ≡ Some files → out' ≡ out → ToldFailure err err' f s → Shown (Err f) s ⊎ Whole s
+  failure_end : (f : Failure) (s : ℕ) → now ≡ Some files → out' ≡ out → ReportedFailure err err' f s → Shown (Err f) s ⊎ Whole s
   failure_end (F.Fault object) s kept same h = inl (tried_end object s same h.0 h.1)
-  failure_end f s kept same h = told_or_not f s kept same h
+  failure_end f s kept same h = reported_or_not f s kept same h
 
   delivered_end : (c : Command) (o : Result (Vec ℕ Global) Failure) (s : ℕ) → Stores c files input (stored_name c) (end_of o) now → Delivered out out' err err' o s → Shown (end_of o) s ⊎ Whole s
   delivered_end c (Ok text) s stored (inl d) = inl (d.0, ap (λ e. e.written) d.2, d.1)

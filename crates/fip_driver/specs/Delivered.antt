@@ -15,7 +15,7 @@ use Rattle.command_outcome.specs.declared.failure.Failure.TheVariants as F
 abbrev pub Outcome : Type 0
 Outcome = Result (Vec ℕ Global) Failure
 
--- a sink: the bytes that were written, where they are told, and the count of faults
+-- a sink: the bytes that were written, where they are reported, and the count of faults
 pub record Seen : Type 0 where
   pub written : Option (List ℕ)
   pub faults : ℕ
@@ -23,29 +23,29 @@ pub record Seen : Type 0 where
 abbrev pub seen : Option (List ℕ) → ℕ → Seen
 seen written faults = record { written = written; faults = faults }
 
--- A text was tried once: it stands on the sink, or the sink failed behind a front part of it.
+-- A text was tried once: it stands on the sink, or the sink failed after a front part of it.
 abbrev pub Tried : Seen → Seen → List ℕ → Type 0
 Tried old new text = Appends old.written new.written text
     ⊎ (Rose old.faults new.faults × WritesPrefix old.written new.written text)
 
--- The text stands on a sink, and the status is this one; or the sink failed behind a front part of it, its own fault
--- was then tried to be told once, and the status is 9.
-abbrev pub Told : Seen → Seen → ℕ → List ℕ → ℕ → Type 0
-Told old new status text s =
+-- The text stands on a sink, and the status is this one; or the sink failed after a front part of it, its own fault
+-- was then tried to be reported once, and the status is 9.
+abbrev pub Reported : Seen → Seen → ℕ → List ℕ → ℕ → Type 0
+Reported old new status text s =
     ((s ≡ status) × Appends old.written new.written text)
     ⊎ ((s ≡ 9) × Rose old.faults new.faults × ((between : Seen) × Rose old.faults between.faults
     × WritesPrefix old.written between.written text × Tried between new err_fault_text))
 
 -- a failure's own text; or that of want of memory, where there was none for the text
-abbrev pub ToldFailure : Seen → Seen → Failure → ℕ → Type 0
-ToldFailure old new (F.Fault object) s = (s ≡ 9) × Tried old new (fault_text object)
-ToldFailure old new failure s = Told old new (failure_status failure) (failure_text failure) s
-    ⊎ Told old new 10 no_memory_text s
+abbrev pub ReportedFailure : Seen → Seen → Failure → ℕ → Type 0
+ReportedFailure old new (F.Fault object) s = (s ≡ 9) × Tried old new (fault_text object)
+ReportedFailure old new failure s = Reported old new (failure_status failure) (failure_text failure) s
+    ⊎ Reported old new 10 no_memory_text s
 
--- A result stands on out; or out failed behind a front part of it, which was tried to be told on err.
+-- A result stands on out; or out failed after a front part of it, which was tried to be reported on err.
 abbrev pub Delivered : Seen → Seen → Seen → Seen → Outcome → ℕ → Type 0
 Delivered out out' err err' (Ok text) s =
     ((s ≡ 0) × Appends out.written out'.written text.items × (err' ≡ err))
     ⊎ ((s ≡ 9) × Rose out.faults out'.faults × WritesPrefix out.written out'.written text.items
     × Tried err err' out_fault_text)
-Delivered out out' err err' (Err failure) s = (out' ≡ out) × ToldFailure err err' failure s
+Delivered out out' err err' (Err failure) s = (out' ≡ out) × ReportedFailure err err' failure s

@@ -1,4 +1,4 @@
--- What a call of the program says where an object fails, or tells nothing: what was come to just so far, what is then
+-- What a call of the program says where an object fails, or reports nothing: what was come to just so far, what is then
 -- delivered, whose turn had come, and which files may have changed.
 --
 -- The words are read first, then a file is fetched and its source or code is checked, and then the input is read. What
@@ -15,7 +15,7 @@ use Rattle.command_answers.specs.Answer.{ComesTo, IsNoCommand, Answered, host}
 use Rattle.command_answers.specs.Asks.{ReadsInput, CallsNoFolder, ComesToInput, stored_name}
 use Rattle.command_answers.specs.Ends.{Audits}
 use Rattle.command_answers.specs.Exec.{End}
-use Rattle.command_answers.specs.Stored.{IsTold, IsStored, IsUnstored}
+use Rattle.command_answers.specs.Stored.{IsReported, IsStored, IsUnstored}
 use Rattle.fip_driver.specs.Delivered.{Outcome, Seen, seen, Delivered}
 
 -- a result without where its bytes lie in memory
@@ -23,15 +23,15 @@ abbrev pub end_of : Outcome → End
 end_of (Ok text) = Ok text.items
 end_of (Err failure) = Err failure
 
--- an object: what it told before a call and tells after it, where it tells something, and its counts of faults
+-- an object: what it reported before a call and reports after it, where it reports something, and its counts of faults
 pub record Called (A : Type 0) : Type 0 where
-  pub told : Option A
-  pub tells : Option A
+  pub reported : Option A
+  pub reports : Option A
   pub before : ℕ
   pub after : ℕ
 
 abbrev pub called : {T A : Type 0} → (T → Option A) → (T → ℕ) → T → T → Called A
-called tells faults old new = record { told = tells old; tells = tells new; before = faults old; after = faults new }
+called reports faults old new = record { reported = reports old; reports = reports new; before = faults old; after = faults new }
 
 -- its count of faults rose
 abbrev pub Failed : {A : Type 0} → Called A → Type 0
@@ -46,18 +46,18 @@ Stream = Called (List ℕ)
 
 -- a sink before and after a call
 abbrev pub at_first : Stream → Seen
-at_first sink = seen sink.told sink.before
+at_first sink = seen sink.reported sink.before
 
 abbrev pub at_last : Stream → Seen
-at_last sink = seen sink.tells sink.after
+at_last sink = seen sink.reports sink.after
 
 -- ---- where none failed
 
 -- Where no count of faults rose, and the folder and the input tell what they hold, the words have their answer.
 abbrev pub AnswersWhole : List (List ℕ) → Folder → Stream → Stream → Stream → ℕ → Type 0
-AnswersWhole words folder input out err s = (files : List File) (bytes : List ℕ) → folder.told ≡ Some files →
-    input.told ≡ Some bytes → (Failed folder → ⊥) → (Failed input → ⊥) → (Failed out → ⊥) → (Failed err → ⊥) →
-    Answered words files bytes (host out.told out.tells err.told err.tells folder.tells s)
+AnswersWhole words folder input out err s = (files : List File) (bytes : List ℕ) → folder.reported ≡ Some files →
+    input.reported ≡ Some bytes → (Failed folder → ⊥) → (Failed input → ⊥) → (Failed out → ⊥) → (Failed err → ⊥) →
+    Answered words files bytes (host out.reported out.reports err.reported err.reports folder.reports s)
 
 -- ---- what was come to
 
@@ -74,35 +74,35 @@ abbrev pub Closes : List File → List ℕ → Command → Type 0 → Type 0 →
 Closes files input c folder_rose input_rose e =
     IsFault c (ComesToInput c (Some files)) folder_rose input_rose e ⊎ ComesTo files input c e
 
--- A folder that tells nothing may give other bytes at each fetch, even under one name. So of `audit` it is said then
+-- A folder that reports nothing may give other bytes at each fetch, even under one name. So of `audit` it is said then
 -- that some bytes of the source and of the proof file end it so.
 abbrev pub IsUntoldAudit : Option (List File) → Command → End → Type 0
 IsUntoldAudit (Some files) c e = ⊥
 IsUntoldAudit None (Audit file proof) e = (source : List ℕ) × (bytes : List ℕ) × Audits source (Some bytes) e
 IsUntoldAudit None c e = ⊥
 
--- what words come to before a command is asked: they are none, or memory is wanting
+-- what words come to before a command is asked: they are none, or memory runs out
 abbrev pub IsUnasked : List (List ℕ) → Outcome → Type 0
 IsUnasked words (Err F.NotUnderstood) = IsNoCommand words
 IsUnasked words (Err F.NoMemory) = Unit {0}
 IsUnasked words o = ⊥
 
--- What words come to: they ask for no command, or memory is wanting; or it is what a command ends with on files and an
--- input, which are what the folder and the input told, where they told something; or `audit` where the folder tells
+-- What words come to: they ask for no command, or memory runs out; or it is what a command ends with on files and an
+-- input, which are what the folder and the input reported, where they reported something; or `audit` where the folder reports
 -- none.
 abbrev pub WordsOutcome : List (List ℕ) → Option (List File) → Option (List ℕ) → Type 0 → Type 0 → Outcome → Type 0
 WordsOutcome words files left folder_rose input_rose o =
-    (all : List File) × (input : List ℕ) × IsTold files all × IsTold left input
+    (all : List File) × (input : List ℕ) × IsReported files all × IsReported left input
     × (IsUnasked words o
     ⊎ ((c : Command) × IsCommand words c × Closes all input c folder_rose input_rose (end_of o))
     ⊎ ((c : Command) × IsCommand words c × IsUntoldAudit files c (end_of o)))
 
--- the count of a folder that tells nothing rose
+-- the count of a folder that reports nothing rose
 abbrev pub RoseUntold : Option (List File) → Type 0 → Type 0
 RoseUntold None rose = rose
 RoseUntold (Some files) rose = Unit {0}
 
--- A fault of a folder that tells nothing is named only where its count rose.
+-- A fault of a folder that reports nothing is named only where its count rose.
 abbrev pub IsCounted : Option (List File) → Type 0 → Outcome → Type 0
 IsCounted files rose (Err (F.Fault O.Folder)) = RoseUntold files rose
 IsCounted files rose o = Unit {0}
@@ -119,7 +119,7 @@ IsBeforeInput (Err (F.BadTrace at)) = Unit {0}
 IsBeforeInput (Err (F.Fault O.Folder)) = Unit {0}
 IsBeforeInput o = ⊥
 
--- The same of `trace`. Its trace may be refused for its length (E75), and is stored, behind the run.
+-- The same of `trace`. Its trace may be refused for its length (E75), and is stored, after the run.
 abbrev pub IsBeforeTrace : Outcome → Type 0
 IsBeforeTrace (Err (F.Refused r)) = r.rule ≡ E75 → ⊥
 IsBeforeTrace (Err (F.Fault O.Folder)) = ⊥
@@ -130,7 +130,7 @@ IsBeforeInputOf (Trace file entry out room) o = IsBeforeTrace o
 IsBeforeInputOf c o = IsBeforeInput o
 
 -- The words ask for a command that reads the input, and its turn had come: its file is there and has what is wanted.
--- (`trace` may still fail at the folder behind its input, and by a rule; the other commands don't.)
+-- (`trace` may still fail at the folder after its input, and by a rule; the other commands don't.)
 abbrev pub HadInput : List (List ℕ) → Option (List File) → Outcome → Type 0
 HadInput words files o =
     (c : Command) × IsCommand words c × ReadsInput c × (IsBeforeInputOf c o → ⊥) × ComesToInput c files
@@ -150,7 +150,7 @@ MayHaveRead (Trace file entry out room) s = ((s ≡ 2) ⊎ (s ≡ 8)) → ⊥
 MayHaveRead c s = IsEarly s → ⊥
 
 -- The words ask for a command that reads the input, and weren't refused, nor was a source or a code. So a run of a
--- source that breaks E40, or of a file that isn't there, leaves it, also where memory was wanting.
+-- source that breaks E40, or of a file that isn't there, leaves it, also where memory ran out.
 abbrev pub HasRead : List (List ℕ) → Option (List File) → ℕ → Type 0
 HasRead words files s = (c : Command) × IsCommand words c × ReadsInput c × MayHaveRead c s × ComesToInput c files
 
@@ -159,7 +159,7 @@ abbrev pub HasCalled : List (List ℕ) → ℕ → Type 0
 HasCalled words s = (c : Command) × IsCommand words c × (CallsNoFolder c → ⊥) × (s ≡ 2 → ⊥)
 
 -- The files after a command that stores under this name, or under none. At status 0 its file is stored, and at 9 where
--- out failed behind that. Else nothing was written to out, and all files are as they were; but at 9, where the file was
+-- out failed after that. Else nothing was written to out, and all files are as they were; but at 9, where the file was
 -- made and the folder failed to store it, no more is said than that each other file is. So `compile missing.fp o`
 -- leaves o, and `compile rev.fp o` stores it, also where out fails.
 abbrev pub AreAfter : Command → Option (List ℕ) → Option (List ℕ) → Type 0 → Seen → Seen → Option (List File) →
@@ -171,13 +171,13 @@ AreAfter c left (Some name) rose out out' old new s =
 
 abbrev pub FilesAfter : Command → Folder → Stream → Stream → ℕ → Type 0
 FilesAfter c folder input out s =
-    AreAfter c input.told (stored_name c) (Failed folder) (at_first out) (at_last out) folder.told folder.tells s
+    AreAfter c input.reported (stored_name c) (Failed folder) (at_first out) (at_last out) folder.reported folder.reports s
 
 -- ---- the whole, whatever fails
 
 -- Just what the words come to is delivered to the sinks; where that is before the input's turn, the input is untouched;
--- and a fault of a folder that tells nothing is one that it counted.
+-- and a fault of a folder that reports nothing is one that it counted.
 abbrev pub Delivers : List (List ℕ) → Folder → Stream → Stream → Stream → Type 0 → ℕ → Type 0
-Delivers words folder input out err untouched s = (o : Outcome) × (untouched ⊎ HadInput words folder.told o)
-    × WordsOutcome words folder.told input.told (Failed folder) (Failed input) o
-    × IsCounted folder.told (Failed folder) o × Delivered (at_first out) (at_last out) (at_first err) (at_last err) o s
+Delivers words folder input out err untouched s = (o : Outcome) × (untouched ⊎ HadInput words folder.reported o)
+    × WordsOutcome words folder.reported input.reported (Failed folder) (Failed input) o
+    × IsCounted folder.reported (Failed folder) o × Delivered (at_first out) (at_last out) (at_first err) (at_last err) o s

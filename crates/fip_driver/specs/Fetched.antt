@@ -28,7 +28,7 @@ FetchFails files name before now (F.Fault object) = (object ≡ O.Folder) × (Ro
 FetchFails files name before now F.NoMemory = Unit {0}
 FetchFails files name before now failure = ⊥
 
--- why another file wasn't fetched, where too many bytes are told so
+-- why another file wasn't fetched, where too many bytes are reported so
 abbrev pub FileFails : (Failure → Type 0) → Option (List File) → List ℕ → ℕ → ℕ → Failure → Type 0
 FileFails IsLong files name before now (F.Fault object) =
     (object ≡ O.Folder) × (Rose before now ⊎ IsMissing files name)

@@ -12,7 +12,7 @@ use Rattle.command_answers.specs.command_library.command_run.declared.running.Le
 use Rattle.command_answers.specs.command_library.GenAnswer.{build, gen_room, tree_source}
 use Rattle.command_answers.specs.command_library.MadeTree.{gen_input}
 use Rattle.command_answers.specs.CodeOf.{IsSourceEntry}
-use Rattle.command_answers.specs.Stored.{IsTold}
+use Rattle.command_answers.specs.Stored.{IsReported}
 
 -- those that run a code, and leave it
 abbrev pub LeavesCells : Command → Type 0
@@ -22,27 +22,27 @@ LeavesCells (Trace file entry out room) = Unit {0}
 LeavesCells (Gen seed count) = Unit {0}
 LeavesCells c = ⊥
 
--- It is left by the run of such a code and function on the input, which is what the source told, where it told something.
+-- It is left by the run of such a code and function on the input, which is what the source reported, where it reported something.
 abbrev pub LeftOn : (Chosen → Type 0) → Option (List ℕ) → Room → Left → Type 0
-LeftOn IsSuch told room l = (input : List ℕ) × IsTold told input × LeavesOf IsSuch input room l
+LeftOn IsSuch reported room l = (input : List ℕ) × IsReported reported input × LeavesOf IsSuch input room l
 
--- It is left by the command, by the files before and the input, where they are told: a code of the source that it fetched,
+-- It is left by the command, by the files before and the input, where they are reported: a code of the source that it fetched,
 -- or just the code of the file.
 abbrev pub LeftBy : Command → Option (List File) → Option (List ℕ) → Left → Type 0
-LeftBy (Exec r) files told l =
-    (source : List ℕ) × HoldsFile files r.file source × LeftOn (IsSourceEntry source r.entry) told r.room l
-LeftBy (Run r) files told l =
-    (bytes : List ℕ) × HoldsFile files r.file bytes × LeftOn (IsFunctionOf bytes r.entry) told r.room l
-LeftBy (Trace file entry out room) files told l =
-    (source : List ℕ) × HoldsFile files file source × LeftOn (IsSourceEntry source entry) told room l
-LeftBy (Gen seed count) files told l = LeavesOf (IsSourceEntry tree_source build) (gen_input seed count) gen_room l
-LeftBy c files told l = ⊥
+LeftBy (Exec r) files reported l =
+    (source : List ℕ) × HoldsFile files r.file source × LeftOn (IsSourceEntry source r.entry) reported r.room l
+LeftBy (Run r) files reported l =
+    (bytes : List ℕ) × HoldsFile files r.file bytes × LeftOn (IsFunctionOf bytes r.entry) reported r.room l
+LeftBy (Trace file entry out room) files reported l =
+    (source : List ℕ) × HoldsFile files file source × LeftOn (IsSourceEntry source entry) reported room l
+LeftBy (Gen seed count) files reported l = LeavesOf (IsSourceEntry tree_source build) (gen_input seed count) gen_room l
+LeftBy c files reported l = ⊥
 
 -- Where a run ended of a command that these words ask for something is left, by that command; else nothing.
 abbrev pub LeavesFor : List (List ℕ) → Option (List File) → Option (List ℕ) → (ended : Bool) → Option Left → Type 0
-LeavesFor words files told ended None = (c : Command) → IsCommand words c → LeavesCells c → ended ≡ false
-LeavesFor words files told ended (Some l) =
-    (ended ≡ true) × ((c : Command) × IsCommand words c × LeftBy c files told l)
+LeavesFor words files reported ended None = (c : Command) → IsCommand words c → LeavesCells c → ended ≡ false
+LeavesFor words files reported ended (Some l) =
+    (ended ≡ true) × ((c : Command) × IsCommand words c × LeftBy c files reported l)
 
 -- the status of a run that ended: with values, in a trap, or out of calls or frames
 abbrev pub is_run_status : ℕ → Bool

@@ -1,5 +1,5 @@
 -- Which code a call of `compile` or `trace` made of its source, and that just this code decides what is stored, and where
--- E61 or E75 is told in its place.
+-- E61 or E75 is reported in its place.
 --
 -- `compile rev.fp o` made one code of rev.fp. At status 0 the file o is that of this code; at status 1 this code has no file
 -- of at most 16,777,216 bytes. `trace rev.fp rev o` made one and ran its function rev from where the input is loaded. At
@@ -22,7 +22,7 @@ use Rattle.command_answers.specs.command_library.command_run.declared.running.Le
 use Rattle.command_answers.specs.command_trace.TraceAnswer.{IsRunTrace, IsLong, code_of}
 use Rattle.command_answers.specs.Asks.{HasWanted}
 use Rattle.command_answers.specs.CodeOf.{IsSourceCode, IsSourceEntry}
-use Rattle.command_answers.specs.Stored.{IsTold}
+use Rattle.command_answers.specs.Stored.{IsReported}
 
 -- `compile` made this code: where it is done its file is stored; where it is refused it has none that isn't too long.
 pub record CompilesCode (code : PlainCode) (out : List ℕ) (new : Option (List File)) (done refused : Type 0) : Type 0
@@ -32,7 +32,7 @@ pub record CompilesCode (code : PlainCode) (out : List ℕ) (new : Option (List 
     pub long : refused → IsUnspelt code
 
 -- `trace` ran this function of a code on the input: where it is done the file of the run's trace is stored; where it is
--- refused this trace is too long, or tells more than a file can.
+-- refused this trace is too long, or reports more than a file can.
 pub record TracesRun (r : Chosen) (input : List ℕ) (room : Room) (out : List ℕ) (new : Option (List File))
     (done refused : Type 0) : Type 0 where
   pub stored : done → (t : T.Trace) × IsRunTrace (plain r.checked.code) r.entry input room t × (IsLong t → ⊥)
@@ -45,25 +45,25 @@ pub record IsUnmade (c : Command) (file : List ℕ) (old new : Option (List File
   pub kept : new ≡ old
   pub unready : refused → (source : List ℕ) × HoldsFile old file source × (HasWanted c source → ⊥)
 
--- What was made of the source that the command fetched, by the files before and after it and what the input told.
+-- What was made of the source that the command fetched, by the files before and after it and what the input reported.
 abbrev pub MadeBy : Command → Option (List File) → Option (List File) → Option (List ℕ) → (done refused : Type 0) →
     Option Checked → Type 0
-MadeBy (Compile file out) old new told done refused None = IsUnmade (Compile file out) file old new done refused
-MadeBy (Compile file out) old new told done refused (Some v) =
+MadeBy (Compile file out) old new reported done refused None = IsUnmade (Compile file out) file old new done refused
+MadeBy (Compile file out) old new reported done refused (Some v) =
     (source : List ℕ) × HoldsFile old file source × IsSourceCode source (plain_code v.code)
     × CompilesCode (plain_code v.code) out new done refused
-MadeBy (Trace file entry out room) old new told done refused None =
+MadeBy (Trace file entry out room) old new reported done refused None =
     IsUnmade (Trace file entry out room) file old new done refused
-MadeBy (Trace file entry out room) old new told done refused (Some v) =
-    (source : List ℕ) × HoldsFile old file source × (input : List ℕ) × IsTold told input
+MadeBy (Trace file entry out room) old new reported done refused (Some v) =
+    (source : List ℕ) × HoldsFile old file source × (input : List ℕ) × IsReported reported input
     × (r : Chosen) × (r.checked ≡ v) × IsSourceEntry source entry r × TracesRun r input room out new done refused
-MadeBy c old new told done refused made = Unit {0}
+MadeBy c old new reported done refused made = Unit {0}
 
--- The same of the command that the words ask for: status 0 is told where it is done, 1 where it is refused.
+-- The same of the command that the words ask for: status 0 is reported where it is done, 1 where it is refused.
 abbrev pub MadeFor : List (List ℕ) → Option (List File) → Option (List File) → Option (List ℕ) → ℕ → Option Checked →
     Type 0
-MadeFor words old new told s made =
-    (c : Command) → IsCommand words c → MadeBy c old new told (s ≡ 0) (s ≡ 1) made
+MadeFor words old new reported s made =
+    (c : Command) → IsCommand words c → MadeBy c old new reported (s ≡ 0) (s ≡ 1) made
 
 -- It is so of some code of a call: of that of what is left, or else of another, or of none.
 abbrev pub SomeCode : Option Left → (Option Checked → Type 0) → Type 0

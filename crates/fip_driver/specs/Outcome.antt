@@ -20,7 +20,7 @@ use Rattle.command_outcome.specs.declared.failure.Object.TheVariants as O
 use Rattle.command_answers.specs.Asks.{CallsNoFolder, HasWanted}
 use Rattle.command_answers.specs.Ends.{OnSource, OnCode}
 use Rattle.command_answers.specs.Exec.{End}
-use Rattle.command_answers.specs.Stored.{IsTold, IsStored, IsUnstored}
+use Rattle.command_answers.specs.Stored.{IsReported, IsStored, IsUnstored}
 use Rattle.fip_driver.specs.Delivered.{Outcome}
 use Rattle.fip_driver.specs.Faults.{IsFault, Closes, IsUntoldAudit, WordsOutcome}
 use Rattle.fip_driver.specs.Left.{LeavesCells, LeftBy}
@@ -30,7 +30,7 @@ abbrev pub IsDone : Outcome → Type 0
 IsDone (Ok text) = Unit {0}
 IsDone (Err failure) = ⊥
 
--- a rule is told in its place
+-- a rule is reported in its place
 abbrev pub IsRefused : Outcome → Type 0
 IsRefused (Err (F.Refused r)) = Unit {0}
 IsRefused o = ⊥
@@ -72,26 +72,26 @@ IsFolderFault o = ⊥
 -- What reading an input and running on it comes to, by what is said of the end on an input.
 abbrev pub ReadOutcome : (List ℕ → End → Type 0) → Option (List ℕ) → Type 0 → End → Type 0
 ReadOutcome Is left rose e =
-    (input : List ℕ) × IsTold left input × (IsInputFault rose e
+    (input : List ℕ) × IsReported left input × (IsInputFault rose e
     ⊎ (((MOST_FILE_BYTES < length input) × (e ≡ Err (F.BadInput MOST_FILE_BYTES)))
     ⊎ ((length input ≤ MOST_FILE_BYTES) × Is input e)))
 
 -- What a command comes to on a source of which all rules are asked.
 abbrev pub SourceOutcome : Command → Wanted → List ℕ → Option (List ℕ) → Type 0 → Type 0 → End → Type 0
 SourceOutcome c w source left folder_rose input_rose e =
-    (input : List ℕ) × IsTold left input × (IsFault c (IsReady source w) folder_rose input_rose e
+    (input : List ℕ) × IsReported left input × (IsFault c (IsReady source w) folder_rose input_rose e
     ⊎ OnSource source input c w e)
 
 -- What a command comes to on a code file.
 abbrev pub CodeOutcome : Command → List ℕ → Option (List ℕ) → Type 0 → Type 0 → End → Type 0
 CodeOutcome c bytes left folder_rose input_rose e =
-    (input : List ℕ) × IsTold left input
+    (input : List ℕ) × IsReported left input
     × (IsFault c (HasWanted c bytes) folder_rose input_rose e ⊎ OnCode bytes input c e)
 
--- What a command comes to on the files and the input that the folder and the source told, where they told something.
+-- What a command comes to on the files and the input that the folder and the source reported, where they reported something.
 abbrev pub FileOutcome : Command → Option (List File) → Option (List ℕ) → Type 0 → Type 0 → End → Type 0
 FileOutcome c files left folder_rose input_rose e =
-    (all : List File) × (input : List ℕ) × IsTold files all × IsTold left input
+    (all : List File) × (input : List ℕ) × IsReported files all × IsReported left input
     × Closes all input c folder_rose input_rose e
 
 -- what `audit` comes to
@@ -122,5 +122,5 @@ Remains IsSuch ended (Some l) = (ended ≡ true) × IsSuch l
 
 -- The same of the command.
 abbrev pub Leaves : Command → Option (List File) → Option (List ℕ) → (ended : Bool) → Option Left → Type 0
-Leaves c files told ended None = LeavesCells c → ended ≡ false
-Leaves c files told ended (Some l) = (ended ≡ true) × LeftBy c files told l
+Leaves c files reported ended None = LeavesCells c → ended ≡ false
+Leaves c files reported ended (Some l) = (ended ≡ true) × LeftBy c files reported l

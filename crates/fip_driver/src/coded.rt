@@ -42,7 +42,7 @@ pub fn fp2_with_code<F: Folder, S: Source, O: Sink, E: Sink>(
     ensures read { result.0 ≡ 0 → IsAtEnd (S.left input.new) ⊎ LeavesInput (map string_bytes words.now) }
     ensures left { LeavesFor (map string_bytes words.now) (F.files folder.old) (S.left input.old)
         (is_run_status result.0) left.new }
-    // Just the code that this call made decides what `compile` and `trace` store, and where E61 and E75 are told.
+    // Just the code that this call made decides what `compile` and `trace` store, and where E61 and E75 are reported.
     ensures made { MadeFor (map string_bytes words.now) (F.files folder.old) (F.files folder.new) (S.left input.old)
         result.0 (code_of left.new made.new) }
 {

@@ -77,8 +77,8 @@ pub fn compile<F: Folder>(
         (Rose (F.faults folder.old) (F.faults folder.new)) (F.files folder.old) (F.files folder.new) result }
     ensures counted { IsCounted (F.files folder.old) (Rose (F.faults folder.old) (F.faults folder.new)) result }
     ensures understood { IsBeforeSource result → ⊥ }
-    ensures made { (told : Option (List ℕ)) → MadeBy (W.Compile file.now out.now) (F.files folder.old)
-        (F.files folder.new) told (IsDone result) (IsRefused result) made.new }
+    ensures made { (reported : Option (List ℕ)) → MadeBy (W.Compile file.now out.now) (F.files folder.old)
+        (F.files folder.new) reported (IsDone result) (IsRefused result) made.new }
 {
     *made = None;
     match fetch_source(alloc, folder, file) {

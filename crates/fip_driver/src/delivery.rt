@@ -2,7 +2,7 @@
 ghost use Rattle.std.specs.Prelude.{◌≡◌, ℕ, ◌≤◌, OnOk, OnErr};
 ghost use Rattle.std.specs.Io.KnownBytes.{Appends};
 ghost use Rattle.fip_outside.specs.Faults.{Rose};
-ghost use Rattle.fip_driver.specs.Delivered.{seen, Tried, Told, ToldFailure, Delivered};
+ghost use Rattle.fip_driver.specs.Delivered.{seen, Tried, Reported, ReportedFailure, Delivered};
 ghost use Rattle.command_outcome.specs.Texts.{err_fault_text, no_memory_text};
 
 use command_outcome::{Failure, Object};
@@ -12,7 +12,7 @@ use fip_outside::outside::Sink;
 use std::alloc::Global;
 
 // Tries once to say that an object failed; what becomes of it changes nothing.
-fn try_to_tell<E: Sink>(err: &mut E, text: &[u8])
+fn try_to_report<E: Sink>(err: &mut E, text: &[u8])
     ensures tried { Tried (seen (E.written err.old) (E.faults err.old)) (seen (E.written err.new) (E.faults err.new))
         text.now }
     ensures later { E.faults err.old ≤ E.faults err.new }
@@ -24,45 +24,45 @@ fn try_to_tell<E: Sink>(err: &mut E, text: &[u8])
 }
 
 // Writes the text of a status; where that fails, tries once to say so.
-fn tell<E: Sink>(err: &mut E, status: Status, text: &[u8]) -> Status
-    ensures told { Told (seen (E.written err.old) (E.faults err.old)) (seen (E.written err.new) (E.faults err.new))
+fn report<E: Sink>(err: &mut E, status: Status, text: &[u8]) -> Status
+    ensures reported { Reported (seen (E.written err.old) (E.faults err.old)) (seen (E.written err.new) (E.faults err.new))
         status.0 text.now result.0 }
     ensures later { E.faults err.old ≤ E.faults err.new }
 {
     match write_all(err, text) {
         Ok(()) => status,
         Err(_) => {
-            try_to_tell(err, Object::Err.fault_text().as_bytes());
+            try_to_report(err, Object::Err.fault_text().as_bytes());
             Status(9)
         }
     }
 }
 
-/// Says that memory is wanting, for a host that had none for the words. The status is 10; or 9 where `err` failed,
-/// whose fault is then tried to be told once.
-pub fn tell_no_memory<E: Sink>(err: &mut E) -> Status
-    ensures told { Told (seen (E.written err.old) (E.faults err.old)) (seen (E.written err.new) (E.faults err.new))
+/// Says that memory runs out, for a host that had none for the words. The status is 10; or 9 where `err` failed,
+/// whose fault is then tried to be reported once.
+pub fn report_no_memory<E: Sink>(err: &mut E) -> Status
+    ensures reported { Reported (seen (E.written err.old) (E.faults err.old)) (seen (E.written err.new) (E.faults err.new))
         10 no_memory_text result.0 }
     ensures later { E.faults err.old ≤ E.faults err.new }
 {
-    tell(err, Status(10), b"out of memory\n")
+    report(err, Status(10), b"out of memory\n")
 }
 
 // Says what kept a command from its result. After a fault its text is tried once.
-fn tell_failure<E: Sink>(alloc: Global, err: &mut E, failure: &Failure) -> Status
-    ensures told { ToldFailure (seen (E.written err.old) (E.faults err.old))
+fn report_failure<E: Sink>(alloc: Global, err: &mut E, failure: &Failure) -> Status
+    ensures reported { ReportedFailure (seen (E.written err.old) (E.faults err.old))
         (seen (E.written err.new) (E.faults err.new)) failure.now result.0 }
     ensures later { E.faults err.old ≤ E.faults err.new }
 {
     match failure {
         Failure::Fault(object) => {
-            try_to_tell(err, object.fault_text().as_bytes());
+            try_to_report(err, object.fault_text().as_bytes());
             Status(9)
         }
-        Failure::NoMemory => tell_no_memory(err),
+        Failure::NoMemory => report_no_memory(err),
         _ => match failure.text(alloc) {
-            Ok(text) => tell(err, failure.status(), text.as_slice()),
-            Err(_) => tell_no_memory(err),
+            Ok(text) => report(err, failure.status(), text.as_slice()),
+            Err(_) => report_no_memory(err),
         },
     }
 }
@@ -84,10 +84,10 @@ pub fn deliver<O: Sink, E: Sink>(
         Ok(text) => match write_all(out, text.as_slice()) {
             Ok(()) => Status(0),
             Err(_) => {
-                try_to_tell(err, Object::Out.fault_text().as_bytes());
+                try_to_report(err, Object::Out.fault_text().as_bytes());
                 Status(9)
             }
         },
-        Err(failure) => tell_failure(alloc, err, &failure),
+        Err(failure) => report_failure(alloc, err, &failure),
     }
 }

@@ -17,5 +17,5 @@ mod traces;
 pub use code_verify::Verified;
 pub use coded::fp2_with_code;
 pub use command_answers::runner::Left;
-pub use delivery::tell_no_memory;
+pub use delivery::report_no_memory;
 pub use program::fp2;

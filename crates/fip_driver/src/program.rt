@@ -51,7 +51,7 @@ pub fn fp2<F: Folder, S: Source, O: Sink, E: Sink>(
     // Just where a run ended something is left: the code that ran, and the cells of the last state of its run.
     ensures left { LeavesFor (map string_bytes words.now) (F.files folder.old) (S.left input.old)
         (is_run_status result.0) left.new }
-    // Just the code that `compile` or `trace` made decides what is stored, and where E61 or E75 is told. It is the one that
+    // Just the code that `compile` or `trace` made decides what is stored, and where E61 or E75 is reported. It is the one that
     // is left, or else some code; `fp2_with_code` hands it out.
     ensures made { SomeCode left.new (MadeFor (map string_bytes words.now) (F.files folder.old) (F.files folder.new)
         (S.left input.old) result.0) }

@@ -48,7 +48,7 @@ fn replies(alloc: Global, front: &Front, input: &[u8], room: Room) -> Result<Vec
         OrNoMemory (Replies source input.now (room_of room)) result }
     ensures late { IsBeforeInput result → ⊥ }
 {
-    // That the code's ints have 64 bits is told where it is read.
+    // That the code's ints have 64 bits is reported where it is read.
     front.verified.code();
     match session_reply(alloc, &front.typed, &front.verified, runs_room(room), input) {
         Ok(out) => Ok(out),

@@ -9,7 +9,7 @@ use fip_outside::outside::{Folder, StoreError};
 
 /// Stores a file under a name, and gives the text that is printed. A fault of the folder where it failed.
 pub fn store<F: Folder>(folder: &mut F, name: &str, compiled: Compiled) -> Result<Vec<u8>, Failure>
-    ensures told { IfOk result (λ v. v.items ≡ compiled.text.items) }
+    ensures reported { IfOk result (λ v. v.items ≡ compiled.text.items) }
     ensures fails { IfErr result (StoreFails (F.faults folder.old) (F.faults folder.new)) }
     ensures kept { StoreKeeps name.now compiled.file.items (F.files folder.old) (F.files folder.new) result }
     ensures understood { IsBeforeSource result → ⊥ }

@@ -10,7 +10,7 @@ ghost use Rattle.command_answers.specs.command_library.command_source.Wanted.{Co
 ghost use Rattle.command_answers.specs.command_library.command_run.CodeRun.{is_run_end};
 ghost use Rattle.command_answers.specs.Asks.{ComesToInput};
 ghost use Rattle.command_answers.specs.Ends.{TracesTo};
-ghost use Rattle.command_answers.specs.Stored.{IsTold, IsTraceFile};
+ghost use Rattle.command_answers.specs.Stored.{IsReported, IsTraceFile};
 ghost use Rattle.command_answers.specs.command_library.code_rules.Codes.{plain};
 ghost use Rattle.command_answers.specs.command_trace.TraceAnswer.{TracesRun, code_of};
 ghost use Rattle.fip_driver.specs.Fetched.{IsLateFailure, StoreFails, StoreKeeps};
@@ -51,7 +51,7 @@ fn traced<S: Source>(
     ensures left { (source name : List ℕ) → IsReady source (compiled_entry name) → IsEntryOf source name ready →
         Remains (LeftOn (IsEntryOf source name) (S.left input.old) (room_of room)) (is_run_end result) left.new }
     ensures own { (source name : List ℕ) → IsReady source (compiled_entry name) → IsEntryOf source name ready →
-        (bytes : List ℕ) × IsTold (S.left input.old) bytes
+        (bytes : List ℕ) × IsReported (S.left input.old) bytes
         × TracesRun (plain ready.checked.code) ready.entry bytes (room_of room) result }
     ensures code { code_of left.new made.new ≡ Some ready.checked }
 {
@@ -83,7 +83,7 @@ fn store_leaving<F: Folder>(
     left: &mut Option<Left>,
     made: &mut Option<Verified>,
 ) -> Result<Vec<u8>, Failure>
-    ensures told { IfOk result (λ v. v.items ≡ compiled.text.items) }
+    ensures reported { IfOk result (λ v. v.items ≡ compiled.text.items) }
     ensures fails { IfErr result (StoreFails (F.faults folder.old) (F.faults folder.new)) }
     ensures kept { StoreKeeps name.now compiled.file.items (F.files folder.old) (F.files folder.new) result }
     ensures understood { IsBeforeSource result → ⊥ }

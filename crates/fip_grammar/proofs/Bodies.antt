@@ -192,7 +192,7 @@ give_end h r ls lets bs (o ∷ os) all w e s p ts ds c = give_head h r ls lets b
 give_end h r ls lets (Some bs) [] all w e s p ts ds c = give_bound h r ls lets bs all w e s p ts ds c
 give_end h r ls lets None [] all w e s p ts ds c = ends_last h r ls lets e (token (Mark s) p ∷ ts) ds (give_last h r ls (onto_block lets (Last e)) s p ts ds c)
 
--- Behind an operand.
+-- After an operand.
 
 product_of : (op : Operator) → tightness op ≡ 2 → tightness_of op ≡ Product
 product_of O.Multiply e = refl

@@ -9,7 +9,7 @@ use Rattle.std.proofs.Math.Seq.{drop-append_seam}
 use Rattle.fip_language.specs.declared.Place.{Place}
 use Rattle.fip_grammar.specs.Token.{Word, Upper, Number, Mark, Token}
 use Rattle.fip_grammar.specs.declared.Sign.TheVariants as S
-use Rattle.fip_grammar.specs.Cut.{is_lower, is_upper, is_digit, is_name, keyword_or_name, single_sign, sign_of, lower_word, word_of, IsFirst, BeginsNone, is_blank, is_comment, is_gap, is_no_lf, EndsLine, Piece, Blank, Comment, Cut, piece_text, BeginsWith, along, next_line, behind, behind_all, Pieces, tokens_at, tokens_of, first_place, IsCut, IsBadByte}
+use Rattle.fip_grammar.specs.Cut.{is_lower, is_upper, is_digit, is_name, keyword_or_name, single_sign, sign_of, lower_word, word_of, IsFirst, BeginsNone, is_blank, is_comment, is_gap, is_no_lf, EndsLine, Piece, Blank, Comment, Cut, piece_text, BeginsWith, along, next_line, following, after_all, Pieces, tokens_at, tokens_of, first_place, IsCut, IsBadByte}
 use Rattle.fip_grammar.specs.Claims.{double_start, IsFront, IsRead}
 
 -- The bytes at the front that pass a test pass, and with one more they don't.
@@ -209,10 +209,10 @@ ends_line [] = tt
 ends_line (x ∷ xs) = line_on x xs (x == 10) refl (ends_line xs)
 
 pub gap_lf : (text rest : List ℕ) (p : Place) → text ≡ 10 ∷ rest → IsFront text p (Blank 10) (next_line p)
-gap_lf text rest p e = record { after = rest; whole = e; begins = refl; behind = refl; some = omega arith; moved = refl }
+gap_lf text rest p e = record { after = rest; whole = e; begins = refl; following = refl; some = omega arith; moved = refl }
 
 pub gap_blank : (text rest : List ℕ) (b : ℕ) (p : Place) → text ≡ b ∷ rest → is_blank b ≡ true → (b == 10) ≡ false → IsFront text p (Blank b) (along p 1)
-gap_blank text rest b p e k n = record { after = rest; whole = e; begins = k; behind = sym (cond-false (b == 10) (next_line p) (along p 1) n); some = omega arith; moved = refl }
+gap_blank text rest b p e k n = record { after = rest; whole = e; begins = k; following = sym (cond-false (b == 10) (next_line p) (along p 1) n); some = omega arith; moved = refl }
 
 pub gap_comment : (text more : List ℕ) (n : ℕ) (p : Place) → text ≡ 47 ∷ 47 ∷ more → n ≡ prefix_len is_no_lf more → IsFront text p (Comment (take n more)) (along p (n + 2))
 gap_comment text more n p e k =
@@ -223,7 +223,7 @@ gap_comment text more n p e k =
       after = drop n more;
       whole = e ∙ ap (λ l. 47 ∷ 47 ∷ l) (sym (take-append-drop n more));
       begins = (subst (λ i. list_all is_no_lf (take i more) ≡ true) (sym k) (all_front is_no_lf more), subst (λ i. EndsLine (drop i more)) (sym k) (ends_line more));
-      behind = ap (along p) two;
+      following = ap (along p) two;
       some = omega arith;
       moved = ap (λ i. p.at + i) two ∙ (let z : p.at + (2 + length (take n more)) ≡ p.at + length (47 ∷ 47 ∷ take n more) = omega arith in z);
     }
@@ -240,7 +240,7 @@ cut_first text n w p g f =
       after = drop n text;
       whole = sym (take-append-drop n text);
       begins = (g, subst (λ i. IsFirst text i w) (sym len) f);
-      behind = ap (along p) (sym len);
+      following = ap (along p) (sym len);
       some = omega (arith, len, pos);
       moved = ap (λ i. p.at + i) (sym len);
     }
@@ -251,20 +251,20 @@ pieces_on : (xs : List Piece) (source text after : List ℕ) (x : Piece) → Pie
 pieces_on [] source text after x c e b = (after, c ∙ e, subst (λ l. BeginsWith x l after) (sym c) b, refl)
 pieces_on (y ∷ ys) source text after x c e b = (c.0, c.1, c.2, pieces_on ys c.0 text after x c.3 e b)
 
-behind_on : (p : Place) (xs : List Piece) (x : Piece) → behind_all p (xs ++ x ∷ []) ≡ behind (behind_all p xs) x
-behind_on p [] x = refl
-behind_on p (y ∷ ys) x = behind_on (behind p y) ys x
+after_on : (p : Place) (xs : List Piece) (x : Piece) → after_all p (xs ++ x ∷ []) ≡ following (after_all p xs) x
+after_on p [] x = refl
+after_on p (y ∷ ys) x = after_on (following p y) ys x
 
-tokens_on : (p : Place) (xs : List Piece) (x : Piece) → tokens_of p (xs ++ x ∷ []) ≡ tokens_of p xs ++ tokens_at (behind_all p xs) x
+tokens_on : (p : Place) (xs : List Piece) (x : Piece) → tokens_of p (xs ++ x ∷ []) ≡ tokens_of p xs ++ tokens_at (after_all p xs) x
 tokens_on p [] x = append-nil (tokens_at p x)
-tokens_on p (y ∷ ys) x = ap (λ l. tokens_at p y ++ l) (tokens_on (behind p y) ys x) ∙ sym (append_assoc (tokens_at p y) (tokens_of (behind p y) ys) (tokens_at (behind_all (behind p y) ys) x))
+tokens_on p (y ∷ ys) x = ap (λ l. tokens_at p y ++ l) (tokens_on (following p y) ys x) ∙ sym (append_assoc (tokens_at p y) (tokens_of (following p y) ys) (tokens_at (after_all (following p y) ys) x))
 
 pub read_more : (source text : List ℕ) (p next : Place) (ts : List Token) (x : Piece) (f : IsFront text p x next) → IsRead source text p ts → IsRead source f.after next (ts ++ tokens_at p x)
 read_more source text p next ts x f r = (
   r.0 ++ x ∷ [],
   pieces_on r.0 source text f.after x r.1 f.whole f.begins,
   ap (λ l. l ++ tokens_at p x) r.2 ∙ ap (λ q. tokens_of first_place r.0 ++ tokens_at q x) r.3 ∙ sym (tokens_on first_place r.0 x),
-  f.behind ∙ ap (λ q. behind q x) r.3 ∙ sym (behind_on first_place r.0 x),
+  f.following ∙ ap (λ q. following q x) r.3 ∙ sym (after_on first_place r.0 x),
 )
 
 pub after_is : (source : List ℕ) (p next : Place) (x : Piece) (f : IsFront (drop p.at source) p x next) → f.after ≡ drop next.at source
@@ -290,24 +290,24 @@ blank_col : (p : Place) (b : Bool) → p.col ≤ p.at + 1 → (cond b (next_line
 blank_col p true l = omega (arith, l)
 blank_col p false l = omega (arith, l)
 
-behind_line : (p : Place) (x : Piece) → p.line ≤ p.at + 1 → 0 < length (piece_text x) → (behind p x).line ≤ p.at + length (piece_text x) + 1
-behind_line p (Blank b) l n = let h = blank_line p (b == 10) l in omega (arith, h)
-behind_line p (Comment t) l n = omega (arith, l)
-behind_line p (Cut t w) l n = omega (arith, l)
+after_line : (p : Place) (x : Piece) → p.line ≤ p.at + 1 → 0 < length (piece_text x) → (following p x).line ≤ p.at + length (piece_text x) + 1
+after_line p (Blank b) l n = let h = blank_line p (b == 10) l in omega (arith, h)
+after_line p (Comment t) l n = omega (arith, l)
+after_line p (Cut t w) l n = omega (arith, l)
 
-behind_col : (p : Place) (x : Piece) → p.col ≤ p.at + 1 → (behind p x).col ≤ p.at + length (piece_text x) + 1
-behind_col p (Blank b) l = let h = blank_col p (b == 10) l in omega (arith, h)
-behind_col p (Comment t) l = omega (arith, l)
-behind_col p (Cut t w) l = omega (arith, l)
+after_col : (p : Place) (x : Piece) → p.col ≤ p.at + 1 → (following p x).col ≤ p.at + length (piece_text x) + 1
+after_col p (Blank b) l = let h = blank_col p (b == 10) l in omega (arith, h)
+after_col p (Comment t) l = omega (arith, l)
+after_col p (Cut t w) l = omega (arith, l)
 
 pub next_line_bound : (text : List ℕ) (p next : Place) (x : Piece) → p.line ≤ p.at + 1 → IsFront text p x next → next.line ≤ next.at + 1
 next_line_bound text p next x l f =
-    let h : next.line ≤ p.at + length (piece_text x) + 1 = subst (λ q. q.line ≤ p.at + length (piece_text x) + 1) (sym f.behind) (behind_line p x l f.some) in
+    let h : next.line ≤ p.at + length (piece_text x) + 1 = subst (λ q. q.line ≤ p.at + length (piece_text x) + 1) (sym f.following) (after_line p x l f.some) in
     omega (arith, h, f.moved)
 
 pub next_col_bound : (text : List ℕ) (p next : Place) (x : Piece) → p.col ≤ p.at + 1 → IsFront text p x next → next.col ≤ next.at + 1
 next_col_bound text p next x l f =
-    let h : next.col ≤ p.at + length (piece_text x) + 1 = subst (λ q. q.col ≤ p.at + length (piece_text x) + 1) (sym f.behind) (behind_col p x l) in
+    let h : next.col ≤ p.at + length (piece_text x) + 1 = subst (λ q. q.col ≤ p.at + length (piece_text x) + 1) (sym f.following) (after_col p x l) in
     omega (arith, h, f.moved)
 
 pub next_further : (text : List ℕ) (p next : Place) (x : Piece) → IsFront text p x next → p.at < next.at
@@ -323,7 +323,7 @@ take_rest n xs l = let h = drop_length n xs l in take_all (length xs - n) (drop 
 pub no_more : {A : Type 0} (xs ys : List A) → ys ≡ [] → xs ++ ys ≡ xs
 no_more xs ys e = ap (λ l. xs ++ l) e ∙ append-nil xs
 
--- what was read with one piece more, behind which the source goes on at a place
+-- what was read with one piece more, after which the source goes on at a place
 pub read_on : (source : List ℕ) (p next : Place) (ts : List Token) (x : Piece) → p.at ≤ length source → IsFront (take (length source - p.at) (drop p.at source)) p x next → IsRead source (drop p.at source) p ts → IsRead source (drop next.at source) next (ts ++ tokens_at p x)
 read_on source p next ts x l f r =
     let g : IsFront (drop p.at source) p x next = subst (λ t. IsFront t p x next) (take_rest p.at source l) f in

@@ -1,4 +1,4 @@
--- How far the tokens are read: the machine stands behind the first i of them, and no rule is broken below i. Then the
+-- How far the tokens are read: the machine stands after the first i of them, and no rule is broken below i. Then the
 -- next token shows which rule is broken first, or that one more token may be read. And a source breaks one rule at one
 -- place at most, and none where it is spelt.
 use Rattle.std.proofs.Common.{◌≡◌, ℕ, zero, suc, ◌+◌, ◌<◌, ◌≤◌, true, false, List, [], ◌∷◌, ◌++◌, take, drop, length, Option, Some, None, ◌⊎◌, inl, inr, refl, sym, ap, subst, ◌∙◌, arith}
@@ -15,17 +15,17 @@ use Rattle.fip_language.proofs.OnePlace.{IsPlace-unique, IsPlace-not_spelt}
 use Rattle.fip_grammar.specs.Token.{Word, Number, Token, value_of}
 use Rattle.fip_grammar.specs.Grammar.{Spells}
 use Rattle.fip_grammar.specs.Machine.{State, Next, Top, Refused, Stays, Declares, Machine, step, start, then_next, machine_step, machine_end}
-use Rattle.fip_grammar.specs.Limits.{is_opening, Seen, nothing_seen, behind, seen_from, seen, limit, Breaks, IsLeastBroken, place_at, IsSpelt, IsMisspelt}
+use Rattle.fip_grammar.specs.Limits.{is_opening, Seen, nothing_seen, following, seen_from, seen, limit, Breaks, IsLeastBroken, place_at, IsSpelt, IsMisspelt}
 use Rattle.fip_grammar.proofs.Exact.{accepted_is_spelled, spelled_is_accepted, stopped_is_place}
 use Rattle.fip_grammar.proofs.Signs.{negates, Agrees, agrees_at_start, agrees_next, agrees_declared, literal_limit}
 use Rattle.fip_grammar.proofs.Unique.{cut_once, cut_or_bad, bad_once}
 use Rattle.fip_language.proofs.Facts.{drop_at_next as rest_at, less_apart as not_taken, three_ways}
 
 -- what one token more is like
-seen_more : (ts : List Token) (i : ℕ) (b : Seen) (t : Token) → slice_get ts i ≡ Some t → seen_from b (take (suc i) ts) ≡ behind (seen_from b (take i ts)) t.word
+seen_more : (ts : List Token) (i : ℕ) (b : Seen) (t : Token) → slice_get ts i ≡ Some t → seen_from b (take (suc i) ts) ≡ following (seen_from b (take i ts)) t.word
 seen_more [] i b t e = cc
-seen_more (x ∷ xs) zero b t e = let h : x ≡ t = cc in ap (λ z. behind b z.word) h
-seen_more (x ∷ xs) (suc i) b t e = seen_more xs i (behind b x.word) t e
+seen_more (x ∷ xs) zero b t e = let h : x ≡ t = cc in ap (λ z. following b z.word) h
+seen_more (x ∷ xs) (suc i) b t e = seen_more xs i (following b x.word) t e
 
 -- a machine doesn't stop before the place where it stands
 end_stop : (o : Option Program) (i u : ℕ) → end_outcome o i ≡ Stopped u → i ≡ u
@@ -48,7 +48,7 @@ place_stops_in ts u (Stopped v) e c = ap Stopped (IsPlace-unique Spells ts v u (
 place_stops : (ts : List Token) (u : ℕ) → IsPlace Spells ts u → run machine_step machine_end start ts 0 ≡ Stopped u
 place_stops ts u c = place_stops_in ts u (run machine_step machine_end start ts 0) refl c
 
--- The machine stands in m behind the first i tokens, which are like b; no rule is broken at a token below i.
+-- The machine stands in m after the first i tokens, which are like b; no rule is broken at a token below i.
 pub record Reads (ts : List Token) (i : ℕ) (m : Machine) (b : Seen) : Type 0 where
   pub within : i ≤ length ts
   pub runs : run machine_step machine_end start ts 0 ≡ run machine_step machine_end m (drop i ts) i
@@ -142,14 +142,14 @@ reads_too_large ts i m m' b t ds h at e w large = record {
 }
 
 -- the next state agrees with the token too
-agrees_machine : (s : State) (b : Seen) (t : Token) (n : Next) (done : List Declaration) (m' : Machine) → Agrees s b → step s t.word t.place ≡ n → then_next done n ≡ Some m' → Agrees m'.state (behind b t.word)
+agrees_machine : (s : State) (b : Seen) (t : Token) (n : Next) (done : List Declaration) (m' : Machine) → Agrees s b → step s t.word t.place ≡ n → then_next done n ≡ Some m' → Agrees m'.state (following b t.word)
 agrees_machine s b t Refused done m' a e k = cc
 agrees_machine s b t (Stays s') done m' a e k =
     let same : record { done = done; state = s' } ≡ m' = cc in
-    subst (λ m. Agrees m.state (behind b t.word)) same (agrees_next s s' b t.word t.place a e)
+    subst (λ m. Agrees m.state (following b t.word)) same (agrees_next s s' b t.word t.place a e)
 agrees_machine s b t (Declares d) done m' a e k =
     let same : record { done = done ++ d ∷ []; state = Top } ≡ m' = cc in
-    subst (λ m. Agrees m.state (behind b t.word)) same (agrees_declared s b t.word t.place d a e)
+    subst (λ m. Agrees m.state (following b t.word)) same (agrees_declared s b t.word t.place d a e)
 
 -- the token at i breaks nothing
 unbroken_here : (ts : List Token) (i : ℕ) (b : Seen) (t : Token) (r : Rule) (u : ℕ) → b ≡ seen ts i → slice_get ts i ≡ Some t → (IsPlace Spells ts u → ⊥) → (is_opening t.word ≡ true → 100 ≤ b.open' → ⊥) → ((ds : List ℕ) → t.word ≡ Number ds → limit b.is_sign < value_of ds → ⊥) → i ≡ u → Breaks ts r u → ⊥
@@ -172,14 +172,14 @@ unbroken_more ts i m m' b t r u h at e deep large lt c = elim (not_below ts i m 
 ]
 
 -- it takes it, and the token breaks no rule
-pub reads_next : (ts : List Token) (i : ℕ) (m m' : Machine) (b : Seen) (t : Token) → Reads ts i m b → slice_get ts i ≡ Some t → machine_step m t ≡ Some m' → (is_opening t.word ≡ true → 100 ≤ b.open' → ⊥) → ((ds : List ℕ) → t.word ≡ Number ds → limit b.is_sign < value_of ds → ⊥) → Reads ts (i + 1) m' (behind b t.word)
+pub reads_next : (ts : List Token) (i : ℕ) (m m' : Machine) (b : Seen) (t : Token) → Reads ts i m b → slice_get ts i ≡ Some t → machine_step m t ≡ Some m' → (is_opening t.word ≡ true → 100 ≤ b.open' → ⊥) → ((ds : List ℕ) → t.word ≡ Number ds → limit b.is_sign < value_of ds → ⊥) → Reads ts (i + 1) m' (following b t.word)
 reads_next ts i m m' b t h at e deep large =
     let one : suc i ≡ i + 1 = omega arith in
     let lt = slice_get_within ts i t at in
     record {
       within = omega arith;
       runs = reads_here ts i m b t (Some m') h at e ∙ ap (λ k. run machine_step machine_end m' (drop k ts) (i + 1)) one;
-      counted = ap (λ s. behind s t.word) h.counted ∙ sym (seen_more ts i nothing_seen t at) ∙ ap (seen ts) one;
+      counted = ap (λ s. following s t.word) h.counted ∙ sym (seen_more ts i nothing_seen t at) ∙ ap (seen ts) one;
       agrees = agrees_machine m.state b t (step m.state t.word t.place) m.done m' h.agrees refl e;
       unbroken = λ r u lt c. unbroken_more ts i m m' b t r u h at e deep large lt c;
     }
@@ -189,7 +189,7 @@ reads_end ts i m b o h end e =
     let nothing : drop i ts ≡ [] = ap (λ k. drop k ts) end ∙ drop-length ts in
     h.runs ∙ ap (λ l. run machine_step machine_end m l i) nothing ∙ ap (λ o. end_outcome o i) e
 
--- behind the last token only the grammar may be broken
+-- after the last token only the grammar may be broken
 broken_past : (ts : List Token) (r : Rule) (u : ℕ) → (IsPlace Spells ts u → ⊥) → length ts ≤ u → Breaks ts r u → ⊥
 broken_past ts r u none le (inl c) = none c.1
 broken_past ts r u none le (inr (inl c)) = let k = c.1 in let lt = slice_get_within ts u k.0 k.1 in omega arith

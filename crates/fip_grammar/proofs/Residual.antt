@@ -196,7 +196,7 @@ Compared None v ts e rest = ((e ≡ v) × (ts ≡ rest)) ⊎ ((op : Operator) ×
 abbrev pub Grows : Waiting → Expression → List Token → Expression → List Token → Type 0
 Grows w v ts e rest = (product : Expression) × (a : List Token) × (sum : Expression) × (b : List Token) × Chain 2 (applied w.product v) ts product a × Chain 1 (applied w.sum product) a sum b × Compared w.comparison sum b e rest
 
--- what is asked of an operand or a whole expression and of the tokens behind it
+-- what is asked of an operand or a whole expression and of the tokens after it
 abbrev pub Then : Type 1
 Then = Expression → List Token → Type 0
 

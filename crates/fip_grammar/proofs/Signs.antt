@@ -10,16 +10,16 @@ use Rattle.fip_grammar.specs.declared.Sign.{Sign}
 use Rattle.fip_grammar.specs.declared.Sign.TheVariants as S
 use Rattle.fip_grammar.specs.Token.{Word, Lower, Upper, Number, Operate, Mark}
 use Rattle.fip_grammar.specs.Machine.{FunctionHead, SignatureHead, ResultOwner, OfSignature, OfFunction, FunctionHeading, FunctionKeyword, CreditSize, FunctionName, FunctionStart, StaticName, StaticStart, SignatureKeyword, SignatureOpen, SignatureFirst, SignatureNext, SignatureColon, ResultStart, StaticEnd, ParametersOpen, ParameterFirst, ParameterNext, ParameterName, ParameterColon, ResultColon, BodyOpen, DataHeading, DataName, DataStart, DataParameter, DataParameterEnd, DataOpen, ConstructorFirst, ConstructorNext, ConstructorStart, ConstructorEnd, Opener, MatchOpener, IfOpener, OpenMatch, Use, ForArguments, ForFields, ForParenthesis, ForBracket, ForTuple, ForClause, ForYes, ForNo, Level, Body, Binds, Alone, Bracketed, BodyPosition, AtBlock, LetStart, BindStart, BindNamed, LetEquals, AtOperand, LowerName, CallOpen, ArgumentFirst, UpperName, Minus, Parenthesis, AtOperator, ClauseNext, Else, ElseOpen, OpenType, TypePosition, TypeWanted, TypeNamed, TypeDone, TypeUse, ForField, ForSignatureParameter, ForParameter, ForResult, ForResultPart, ForAnnotation, ForStaticArgument, OpenPattern, PatternPosition, PatternWanted, PatternMinus, PatternNamed, PatternDone, State, Top, InFunction, InData, InType, InPattern, InBody, Next, Refused, Stays, Declares, step_top, with_static, with_signature, with_constructor, static_end, body_open, type_wanted, signature_next, parameter_name, parameter_next, step_function, constructor_first, constructor_end, step_data, let_equals, is_empty, refused_where, in_body, end_bind, bind_start, after_one_result, after_tuple_result, after_type, type_done, step_type, operand_start, tightness_of, Tightness, Comparison, Sum, Product, Pending, applied, all_applied, none_waits, onto_block, last_in, enter, compared, after_operator, end_level, end_last, end_bound, end_head, end_expression, after_operand, pattern_wanted, pattern_done, step_pattern, step_body, step}
-use Rattle.fip_grammar.specs.Limits.{Seen, nothing_seen, behind, is_minus, limit}
+use Rattle.fip_grammar.specs.Limits.{Seen, nothing_seen, following, is_minus, limit}
 use Rattle.fip_language.proofs.Facts.{not_of as before_operand}
 
--- the literal behind a - that isn't binary comes next
+-- the literal after a - that isn't binary comes next
 abbrev pub negates : State → Bool
 negates (InBody (Minus q) b) = true
 negates (InPattern (PatternMinus q) o b m) = true
 negates _ = false
 
--- what comes next: an operand or a pattern, or what may stand behind an operand, or something else
+-- what comes next: an operand or a pattern, or what may stand after an operand, or something else
 pub data Comes : Type 0 where
   Operand : Comes
   Operator' : Comes
@@ -45,7 +45,7 @@ comes (InBody q b) = comes_in_body q
 comes (InPattern q o b m) = comes_in_pattern q
 comes _ = Other
 
--- whether the last token ends an operand, as far as what comes next tells it
+-- whether the last token ends an operand, as far as what comes next reports it
 abbrev pub Ends : Comes → Bool → Type 0
 Ends Operand e = e ≡ false
 Ends Operator' e = e ≡ true
@@ -58,8 +58,8 @@ Agrees s b = (b.is_sign ≡ negates s) × Ends (comes s) b.ends_operand
 -- what a token leads to knows of it
 abbrev Knows : Seen → Word → Next → Type 0
 Knows b w Refused = Unit {0}
-Knows b w (Stays s) = Agrees s (behind b w)
-Knows b w (Declares d) = Agrees Top (behind b w)
+Knows b w (Stays s) = Agrees s (following b w)
+Knows b w (Declares d) = Agrees Top (following b w)
 
 -- Heads of functions, data types and types: no - comes, and nothing is asked of the last token.
 
@@ -242,11 +242,11 @@ know_type b (TypeNamed n q) o u (Mark S.SquareOpen) p = (refl, tt)
 know_type b (TypeNamed n q) o u w p = know_type_done b o u (WrittenName n q NoWritten) w
 know_type b (TypeDone t) o u w p = know_type_done b o u t w
 
--- Bodies and patterns: a - before an operand is none between two, and a - behind an operand is one.
+-- Bodies and patterns: a - before an operand is none between two, and a - after an operand is one.
 
-behind_operand : (e : Bool) (o : Operator) → e ≡ true → (is_minus (Operate o) && not e) ≡ false
-behind_operand e O.Subtract h = ap not h
-behind_operand e _ h = refl
+following_operand : (e : Bool) (o : Operator) → e ≡ true → (is_minus (Operate o) && not e) ≡ false
+following_operand e O.Subtract h = ap not h
+following_operand e _ h = refl
 
 know_operand : (b : Seen) (y : Body) (w : Word) (p : Place) → b.ends_operand ≡ false → Knows b w (operand_start y w p)
 know_operand b y (Lower n) p e = (refl, refl)
@@ -261,11 +261,11 @@ know_operand b y _ p e = tt
 
 know_compared : (b : Seen) (c : Option Pending) (y : Body) (v : Expression) (o : Operator) (p : Place) → b.ends_operand ≡ true → Knows b (Operate o) (compared c y v o p)
 know_compared b (Some c) y v o p e = tt
-know_compared b None y v o p e = (behind_operand b.ends_operand o e, refl)
+know_compared b None y v o p e = (following_operand b.ends_operand o e, refl)
 
 know_operator : (b : Seen) (t : Tightness) (y : Body) (v : Expression) (o : Operator) (p : Place) → b.ends_operand ≡ true → Knows b (Operate o) (after_operator t y v o p)
-know_operator b Product y v o p e = (behind_operand b.ends_operand o e, refl)
-know_operator b Sum y v o p e = (behind_operand b.ends_operand o e, refl)
+know_operator b Product y v o p e = (following_operand b.ends_operand o e, refl)
+know_operator b Sum y v o p e = (following_operand b.ends_operand o e, refl)
 know_operator b Comparison y v o p e = know_compared b y.partial.waiting.comparison y (applied y.partial.waiting.sum (applied y.partial.waiting.product v)) o p e
 
 know_level : (b : Seen) (y : Body) (u : Use) (e : Block) (s : Sign) → Knows b (Mark s) (end_level y u e s)
@@ -406,13 +406,13 @@ pub agrees_at_start : Agrees Top nothing_seen
 agrees_at_start = (refl, tt)
 
 -- the next state knows of the token that led to it
-pub agrees_next : (s s' : State) (b : Seen) (w : Word) (p : Place) → Agrees s b → step s w p ≡ Stays s' → Agrees s' (behind b w)
+pub agrees_next : (s s' : State) (b : Seen) (w : Word) (p : Place) → Agrees s b → step s w p ≡ Stays s' → Agrees s' (following b w)
 agrees_next s s' b w p a e = subst (Knows b w) e (know_step b s w p a.1)
 
 -- so does the state between two declarations
-pub agrees_declared : (s : State) (b : Seen) (w : Word) (p : Place) (d : Declaration) → Agrees s b → step s w p ≡ Declares d → Agrees Top (behind b w)
+pub agrees_declared : (s : State) (b : Seen) (w : Word) (p : Place) (d : Declaration) → Agrees s b → step s w p ≡ Declares d → Agrees Top (following b w)
 agrees_declared s b w p d a e = subst (Knows b w) e (know_step b s w p a.1)
 
--- the greatest literal behind the last token is what the state tells
+-- the greatest literal after the last token is what the state reports
 pub literal_limit : (s : State) (b : Seen) → Agrees s b → limit b.is_sign ≡ limit (negates s)
 literal_limit s b a = ap limit a.0

@@ -58,7 +58,7 @@ give_bind_start b bs (Lower n) p ts ds c = (record { name = n; place = p; annota
 give_bind_start b bs (Mark S.Underscore) p ts ds c = (record { name = 95 ∷ []; place = p; annotation = c.0 }, c.1, (ts, inr (refl, refl), c.2), c.3)
 give_bind_start b bs _ p ts ds c = absurd c
 
--- Behind an outermost type.
+-- After an outermost type.
 
 take_fields : (d : Data) (n : Name) (q : Place) (fs more : List Written) (t : Written) (w : Word) (p : Place) (ts after : List Token) (ds : List Declaration) → FurtherTypeList S.RoundClose (token w p ∷ ts) more after → AfterConstructor (with_constructor d (new_constructor n q (fs ++ t ∷ more))) after ds → Fits (after_type (ForField d n q fs) t w) ts ds
 take_fields d n q fs [] t w p ts after ds c k = head (λ w p. after_type (ForField d n q fs) t w) ds c.1 k
@@ -157,7 +157,7 @@ give_after_type (ForResultPart o q parts) t w p ts ds c = give_parts o q parts t
 give_after_type (ForAnnotation b bs n q) t w p ts ds c = give_end_bind b bs (record { name = n; place = q; annotation = Some t }) w p ts ds c
 give_after_type (ForStaticArgument b n q st) t w p ts ds c = give_statics b n q st t w p ts ds c
 
--- Behind a type.
+-- After a type.
 
 abbrev whole : OpenType → Writtens → Written
 whole o ws = WrittenName o.name o.place (onto_types o.done ws)

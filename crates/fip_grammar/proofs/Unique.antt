@@ -6,7 +6,7 @@ use Rattle.std.proofs.lemmas.Option.{same_Some}
 use Rattle.std.proofs.Math.Seq.{take-append_seam, drop-append_seam}
 use Rattle.fip_language.specs.declared.Place.{Place}
 use Rattle.fip_grammar.specs.Token.{Word, Token}
-use Rattle.fip_grammar.specs.Cut.{word_of, IsFirst, BeginsNone, is_blank, is_comment, is_gap, is_no_lf, EndsLine, Piece, Blank, Comment, Cut, piece_text, BeginsWith, behind_all, Pieces, tokens_of, first_place, IsCut, IsBadByte}
+use Rattle.fip_grammar.specs.Cut.{word_of, IsFirst, BeginsNone, is_blank, is_comment, is_gap, is_no_lf, EndsLine, Piece, Blank, Comment, Cut, piece_text, BeginsWith, after_all, Pieces, tokens_of, first_place, IsCut, IsBadByte}
 
 -- nothing more can be cut off
 abbrev Stops : List ℕ → Type 0
@@ -114,7 +114,7 @@ same_pieces (x ∷ xs) (y ∷ ys) text r s c d p q =
 pub cut_once : (source : List ℕ) (ts us : List Token) (p q : Place) → IsCut source ts p → IsCut source us q → (ts ≡ us) × (p ≡ q)
 cut_once source ts us p q c d =
     let h = same_pieces c.0 d.0 source [] [] c.1 d.1 (inl refl) (inl refl) in
-    (c.2 ∙ ap (tokens_of first_place) h.0 ∙ sym d.2, c.3 ∙ ap (behind_all first_place) h.0 ∙ sym d.3)
+    (c.2 ∙ ap (tokens_of first_place) h.0 ∙ sym d.2, c.3 ∙ ap (after_all first_place) h.0 ∙ sym d.3)
 
 pub cut_or_bad : {A : Type 0} (source : List ℕ) (ts : List Token) (p q : Place) → IsCut source ts p → IsBadByte source q → A
 cut_or_bad source ts p q c d =
@@ -125,4 +125,4 @@ cut_or_bad source ts p q c d =
 pub bad_once : (source : List ℕ) (p q : Place) → IsBadByte source p → IsBadByte source q → p ≡ q
 bad_once source p q c d =
     let h = same_pieces c.0 d.0 source c.1 d.1 c.2 d.2 (inr (c.5, c.6)) (inr (d.5, d.6)) in
-    c.3 ∙ ap (behind_all first_place) h.0 ∙ sym d.3
+    c.3 ∙ ap (after_all first_place) h.0 ∙ sym d.3

@@ -9,7 +9,7 @@ use Rattle.fip_language.specs.Every.{Every}
 use Rattle.fip_language.specs.Character.{is_letter, are_name_bytes, is_upper_name}
 use Rattle.fip_grammar.specs.declared.Sign.TheVariants as S
 use Rattle.fip_grammar.specs.Token.{Word, Lower, Upper, Number, Operate, Mark, Token}
-use Rattle.fip_grammar.specs.Cut.{is_lower, is_upper, is_digit, is_name, keyword_or_name, single_sign, double_sign, sign_of, lower_word, word_of, IsFirst, Piece, Blank, Comment, Cut, behind, Pieces, tokens_of, first_place, IsCut}
+use Rattle.fip_grammar.specs.Cut.{is_lower, is_upper, is_digit, is_name, keyword_or_name, single_sign, double_sign, sign_of, lower_word, word_of, IsFirst, Piece, Blank, Comment, Cut, following, Pieces, tokens_of, first_place, IsCut}
 use Rattle.fip_language.proofs.Facts.{or_exchange as name_byte}
 
 -- an upper word is an upper-case name
@@ -120,9 +120,9 @@ ProperToken t = Proper t.word
 
 proper_pieces : (xs : List Piece) (p : Place) (text rest : List ℕ) → Pieces xs text rest → Every ProperToken (tokens_of p xs)
 proper_pieces [] p text rest c = tt
-proper_pieces (Blank b ∷ xs) p text rest c = proper_pieces xs (behind p (Blank b)) c.0 rest c.3
-proper_pieces (Comment t ∷ xs) p text rest c = proper_pieces xs (behind p (Comment t)) c.0 rest c.3
-proper_pieces (Cut t w ∷ xs) p text rest c = (proper_first text (length t) w c.2.1, proper_pieces xs (behind p (Cut t w)) c.0 rest c.3)
+proper_pieces (Blank b ∷ xs) p text rest c = proper_pieces xs (following p (Blank b)) c.0 rest c.3
+proper_pieces (Comment t ∷ xs) p text rest c = proper_pieces xs (following p (Comment t)) c.0 rest c.3
+proper_pieces (Cut t w ∷ xs) p text rest c = (proper_first text (length t) w c.2.1, proper_pieces xs (following p (Cut t w)) c.0 rest c.3)
 
 pub proper_tokens : (source : List ℕ) (ts : List Token) (end : Place) → IsCut source ts end → Every ProperToken ts
 proper_tokens source ts end c = subst (Every ProperToken) (sym c.2) (proper_pieces c.0 first_place source [] c.1)

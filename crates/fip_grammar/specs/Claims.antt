@@ -7,16 +7,16 @@ use Rattle.fip_grammar.specs.declared.lexer.LexError.{LexError}
 use Rattle.fip_grammar.specs.declared.lexer.LexError.TheVariants as L
 use Rattle.fip_grammar.specs.declared.token.Word.{Word}
 use Rattle.fip_grammar.specs.Token as T
-use Rattle.fip_grammar.specs.Cut.{IsFirst, BeginsNone, Piece, Cut, piece_text, behind, behind_all, BeginsWith, Pieces}
+use Rattle.fip_grammar.specs.Cut.{IsFirst, BeginsNone, Piece, Cut, piece_text, following, after_all, BeginsWith, Pieces}
 use Rattle.fip_grammar.specs.Cut.{tokens_at, tokens_of, first_place, is_gap, double_sign, IsBadByte}
 use Rattle.fip_grammar.specs.WordView.{word}
 
--- A text begins with this piece, behind which the place is this.
+-- A text begins with this piece, after which the place is this.
 pub record IsFront (text : List ℕ) (p : Place) (x : Piece) (next : Place) : Type 0 where
   pub after : List ℕ
   pub whole : text ≡ piece_text x ++ after
   pub begins : BeginsWith x text after
-  pub behind : next ≡ behind p x
+  pub following : next ≡ following p x
   pub some : 0 < length (piece_text x)
   pub moved : next.at ≡ p.at + length (piece_text x)
 
@@ -34,7 +34,7 @@ IsFirstOf text (Some r) = IsFirst text r.1 r.0
 -- The source up to rest was cut into these tokens, and rest begins at this place.
 abbrev pub IsRead : List ℕ → List ℕ → Place → List T.Token → Type 0
 IsRead source rest p ts = (xs : List Piece) × Pieces xs source rest × (ts ≡ tokens_of first_place xs)
-    × (p ≡ behind_all first_place xs)
+    × (p ≡ after_all first_place xs)
 
 -- the sign that two bytes at the start of a text are
 abbrev pub double_start : ℕ → List ℕ → Option T.Word

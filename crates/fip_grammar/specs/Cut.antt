@@ -13,7 +13,7 @@ pub use Rattle.fip_language.specs.Character.{is_lower, is_upper, is_digit}
 abbrev pub is_name : ℕ → Bool
 is_name b = is_lower b || (is_upper b || (is_digit b || (b == 95)))
 
--- the token that letters, digits and _ behind a small letter are
+-- the token that letters, digits and _ after a small letter are
 abbrev pub keyword_or_name : List ℕ → Word
 keyword_or_name text =
     if bytes_eq text (codes "data") then Mark S.Data
@@ -100,14 +100,14 @@ first_place = record { line = 1; col = 1; at = 0 }
 abbrev pub along : Place → ℕ → Place
 along p n = record { line = p.line; col = p.col + n; at = p.at + n }
 
--- behind an LF
+-- after an LF
 abbrev pub next_line : Place → Place
 next_line p = record { line = p.line + 1; col = 1; at = p.at + 1 }
 
 -- a piece of a source
 pub data Piece : Type 0 where
   Blank : (byte : ℕ) → Piece
-  -- the two slashes, and what stands behind them in the line
+  -- the two slashes, and what stands after them in the line
   Comment : (text : List ℕ) → Piece
   Cut : (text : List ℕ) (word : Word) → Piece
 
@@ -116,15 +116,15 @@ piece_text (Blank b) = b ∷ []
 piece_text (Comment text) = 47 ∷ 47 ∷ text
 piece_text (Cut text w) = text
 
--- The place behind a piece. An LF is a blank that ends a line; comments and tokens have none in them.
-abbrev pub behind : Place → Piece → Place
-behind p (Blank b) = if b == 10 then next_line p else along p 1
-behind p (Comment text) = along p (2 + length text)
-behind p (Cut text w) = along p (length text)
+-- The place after a piece. An LF is a blank that ends a line; comments and tokens have none in them.
+abbrev pub following : Place → Piece → Place
+following p (Blank b) = if b == 10 then next_line p else along p 1
+following p (Comment text) = along p (2 + length text)
+following p (Cut text w) = along p (length text)
 
-abbrev pub behind_all : Place → List Piece → Place
-behind_all p [] = p
-behind_all p (x ∷ xs) = behind_all (behind p x) xs
+abbrev pub after_all : Place → List Piece → Place
+after_all p [] = p
+after_all p (x ∷ xs) = after_all (following p x) xs
 
 abbrev pub is_no_lf : ℕ → Bool
 is_no_lf b = if b == 10 then false else true
@@ -163,14 +163,14 @@ tokens_at p (Cut bs w) = token w p ∷ []
 -- the tokens among the pieces, each with its place
 abbrev pub tokens_of : Place → List Piece → List Token
 tokens_of p [] = []
-tokens_of p (x ∷ xs) = tokens_at p x ++ tokens_of (behind p x) xs
+tokens_of p (x ∷ xs) = tokens_at p x ++ tokens_of (following p x) xs
 
 -- These are the tokens of a source, and the place of its end.
 abbrev pub IsCut : List ℕ → List Token → Place → Type 0
 IsCut source ts end = (xs : List Piece) × Pieces xs source [] × (ts ≡ tokens_of first_place xs)
-    × (end ≡ behind_all first_place xs)
+    × (end ≡ after_all first_place xs)
 
 -- At this place stands the first byte of a source that begins no token, no blank and no comment.
 abbrev pub IsBadByte : List ℕ → Place → Type 0
-IsBadByte source p = (xs : List Piece) × (rest : List ℕ) × Pieces xs source rest × (p ≡ behind_all first_place xs)
+IsBadByte source p = (xs : List Piece) × (rest : List ℕ) × Pieces xs source rest × (p ≡ after_all first_place xs)
     × (rest ≢ []) × (is_gap rest ≡ false) × BeginsNone rest

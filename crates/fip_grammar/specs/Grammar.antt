@@ -65,7 +65,7 @@ abbrev mutual
   TypeArguments ts (MoreWritten t more) rest = (inner : List Token) × (after : List Token) × Sees S.SquareOpen ts inner
       × Type' inner t after × FurtherTypes S.SquareClose after more rest
 
-  -- further ones behind a comma each, and then this closing sign
+  -- further ones after a comma each, and then this closing sign
   pub FurtherTypes : Sign → List Token → Writtens → List Token → Type 0
   FurtherTypes close ts NoWritten rest = Sees close ts rest
   FurtherTypes close ts (MoreWritten t more) rest = (inner : List Token) × (after : List Token) × Sees S.Comma ts inner
@@ -176,7 +176,7 @@ abbrev mutual
       × Spelled (left_tightness op) ts l mid × (mid ≡ token (Operate op) p ∷ after)
       × Spelled (suc (tightness op)) after r rest
 
-  -- arguments of a call behind its bracket
+  -- arguments of a call after its bracket
   pub Arguments : List Token → Expressions → List Token → Type 0
   Arguments ts NoExpressions rest = Sees S.RoundClose ts rest
   Arguments ts (MoreExpressions e es) rest = (after : List Token) × Spelled 0 ts e after × Further after es rest
@@ -187,7 +187,7 @@ abbrev mutual
   Fields ts (MoreExpressions e es) rest = (inner : List Token) × (after : List Token) × Sees S.RoundOpen ts inner
       × Spelled 0 inner e after × Further after es rest
 
-  -- further ones behind a comma each, and then the closing bracket
+  -- further ones after a comma each, and then the closing bracket
   pub Further : List Token → Expressions → List Token → Type 0
   Further ts NoExpressions rest = Sees S.RoundClose ts rest
   Further ts (MoreExpressions e es) rest = (inner : List Token) × (after : List Token) × Sees S.Comma ts inner

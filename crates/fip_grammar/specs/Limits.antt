@@ -2,7 +2,7 @@
 -- bits (E04). Both are asked of the tokens alone, also where the grammar is broken. And which fault of a source is
 -- named.
 --
--- A literal may be 2^63 directly behind a - that isn't binary, elsewhere 2^63 - 1. A - is binary where the token before
+-- A literal may be 2^63 directly after a - that isn't binary, elsewhere 2^63 - 1. A - is binary where the token before
 -- it is a literal, a name, ) or }: in 1 - 9223372036854775808 it is binary, so the literal is too large; in
 -- f(- 9223372036854775808) it isn't.
 use Rattle.std.specs.Prelude.{◌≡◌, ◌⊎◌, ℕ, ◌+◌, ◌-◌, ◌^◌, ◌<◌, ◌≤◌, Bool, true, false, ◌&&◌, not, if◌then◌else◌, List}
@@ -32,7 +32,7 @@ is_closing (Mark S.SquareClose) = true
 is_closing (Mark S.CurlyClose) = true
 is_closing _ = false
 
--- a token behind which a - stands between two operands
+-- a token after which a - stands between two operands
 abbrev pub ends_operand : Word → Bool
 ends_operand (Number ds) = true
 ends_operand (Lower n) = true
@@ -45,7 +45,7 @@ abbrev pub is_minus : Word → Bool
 is_minus (Operate O.Subtract) = true
 is_minus _ = false
 
--- What some tokens are like: how many brackets are open behind them, whether the last one ends an operand, and whether
+-- What some tokens are like: how many brackets are open after them, whether the last one ends an operand, and whether
 -- it is a - that isn't binary.
 pub record Seen : Type 0 where
   pub open' : ℕ
@@ -56,20 +56,20 @@ abbrev pub nothing_seen : Seen
 nothing_seen = record { open' = 0; ends_operand = false; is_sign = false }
 
 -- a closing bracket without an open one closes none
-abbrev pub open_behind : ℕ → Word → ℕ
-open_behind n w = if is_opening w then n + 1 else if is_closing w then n - 1 else n
+abbrev pub open_after : ℕ → Word → ℕ
+open_after n w = if is_opening w then n + 1 else if is_closing w then n - 1 else n
 
 -- one token more
-abbrev pub behind : Seen → Word → Seen
-behind b w = record {
-  open' = open_behind b.open' w;
+abbrev pub following : Seen → Word → Seen
+following b w = record {
+  open' = open_after b.open' w;
   ends_operand = ends_operand w;
   is_sign = is_minus w && not b.ends_operand;
 }
 
 abbrev pub seen_from : Seen → List Token → Seen
 seen_from b [] = b
-seen_from b (t ∷ ts) = seen_from (behind b t.word) ts
+seen_from b (t ∷ ts) = seen_from (following b t.word) ts
 
 -- what the first t tokens are like
 abbrev pub seen : List Token → ℕ → Seen
@@ -100,7 +100,7 @@ pub record IsLeastBroken (ts : List Token) (rule : Rule) (t : ℕ) : Type 0 wher
   pub broken : Breaks ts rule t
   pub least : (r : Rule) (u : ℕ) → Breaks ts r u → (t < u) ⊎ ((t ≡ u) × (number rule ≤ number r))
 
--- the place of a token; that of the end behind the last one
+-- the place of a token; that of the end after the last one
 abbrev pub place_or : Place → Option Token → Place
 place_or end None = end
 place_or end (Some t) = t.place

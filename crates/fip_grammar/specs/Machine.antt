@@ -174,7 +174,7 @@ pub data BodyPosition : Type 0 where
   UpperName : (name : Name) (place : Place) → BodyPosition
   Minus : (place : Place) → BodyPosition
   Parenthesis : (place : Place) → BodyPosition
-  -- behind an operand
+  -- after an operand
   AtOperator : (value : Expression) → BodyPosition
   ClauseNext : (open' : OpenMatch) → BodyPosition
   Else : (place : Place) (condition : Expression) (one : Block) → BodyPosition
@@ -412,7 +412,7 @@ bind_start bs b (Lower n) p = in_body (BindNamed bs n p) b
 bind_start bs b (Mark S.Underscore) p = in_body (BindNamed bs (95 ∷ []) p) b
 bind_start bs b _ p = Refused
 
--- Behind types.
+-- After types.
 
 abbrev pub after_one_result : ResultOwner → Result → Word → Next
 after_one_result (OfFunction h) r w = body_open h r w

@@ -18,7 +18,7 @@ pub record Token : Type 0 where
 abbrev pub token : Word → Place → Token
 token w p = record { word = w; place = p }
 
--- The value of digits behind others of this value: a digit is its byte less that of 0.
+-- The value of digits after others of this value: a digit is its byte less that of 0.
 abbrev pub value_from : ℕ → List ℕ → ℕ
 value_from before [] = before
 value_from before (d ∷ ds) = value_from (before * 10 + (d - 48)) ds

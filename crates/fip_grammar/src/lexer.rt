@@ -182,7 +182,7 @@ fn single_sign(byte: u8) -> Option<Word<'static>>
     }
 }
 
-// The first byte of a text, and those behind it.
+// The first byte of a text, and those after it.
 fn split<'a>(text: &'a [u8]) -> Option<(u8, &'a [u8])>
     ensures { MatchOption result (text.now ≡ []) (λ r. text.now ≡ r.0 ∷ r.1.now) }
 {
@@ -247,7 +247,7 @@ fn first_word<'a>(text: &'a [u8], first: u8, rest: &[u8]) -> Option<(Word<'a>, u
     first_sign(first, rest)
 }
 
-// What stands behind the two slashes of a comment.
+// What stands after the two slashes of a comment.
 fn comment_rest<'a>(first: u8, rest: &'a [u8]) -> Option<&'a [u8]>
     ensures { MatchOption result (C.is_comment (first ∷ rest.now) ≡ false) (λ r. first ∷ rest.now ≡ 47 ∷ 47 ∷ r.now) }
 {
@@ -266,9 +266,9 @@ fn comment_rest<'a>(first: u8, rest: &'a [u8]) -> Option<&'a [u8]>
 /// What stands at the start of a text.
 #[derive(Clone, Copy)]
 enum Front<'a> {
-    /// A blank or a comment, and the place behind it.
+    /// A blank or a comment, and the place after it.
     Gap { next: Place },
-    /// A token, and the place behind it.
+    /// A token, and the place after it.
     Token { word: Word<'a>, next: Place },
     /// Neither.
     Nothing,

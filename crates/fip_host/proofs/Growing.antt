@@ -1,4 +1,4 @@
--- Words that stand behind others.
+-- Words that stand after others.
 use Rattle.std.proofs.Common.{◌≡◌, ℕ, ◌+◌, List, [], ◌∷◌, ◌++◌, length, refl, sym, ap, ◌∙◌, append_assoc, arith, length-append}
 use Rattle.std.proofs.lemmas.List.{append-nil}
 use Rattle.fip_host.specs.Telling.{HasMore}

@@ -13,7 +13,7 @@ use Rattle.fip_machine.specs.code_verify.Checked.{Checked}
 use Rattle.fip_machine.specs.declared.gauge.Gauge.{Gauge}
 use Rattle.fip_machine.specs.declared.machine.Ended.{Ended}
 use Rattle.fip_machine.specs.declared.stack.paused.Paused.{Paused}
-use Rattle.fip_machine.specs.GaugeView.{IsUnseen, TellsRun}
+use Rattle.fip_machine.specs.GaugeView.{IsUnseen, ReportsRun}
 use Rattle.fip_machine.specs.Pausing.{CanResume, stand_of}
 use Rattle.fip_machine.specs.Tasks.{Stand, state_with, ended_by, IsFresh}
 use Rattle.fip_machine.specs.Ending.{KnowsRun, RunsTo}
@@ -45,13 +45,13 @@ pub has_stepped : (v : Checked) (p q : Paused) (a b : Stand) (old new : Seen) (s
     old.task ≡ Some (stand_of v p) → new.task ≡ Some (stand_of v q) → a ≡ stand_of v p → stand_of v q ≡ b →
     end ≡ end_by (ended_by s) → Steps a b old.store new.store s → (a.ended ≡ None → b.ended ≡ ended_by s) →
     Stays a b old.store new.store s → StepsTo old new end
-has_stepped v p q a b old new s end is_old is_new took stood told going ends over t is =
+has_stepped v p q a b old new s end is_old is_new took stood reported going ends over t is =
     let here : a ≡ t = took ∙ same_stand (stand_of v p) t (sym is_old ∙ is) in
     subst (HasStepped old new end) here (record {
       stand = b;
       is = is_new ∙ ap (λ (x : Stand). Some x) stood;
       stepped = s;
-      told = told;
+      reported = reported;
       going = going;
       ends = ends;
       over = over;
@@ -63,19 +63,19 @@ Runs a b so sn calls ended = (kinds : Kinds) (lent : List Typed) → KnowsRun a.
 
 abbrev pub Gauges : Stand → Store → ℕ → Gauge → Gauge → Type 0
 Gauges a so calls old new = IsUnseen old → (kinds : Kinds) (lent : List Typed) → KnowsRun a.code kinds (state_with a lent so) calls →
-    IsFresh a → TellsRun kinds (plain a.code.code) (state_with a lent so) calls new
+    IsFresh a → ReportsRun kinds (plain a.code.code) (state_with a lent so) calls new
 
 pub has_run : (v : Checked) (p q : Paused) (a b : Stand) (old new : Seen) (calls : ℕ) (ended : Ended) (end : FipEnd) →
     old.task ≡ Some (stand_of v p) → new.task ≡ Some (stand_of v q) → a ≡ stand_of v p → stand_of v q ≡ b →
     end ≡ end_by_run ended → Runs a b old.store new.store calls ended → Gauges a old.store calls old.gauge new.gauge →
     RunsOn old calls new end
-has_run v p q a b old new calls ended end is_old is_new took stood told runs gauge t is =
+has_run v p q a b old new calls ended end is_old is_new took stood reported runs gauge t is =
     let here : a ≡ t = took ∙ same_stand (stand_of v p) t (sym is_old ∙ is) in
     subst (HasRun old calls new end) here (record {
       stand = b;
       is = is_new ∙ ap (λ (x : Stand). Some x) stood;
       ended = ended;
-      told = told;
+      reported = reported;
       runs = runs;
       gauge = gauge;
     })

@@ -23,7 +23,7 @@ use Rattle.fip_machine.specs.code_verify.Checked.{Checked}
 use Rattle.fip_machine.specs.declared.gauge.Gauge.{Gauge}
 use Rattle.fip_machine.specs.declared.machine.Ended.{Ended}
 use Rattle.fip_machine.specs.declared.stack.paused.Paused.{Paused}
-use Rattle.fip_machine.specs.GaugeView.{IsUnseen, TellsRun}
+use Rattle.fip_machine.specs.GaugeView.{IsUnseen, ReportsRun}
 use Rattle.fip_machine.specs.Pausing.{CanResume}
 use Rattle.fip_machine.specs.Tasks.{Stand, state_with, ended_by, IsFresh}
 use Rattle.fip_machine.specs.Ending.{KnowsRun, RunsTo}
@@ -82,7 +82,7 @@ pub record HasStepped (old new : Seen) (end : FipEnd) (t : Stand) : Type 0 where
   pub stand : Stand
   pub is : new.task ≡ Some stand
   pub stepped : Stepped
-  pub told : end ≡ end_by (ended_by stepped)
+  pub reported : end ≡ end_by (ended_by stepped)
   pub going : t.ended ≡ None → (kinds : Kinds) → KnowsAt t.code kinds t.running.function t.running.at →
       (lent : List Typed) → Comes (state_with t lent old.store)
       (next kinds (plain t.code.code) (state_with t lent old.store)) stepped (state_with stand lent new.store)
@@ -94,17 +94,17 @@ abbrev pub StepsTo : Seen → Seen → FipEnd → Type 0
 StepsTo old new end = (t : Stand) → old.task ≡ Some t → HasStepped old new end t
 
 -- A run that stands so was run with so many calls: the end, the last state and the words of the results are those of
--- the definition's run. Where it was just started, the gauge tells of all its states.
+-- the definition's run. Where it was just started, the gauge reports of all its states.
 pub record HasRun (old : Seen) (calls : ℕ) (new : Seen) (end : FipEnd) (t : Stand) : Type 0 where
   pub stand : Stand
   pub is : new.task ≡ Some stand
   pub ended : Ended
-  pub told : end ≡ end_by_run ended
+  pub reported : end ≡ end_by_run ended
   pub runs : (kinds : Kinds) (lent : List Typed) → KnowsRun t.code kinds (state_with t lent old.store) calls →
       t.ended ≡ None → RunsTo kinds (plain t.code.code) (state_with t lent old.store) calls ended
       (state_with stand lent new.store) stand.given
   pub gauge : IsUnseen old.gauge → (kinds : Kinds) (lent : List Typed) → KnowsRun t.code kinds
-      (state_with t lent old.store) calls → IsFresh t → TellsRun kinds (plain t.code.code)
+      (state_with t lent old.store) calls → IsFresh t → ReportsRun kinds (plain t.code.code)
       (state_with t lent old.store) calls new.gauge
 
 abbrev pub RunsOn : Seen → ℕ → Seen → FipEnd → Type 0

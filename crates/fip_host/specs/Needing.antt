@@ -1,4 +1,4 @@
--- The bytes of memory that are reckoned for a store and a run, which `fip_need` tells.
+-- The bytes of memory that are reckoned for a store and a run, which `fip_need` reports.
 --
 -- rev, which is fip, of 7 registers and with frames of 9 words, alone in its code: 8 * (9 + 7 + 9) + 128 = 328 bytes
 -- for a run.
@@ -38,7 +38,7 @@ store_bytes words kept =
 abbrev pub capped : ℕ → ℕ
 capped n = min n (2 ^ 64 - 1)
 
--- What is told of a store of so many words, with room for so many kept values, and of a run of function n with so many
+-- What is reported of a store of so many words, with room for so many kept values, and of a run of function n with so many
 -- frames: beside the frames the words of the arguments, and the greatest frame once more.
 pub record IsNeed (c : Checked) (n words kept frames : ℕ) (t : FipNeed) : Type 0 where
   pub function : Function

@@ -1,4 +1,4 @@
--- The statuses of C's calls, and what is told of a run. The numbers below 11 are those of the program fp2.
+-- The statuses of C's calls, and what is reported of a run. The numbers below 11 are those of the program fp2.
 use Rattle.std.specs.Prelude.{ℕ, Option, Some, None, Result, Ok, Err}
 use Rattle.fip_machine.specs.fip_language.declared.TrapKind.{TrapKind}
 use Rattle.fip_machine.specs.fip_language.declared.TrapKind.TheVariants.{Overflow, DivideByZero}

@@ -8,7 +8,7 @@ use Rattle.fip_machine.specs.code_verify.code_rules.Codes.{is_fip, plain}
 use Rattle.fip_machine.specs.code_verify.code_rules.StackNumbers.{HasStack}
 use Rattle.fip_machine.specs.fip_language.Store.{Cell}
 use Rattle.fip_machine.specs.fip_language.Table.{Shape}
-use Rattle.fip_machine.specs.cell_store.Cells.{Cells, cell_at, IsBehind}
+use Rattle.fip_machine.specs.cell_store.Cells.{Cells, cell_at, IsAfter}
 use Rattle.fip_machine.specs.cell_store.Made.{Loading, IsRetaken, IsAppended}
 use Rattle.fip_machine.specs.machine_cells.machine_semantics.Cells.{Store}
 use Rattle.fip_machine.specs.declared.gauge.Gauge.{Gauge}
@@ -18,7 +18,7 @@ use Rattle.fip_host.specs.declared.answer.FipCell.{FipCell}
 use Rattle.fip_host.specs.declared.answer.FipArgument.{FipArgument}
 use Rattle.fip_host.specs.declared.hosted.Kept.{Kept}
 
--- a buffer after bytes were written to it, as many as fit: 5 bytes with `rev` behind `a` to `e` are `r`, `e`, `v`, `d`,
+-- a buffer after bytes were written to it, as many as fit: 5 bytes with `rev` after `a` to `e` are `r`, `e`, `v`, `d`,
 -- `e`
 abbrev pub filled : List ℕ → List ℕ → List ℕ
 filled old bytes = take (length old) bytes ++ drop (length bytes) old
@@ -39,7 +39,7 @@ abbrev pub words_in : Option Stack → ℕ
 words_in None = 0
 words_in (Some s) = s.words
 
--- what is told of function n
+-- what is reported of function n
 pub record IsFunction (c : Checked) (n : ℕ) (t : FipFunction) : Type 0 where
   pub function : Function
   pub is : slice_get c.code.functions.items n ≡ Some function
@@ -57,7 +57,7 @@ abbrev pub IsNamedBy : Cells → ℕ → Option ℕ → Type 0
 IsNamedBy cells word None = (p : ℕ) → p < 4294967296 → word ≡ 2 * p + 1 → cell_at cells p ≡ None
 IsNamedBy cells word (Some p) = (word ≡ 2 * p + 1) × (cell_at cells p ≢ None)
 
--- what is told of the cell that a word names
+-- what is reported of the cell that a word names
 pub record IsCell (s : Store) (word : ℕ) (t : FipCell) : Type 0 where
   pub place : ℕ
   pub named : word ≡ 2 * place + 1
@@ -75,30 +75,30 @@ pub record IsField (s : Store) (word i value : ℕ) : Type 0 where
   pub is : cell_at s.cells place ≡ Some cell
   pub holds : slice_get cell.fields i ≡ Some value
 
--- the first cell behind the one that a word names, or behind none
+-- the first cell after the one that a word names, or after none
 pub record IsNext (cells : Cells) (word next : ℕ) : Type 0 where
   pub from : Option ℕ
   pub named : IsNamedBy cells word from
   pub place : ℕ
   pub is : next ≡ 2 * place + 1
   pub there : cell_at cells place ≢ None
-  pub behind : IsBehind from place
-  pub first : (r : ℕ) → IsBehind from r → r < place → cell_at cells r ≡ None
+  pub following : IsAfter from place
+  pub first : (r : ℕ) → IsAfter from r → r < place → cell_at cells r ≡ None
 
--- No cell is behind the one that a word names, or behind none.
+-- No cell is after the one that a word names, or after none.
 pub record IsLast (cells : Cells) (word : ℕ) : Type 0 where
   pub from : Option ℕ
   pub named : IsNamedBy cells word from
-  pub none : (r : ℕ) → IsBehind from r → cell_at cells r ≡ None
+  pub none : (r : ℕ) → IsAfter from r → cell_at cells r ≡ None
 
--- A cell was made, in the place of a released one of its size or behind all others, and this is its word.
+-- A cell was made, in the place of a released one of its size or after all others, and this is its word.
 pub record IsMade (old new : Loading) (tag : ℕ) (fields : List ℕ) (word : ℕ) : Type 0 where
   pub place : ℕ
   pub is : word ≡ 2 * place + 1
   pub made : IsRetaken old new place (record { tag = tag; fields = fields })
       ⊎ IsAppended old new place (record { tag = tag; fields = fields })
 
--- So many words stand behind the old ones.
+-- So many words stand after the old ones.
 pub record HasMore (old new : List ℕ) (n : ℕ) : Type 0 where
   pub more : List ℕ
   pub is : new ≡ old ++ more
@@ -129,8 +129,8 @@ kept_word (Some k) = k.word
 abbrev pub argument_word : List (Option Kept) → FipArgument → ℕ
 argument_word ks a = if a.kept then kept_word (kept_at ks a.value) else a.value
 
--- what is told of the cells of one size, from 1 to 16, and of the stack
-pub record TellsSize (g : Gauge) (size : ℕ) (t : FipGauge) : Type 0 where
+-- what is reported of the cells of one size, from 1 to 16, and of the stack
+pub record ReportsSize (g : Gauge) (size : ℕ) (t : FipGauge) : Type 0 where
   pub lowest : t.lowest ≡ slice_index_or g.lowest (size - 1) 0
   pub highest : t.highest ≡ slice_index_or g.highest (size - 1) 0
   pub frames : t.frames ≡ g.frames

@@ -1,4 +1,4 @@
-// A machine behind a pointer, which a C program holds.
+// A machine after a pointer, which a C program holds.
 ghost use Rattle.std.specs.Prelude.{◌≡◌, Option, Some};
 ghost use Rattle.std.specs.Coded.{coded_option};
 ghost use Rattle.fip_host.specs.declared.hosted.Hosted.{Hosted};

@@ -125,8 +125,8 @@ impl Hosted {
         self.verified.code().functions.get(number)
     }
 
-    /// What is told of a function.
-    pub fn told(&self, number: usize) -> Option<FipFunction>
+    /// What is reported of a function.
+    pub fn reported(&self, number: usize) -> Option<FipFunction>
         ensures some { IfSome result (IsFunction self.now.code number) }
         ensures none { result ≡ None → slice_get self.now.code.code.functions.items number ≡ None }
     {

@@ -3,7 +3,7 @@ use Rattle.std.proofs.Common.{◌≡◌, ℕ, zero, suc, ◌≤◌, List, Bool, 
 use Rattle.fip_language.specs.Values.{Value, Values}
 use Rattle.fip_language.specs.Matching.{Binding}
 use Rattle.fip_language.specs.Meaning.{Answer, Gives, Trap, Out, Deep, Stuck, Run, after, above, go_on, then_with, in_frame, with_value, with_values, if_matches}
-use Rattle.fip_language.specs.Laws.{AtMost}
+use Rattle.fip_language.specs.Theorems.{AtMost}
 
 go_on-same : (k : ℕ) (a : Answer) (go go' : Values → ℕ → Run) → AtMost k a → ((vs : Values) (left : ℕ) → left ≤ k → go vs left ≡ go' vs left) → go_on a go ≡ go_on a go'
 go_on-same k (Gives vs left) go go' h same = same vs left h

@@ -10,7 +10,7 @@ use Rattle.fip_language.specs.Arithmetic.{Operated, Is, Fails, operate}
 use Rattle.fip_language.specs.Registers.{frame_words}
 use Rattle.fip_language.specs.Statics.{Closed, Closeds, ClosedInt, ClosedName, Instance, callee}
 use Rattle.fip_language.specs.Meaning.{Answer, Gives, Trap, Out, Deep, Stuck, Run, ends, go_on, counted, in_frame, Environment, nothing_bound, bind_matched, bind_binders, bind_parameters, argument_value, argument_values, with_value, with_values, operated, operation, if_matches, Calls, eval, eval_block, eval_clauses, body_run, function_run, calls_of, evaluate, meaning}
-use Rattle.fip_language.specs.Laws.{AtMost}
+use Rattle.fip_language.specs.Theorems.{AtMost}
 
 pub AtMost-wider : (j k : ℕ) (a : Answer) → j ≤ k → AtMost j a → AtMost k a
 AtMost-wider j k (Gives vs left) le h = omega arith

@@ -1,4 +1,4 @@
--- Laws of what holds of every item of a list.
+-- Theorems of what holds of every item of a list.
 use Rattle.std.proofs.Common.{◌≡◌, ℕ, zero, suc, List, [], ◌∷◌, ◌++◌, Some, subst, slice_get}
 use Rattle.fip_language.specs.Every.{Every}
 

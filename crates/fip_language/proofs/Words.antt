@@ -1,4 +1,4 @@
--- Laws of the words on lists.
+-- Theorems of the words on lists.
 use Rattle.std.proofs.Common.{◌≡◌, inl, inr, ℕ, zero, suc, List, [], ◌∷◌, map, Some, refl, sym, ap, subst}
 use Rattle.std.specs.Prelude.{slice_get}
 use Rattle.fip_language.specs.Every.{Every, Among}

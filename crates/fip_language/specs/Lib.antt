@@ -25,5 +25,5 @@ pub mod RuleOrder
 pub mod CallSites
 pub mod Stack
 pub mod Gauge
-pub mod Laws
+pub mod Theorems
 pub mod Example

@@ -158,7 +158,7 @@ if_matches (Some bs) go other = go bs
 abbrev pub Calls : Type 0
 Calls = ℕ → Closed → Values → ℕ → Run
 
--- the evaluation of an expression in an instance, over what calls give: the flag tells tail position, d is the number
+-- the evaluation of an expression in an instance, over what calls give: the flag reports tail position, d is the number
 -- of free frames and k that of the calls left
 abbrev mutual
   pub eval : Core → Calls → Instance → Expression → Bool → ℕ → Environment → ℕ → Run

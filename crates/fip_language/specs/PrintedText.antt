@@ -1,6 +1,6 @@
--- The canonical text of values: a line for each, ended by an LF; one space behind each comma and no other blank; an
+-- The canonical text of values: a line for each, ended by an LF; one space after each comma and no other blank; an
 -- int without a + and without leading zeros. Cons(1, Nil) is printed just so.
--- Each function is given the text that comes behind.
+-- Each function is given the text that comes after.
 use Rattle.std.specs.Prelude.{ℕ, zero, suc, List, [], ◌∷◌, ◌++◌}
 use Rattle.std.specs.Fmt.{signed_decimal}
 use Rattle.fip_language.specs.Values.{Value, Int, Node, Values, End, More}
@@ -21,13 +21,13 @@ abbrev mutual
   printed tb (suc t) (Node c vs) rest = (shape_at (shapes tb t) c).name
       ++ printed_fields tb (shape_at (shapes tb t) c).fields vs rest
 
-  -- the fields behind a constructor's name: 40 is (
+  -- the fields after a constructor's name: 40 is (
   pub printed_fields : Table → List ℕ → Values → List ℕ → List ℕ
   printed_fields tb [] vs rest = rest
   printed_fields tb (k ∷ ks) End rest = rest
   printed_fields tb (k ∷ ks) (More v vs) rest = 40 ∷ printed tb k v (printed_more tb ks vs rest)
 
-  -- the fields behind a field: 44 is a comma, 32 a space, 41 is )
+  -- the fields after a field: 44 is a comma, 32 a space, 41 is )
   pub printed_more : Table → List ℕ → Values → List ℕ → List ℕ
   printed_more tb [] vs rest = 41 ∷ rest
   printed_more tb (k ∷ ks) End rest = 41 ∷ rest

@@ -1,7 +1,7 @@
 -- The text of values, as it is read: a line for each parameter, in order.
 -- A constructor without fields is its name, one with fields Name(v, v). An int is digits, with a - directly before
--- them where it is negative; it may have leading zeros. Blanks may stand before each token and behind a value. An LF
--- ends a line, and may miss after the last; behind the last value only blanks and LFs come. A function without
+-- them where it is negative; it may have leading zeros. Blanks may stand before each token and after a value. An LF
+-- ends a line, and may miss after the last; after the last value only blanks and LFs come. A function without
 -- parameters takes blanks and LFs alone.
 -- So for two parameters, a list and an int, `Cons(1 ,Nil)`, LF, `-007` is a text, and `Cons(1,Nil)  -7` is none.
 -- A relation `XText .. cs x rest` says: the characters cs are the text of x, and then rest.
@@ -17,7 +17,7 @@ skip [] = []
 skip (Blank ∷ cs) = skip cs
 skip (c ∷ cs) = c ∷ cs
 
--- the name in front, as long as it goes, and what is behind it
+-- the name in front, as long as it goes, and what is after it
 abbrev pub name_of : List Character → List Character
 name_of [] = []
 name_of (Digit d ∷ cs) = Digit d ∷ name_of cs
@@ -30,7 +30,7 @@ after_name (Digit d ∷ cs) = after_name cs
 after_name (Letter b ∷ cs) = after_name cs
 after_name (c ∷ cs) = c ∷ cs
 
--- the number n with the digits in front written behind it, as many as come, and what is behind them
+-- the number n with the digits in front written after it, as many as come, and what is after them
 abbrev pub number : ℕ → List Character → ℕ
 number n [] = n
 number n (Digit d ∷ cs) = number (10 * n + d) cs
@@ -41,7 +41,7 @@ after_number [] = []
 after_number (Digit d ∷ cs) = after_number cs
 after_number (c ∷ cs) = c ∷ cs
 
--- the greatest number behind a -, and without one
+-- the greatest number after a -, and without one
 abbrev pub bound : Bool → ℕ
 bound true = 2 ^ 63
 bound false = 2 ^ 63 - 1
@@ -69,7 +69,7 @@ abbrev mutual
   ValueText tb (suc t) cs (Node c vs) rest = (s : Shape) × (slice_get (shapes tb t) c ≡ Some s)
       × (name_of (skip cs) ≡ characters s.name) × FieldsText tb s.fields (after_name (skip cs)) vs rest
 
-  -- the fields behind a constructor's name
+  -- the fields after a constructor's name
   pub FieldsText : Table → List ℕ → List Character → Values → List Character → Type 0
   FieldsText tb [] cs End rest = cs ≡ rest
   FieldsText tb [] cs (More v vs) rest = ⊥
@@ -77,7 +77,7 @@ abbrev mutual
   FieldsText tb (k ∷ ks) cs (More v vs) rest = (inner : List Character) × (after : List Character)
       × (skip cs ≡ Open ∷ inner) × ValueText tb k inner v after × MoreText tb ks after vs rest
 
-  -- the fields behind a field
+  -- the fields after a field
   pub MoreText : Table → List ℕ → List Character → Values → List Character → Type 0
   MoreText tb [] cs End rest = skip cs ≡ Close ∷ rest
   MoreText tb [] cs (More v vs) rest = ⊥
@@ -92,7 +92,7 @@ AllBlank (Blank ∷ cs) = AllBlank cs
 AllBlank (Line ∷ cs) = AllBlank cs
 AllBlank (c ∷ cs) = ⊥
 
--- the lines behind a value
+-- the lines after a value
 abbrev pub LinesText : Table → List ℕ → List Character → Values → Type 0
 LinesText tb [] cs End = AllBlank cs
 LinesText tb [] cs (More v vs) = ⊥

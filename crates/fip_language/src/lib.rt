@@ -1,5 +1,5 @@
 // The plain types of the language that take no memory. Its limits are in `limits`. The language itself is defined in
-// specs/; its laws are in `laws`.
+// specs/; its theorems are in `theorems`.
 #![tactic(auto)]
 
 ghost use Rattle.std.specs.Prelude.{◌≡◌};

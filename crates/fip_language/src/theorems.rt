@@ -1,4 +1,4 @@
-// The laws of the definitions. Each is the contract of a function that does nothing.
+// The theorems of the definitions. Each is the contract of a function that does nothing.
 ghost use Rattle.std.specs.Prelude.{◌≡◌, ◌≢◌, ℕ, suc, ◌+◌, ◌≤◌, List, Some};
 ghost use Rattle.fip_language.specs.Values.{Values, End, More};
 ghost use Rattle.fip_language.specs.Core.{Name, Function, Core};
@@ -9,12 +9,12 @@ ghost use Rattle.fip_language.specs.Meaning.{Gives, Out, Deep, ends, meaning};
 ghost use Rattle.fip_language.specs.Stack.{AreFrames, AreWords};
 ghost use Rattle.fip_language.specs.Prefix.{IsPlace};
 ghost use Rattle.fip_language.specs.Example.{rev, reversing, empty, pair, three, three_reversed};
-ghost use Rattle.fip_language.specs.Laws.{AtMost};
+ghost use Rattle.fip_language.specs.Theorems.{AtMost};
 
 /// An evaluation never leaves more calls than it was given. For who reads the meaning: no call is made up.
 #[tactic(auto, using(crate::proofs::Left::meaning_left))]
 pub fn calls_never_rise()
-    ensures law { (core : Core) (name : Name) (given : Closeds) (arguments : Values) (calls frames : ℕ) →
+    ensures theorem { (core : Core) (name : Name) (given : Closeds) (arguments : Values) (calls frames : ℕ) →
         AtMost calls (meaning core name given arguments calls frames).answer }
 {}
 
@@ -32,7 +32,7 @@ pub fn an_entry_costs_a_call()
 /// who was out of calls and gives more of them.
 #[tactic(auto, using(crate::proofs::More::more_calls))]
 pub fn more_calls_keep_the_values()
-    ensures law { (core : Core) (name : Name) (given : Closeds) (arguments : Values) (calls frames more : ℕ)
+    ensures theorem { (core : Core) (name : Name) (given : Closeds) (arguments : Values) (calls frames more : ℕ)
         (results : Values) (left : ℕ) → (meaning core name given arguments calls frames).answer ≡ Gives results left →
         meaning core name given arguments (calls + more) frames ≡ record {
           answer = Gives results (left + more);
@@ -45,7 +45,7 @@ pub fn more_calls_keep_the_values()
 /// changes no value.
 #[tactic(auto, using(crate::proofs::Frames::more_frames))]
 pub fn more_frames_keep_the_run()
-    ensures law { (core : Core) (name : Name) (given : Closeds) (arguments : Values) (calls frames more : ℕ) →
+    ensures theorem { (core : Core) (name : Name) (given : Closeds) (arguments : Values) (calls frames more : ℕ) →
         (meaning core name given arguments calls frames).answer ≢ Deep →
         meaning core name given arguments calls (frames + more) ≡ meaning core name given arguments calls frames }
 {}
@@ -53,14 +53,14 @@ pub fn more_frames_keep_the_run()
 /// No evaluation holds more frames than were free. For who builds a stack.
 #[tactic(auto, using(crate::proofs::Peak::peak_within))]
 pub fn held_frames_were_free()
-    ensures law { (core : Core) (name : Name) (given : Closeds) (arguments : Values) (calls frames : ℕ) →
+    ensures theorem { (core : Core) (name : Name) (given : Closeds) (arguments : Values) (calls frames : ℕ) →
         (meaning core name given arguments calls frames).peak.frames ≤ frames }
 {}
 
 /// A function that is entered has its own frame on the stack. For who reads the peak.
 #[tactic(auto, using(crate::proofs::Peak::peak_of_entry))]
 pub fn an_entry_has_its_frame()
-    ensures law { (core : Core) (name : Name) (given : Closeds) (arguments : Values) (calls frames : ℕ) (f : Function) →
+    ensures theorem { (core : Core) (name : Name) (given : Closeds) (arguments : Values) (calls frames : ℕ) (f : Function) →
         function_of core name ≡ Some f → frame_words
         f ≤ (meaning core name given arguments (suc calls) frames).peak.words }
 {}
@@ -75,7 +75,7 @@ pub fn a_bound_is_one_number()
 /// frame and its stack has 9 words. For who wants to see the numbers.
 #[tactic(auto, using(crate::proofs::Examples::rev_of_three))]
 pub fn an_example_runs()
-    ensures law { meaning reversing rev.name NoClosed (pair three empty) 10 0
+    ensures theorem { meaning reversing rev.name NoClosed (pair three empty) 10 0
         ≡ record { answer = Gives (More three_reversed End) 6; peak = record { frames = 0; words = 9 } } }
 {}
 
@@ -89,7 +89,7 @@ pub trait Grammar {
 }
 
 /// In every grammar a text goes wrong at one place at most, and not at all where it is the text of something. For who
-/// is told the place.
+/// is reported the place.
 pub fn a_text_goes_wrong_at_one_place<G: Grammar>()
     ensures one { (text : List G.Item) (t u : ℕ) → IsPlace G.spells text t → IsPlace G.spells text u → t ≡ u }
     ensures none { (text : List G.Item) (t : ℕ) (x : G.Meant) → IsPlace G.spells text t → G.spells text x → ⊥ }

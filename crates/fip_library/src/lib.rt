@@ -22,7 +22,7 @@ use fip_base::refusal::PhaseError;
 use fip_core::core_of::core_of;
 use fip_parser::parser::{ParseError, parse};
 use fip_trees::program::{Flat, Typed};
-pub use library_correctness as laws;
+pub use library_correctness as theorems;
 pub use library_sources::text;
 use static_params::specialise;
 use std::alloc::Global;

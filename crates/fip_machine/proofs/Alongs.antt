@@ -1,5 +1,5 @@
 -- A step of a task leads from a moment of the run that the definition says to the next one.
--- The idea: what a step came to is told by what the definition says comes next; then each way that a next state may come
+-- The idea: what a step came to is reported by what the definition says comes next; then each way that a next state may come
 -- about is a case. Where no call is left, a call ends the run, and nothing else does so.
 use Rattle.std.proofs.Common.{◌≡◌, ◌≢◌, ◌⊎◌, inl, inr, ℕ, zero, suc, ◌+◌, ◌-◌, ◌<◌, ◌≤◌, length, take, Bool, true, false, List, [], ◌∷◌, Option, Some, None, refl, sym, ap, subst, ◌∙◌, arith}
 use Rattle.std.specs.Prelude.{option_and_then, not}
@@ -238,13 +238,13 @@ stuck_to o t left k r u w s l n e code knows small empty measured ends =
     came_to o t left (suc k) r u w code knows small empty measured ends (λ same. stuck_on o k s l n (HasMost o (suc k) u) e) (subst (λ (m : Run). CameIn m left (calls_next o.code t) r (state_in o u w) u.given) (sym on) (came_stuck s l n left (calls_next o.code t) r (state_in o u w) u.given))
 
 pub stepped : (o : Origin) (t : Stand) (s : Stored) (left : ℕ) (r : Stepped) (u : Stand) (w : Stored) → IsAlong o t s left → u.code ≡ t.code → (IsSmall s.cells → IsSmall w.cells) → (s.pushed ≡ [] → w.pushed ≡ []) → IsMeasured u → (t.ended ≡ None → IsRaised t u) → (t.ended ≡ None → u.ended ≡ ended_by r) → (KnowsAt t.code o.kinds t.running.function t.running.at → t.ended ≡ None → IsSmall s.cells → s.pushed ≡ [] → Comes (state_in o t s) (next o.kinds (plain t.code.code) (state_in o t s)) r (state_in o u w) u.given) → CameTo o left (calls_next t.code t) r u w
-stepped o t s left r u w a code small pushed measured raised ends told =
+stepped o t s left r u w a code small pushed measured raised ends reported =
     let old = state_in o t s in
     let new = state_in o u w in
     let came : CameTo o left (calls_next o.code t) r u w = elim (known_or_stuck o a.steps left old a.knows a.run) [
       | inl known ↦ (
           let knows : KnowsAt t.code o.kinds t.running.function t.running.at = subst (λ (v : Checked). KnowsAt v o.kinds t.running.function t.running.at) (sym a.code) known in
-          let here : Comes old (next o.kinds (plain o.code.code) old) r new u.given = subst (λ (v : Checked). Comes old (next o.kinds (plain v.code) old) r new u.given) a.code (told knows a.going a.small a.empty) in
+          let here : Comes old (next o.kinds (plain o.code.code) old) r new u.given = subst (λ (v : Checked). Comes old (next o.kinds (plain v.code) old) r new u.given) a.code (reported knows a.going a.small a.empty) in
           came_to o t left (suc a.steps) r u w (code ∙ a.code) a.knows (small a.small) (pushed a.empty) measured (λ e. ends a.going ∙ e) (most_next o a.steps left old t u w a.run a.most measured (raised a.going)) (came_next o a.steps left old r new u.given a.run here))
       | inr z ↦ stuck_to o t left a.steps r u w z.0 z.1 z.2 z.3 (code ∙ a.code) a.knows (small a.small) (pushed a.empty) measured (λ e. ends a.going ∙ e)
     ] in
@@ -253,13 +253,13 @@ stepped o t s left r u w a code small pushed measured raised ends told =
 -- a step, with something that is said of the steps after it: where its Drop was known, or an instruction could not be
 -- done
 pub stepped_with : (X : ℕ → Type 0) (o : Origin) (t : Stand) (s : Stored) (left : ℕ) (r : Stepped) (u : Stand) (w : Stored) (a : IsAlong o t s left) → u.code ≡ t.code → (IsSmall s.cells → IsSmall w.cells) → (s.pushed ≡ [] → w.pushed ≡ []) → IsMeasured u → (t.ended ≡ None → IsRaised t u) → (t.ended ≡ None → u.ended ≡ ended_by r) → (KnowsAt t.code o.kinds t.running.function t.running.at → t.ended ≡ None → IsSmall s.cells → s.pushed ≡ [] → Comes (state_in o t s) (next o.kinds (plain t.code.code) (state_in o t s)) r (state_in o u w) u.given) → (KnowsAt t.code o.kinds t.running.function t.running.at → X (suc a.steps)) → ((z : State) (l n : ℕ) → at_step o a.steps ≡ Over Unsound z l n → X (suc a.steps)) → CameWith X o left (calls_next t.code t) r u w
-stepped_with X o t s left r u w a code small pushed measured raised ends told said stuck =
+stepped_with X o t s left r u w a code small pushed measured raised ends reported said stuck =
     let old = state_in o t s in
     let new = state_in o u w in
     let came : CameWith X o left (calls_next o.code t) r u w = elim (known_or_stuck o a.steps left old a.knows a.run) [
       | inl known ↦ (
           let knows : KnowsAt t.code o.kinds t.running.function t.running.at = subst (λ (v : Checked). KnowsAt v o.kinds t.running.function t.running.at) (sym a.code) known in
-          let here : Comes old (next o.kinds (plain o.code.code) old) r new u.given = subst (λ (v : Checked). Comes old (next o.kinds (plain v.code) old) r new u.given) a.code (told knows a.going a.small a.empty) in
+          let here : Comes old (next o.kinds (plain o.code.code) old) r new u.given = subst (λ (v : Checked). Comes old (next o.kinds (plain v.code) old) r new u.given) a.code (reported knows a.going a.small a.empty) in
           came_with X o t left (suc a.steps) r u w (code ∙ a.code) a.knows (small a.small) (pushed a.empty) measured (λ e. ends a.going ∙ e) (most_next o a.steps left old t u w a.run a.most measured (raised a.going)) (said knows) (came_next o a.steps left old r new u.given a.run here))
       | inr z ↦ (
           let on : at_step o (suc a.steps) ≡ Over Unsound z.0 z.1 z.2 = after_later o.kinds (plain o.code.code) a.steps (begun o.first o.calls) ∙ ap (later o.kinds (plain o.code.code)) z.3 in
@@ -307,12 +307,12 @@ turned_to o t left steps r u w old code knows small empty measured raised going 
     by S.Deep m = last S.Deep m (λ e. cc)
 
 pub turned : (o : Origin) (t : Stand) (s : Stored) (left : ℕ) (r : Stepped) (u : Stand) (w : Stored) → IsAlong o t s left → u.code ≡ t.code → (IsSmall s.cells → IsSmall w.cells) → (s.pushed ≡ [] → w.pushed ≡ []) → IsMeasured u → IsRaised t u → u.ended ≡ None → (KnowsAt t.code o.kinds t.running.function t.running.at → IsSmall s.cells → s.pushed ≡ [] → ComesWithMore o.kinds (plain t.code.code) (state_in o t s) (next o.kinds (plain t.code.code) (state_in o t s)) r (state_in o u w) u.given) → CameTo o left (calls_next t.code t) r u w
-turned o t s left r u w a code small pushed measured raised going told =
+turned o t s left r u w a code small pushed measured raised going reported =
     let old = state_in o t s in
     let came : CameTo o left (calls_next o.code t) r u w = elim (known_or_stuck o a.steps left old a.knows a.run) [
       | inl known ↦ (
           let knows : KnowsAt t.code o.kinds t.running.function t.running.at = subst (λ (v : Checked). KnowsAt v o.kinds t.running.function t.running.at) (sym a.code) known in
-          let here : ComesWithMore o.kinds (plain o.code.code) old (next o.kinds (plain o.code.code) old) r (state_in o u w) u.given = subst (λ (v : Checked). ComesWithMore o.kinds (plain v.code) old (next o.kinds (plain v.code) old) r (state_in o u w) u.given) a.code (told knows a.small a.empty) in
+          let here : ComesWithMore o.kinds (plain o.code.code) old (next o.kinds (plain o.code.code) old) r (state_in o u w) u.given = subst (λ (v : Checked). ComesWithMore o.kinds (plain v.code) old (next o.kinds (plain v.code) old) r (state_in o u w) u.given) a.code (reported knows a.small a.empty) in
           turned_to o t left a.steps r u w old (code ∙ a.code) a.knows (small a.small) (pushed a.empty) measured raised going refl a.run a.most here)
       | inr z ↦ stuck_to o t left a.steps r u w z.0 z.1 z.2 z.3 (code ∙ a.code) a.knows (small a.small) (pushed a.empty) measured (λ e. going)
     ] in

@@ -1,12 +1,12 @@
 -- What a recorder keeps, step by step.
 -- The idea: a step that goes on adds the events of its instruction to those of the steps before, which is just what the
--- recorder is told.
+-- recorder is reported.
 use Rattle.std.proofs.Common.{◌≡◌, ℕ, zero, suc, ◌+◌, List, [], ◌∷◌, ◌++◌, map, refl, sym, ap, subst, ◌∙◌, arith}
 use Rattle.std.proofs.lemmas.List.{append_assoc, append-nil, map-append}
 use Rattle.cell_store.specs.Made.{Stored}
 use Rattle.cell_trace.specs.declared.tape.Tape.{Tape}
 use Rattle.cell_trace.specs.Traced.{Standing, Noted, standing_from}
-use Rattle.cell_trace.specs.Taped.{Recorded, IsTape, WasTold}
+use Rattle.cell_trace.specs.Taped.{Recorded, IsTape, WasReported}
 use Rattle.machine_cells.specs.machine_semantics.Codes.{PlainCode, plain}
 use Rattle.machine_cells.specs.machine_semantics.Cells.{Change}
 use Rattle.machine_cells.specs.machine_semantics.States.{State, Next, Went, Entered, Gave, Trapped, TooDeep, Stuck}
@@ -14,8 +14,8 @@ use Rattle.machine_cells.specs.machine_semantics.Steps.{Kinds, next, changes_of}
 use Rattle.machine_cells.specs.machine_semantics.Runs.{Value, Trap, Out, Deep, Unsound, Run, Going, Over, begun, comes, later, after}
 use Rattle.machine_cells.specs.machine_semantics.Traces.{events_of, done_changes, events}
 use Rattle.machine_cells.proofs.machine_semantics.Stays.{over_stays}
-use Rattle.machine_cells.specs.Telling.{as_told}
-use Rattle.machine_step.specs.Telling.{IsKnown, next_tells}
+use Rattle.machine_cells.specs.Telling.{as_reported}
+use Rattle.machine_step.specs.Telling.{IsKnown, next_reports}
 use Rattle.fip_machine.specs.declared.machine.Ended.{Ended}
 use Rattle.fip_machine.specs.declared.machine.Ended.TheVariants as M
 use Rattle.fip_machine.specs.Tasks.{Stand}
@@ -36,10 +36,10 @@ events_last kinds code (suc k) (Going z m i) s l j e =
     ap (λ es. one ++ es) (events_last kinds code k r s l j e) ∙ sym (append_assoc one (events kinds code k r) (events_of (suc j) (done_changes (changes_of kinds code s) (next kinds code s))))
 events_last kinds code (suc k) (Over x z m i) s l j e = let same : Over x z m i ≡ Going s l j = sym (over_stays kinds code (suc k) x z m i) ∙ e in absurd cc
 
--- as a store is told of them
-notes_of : (n : ℕ) (cs : List Change) → map noted (events_of n cs) ≡ map (λ t. record { step = n; told = t }) (map as_told cs)
+-- as a store is reported of them
+notes_of : (n : ℕ) (cs : List Change) → map noted (events_of n cs) ≡ map (λ t. record { step = n; reported = t }) (map as_reported cs)
 notes_of n [] = refl
-notes_of n (c ∷ cs) = ap (λ xs. record { step = n; told = as_told c } ∷ xs) (notes_of n cs)
+notes_of n (c ∷ cs) = ap (λ xs. record { step = n; reported = as_reported c } ∷ xs) (notes_of n cs)
 
 -- where something comes
 
@@ -64,8 +64,8 @@ steps_come s (suc l) j TooDeep = refl
 steps_come s l j Stuck = refl
 
 -- a step more is kept
-pub tape_next : (o : Origin) (limit k left : ℕ) (old : State) (first mid now : Tape) → IsGoing (at_step o k) old left → ((cs : List Standing) (es : List Noted) (n l : ℕ) → IsTape cs es n l first → IsTape cs es (n + 1) l mid) → (IsKnown (next o.kinds (plain o.code.code) old) → WasTold mid (next_tells o.kinds (plain o.code.code) old) now) → HasTape o limit first k → HasTape o limit now (suc k)
-tape_next o limit k left old first mid now going counted told has = by (at_step o k) refl going has
+pub tape_next : (o : Origin) (limit k left : ℕ) (old : State) (first mid now : Tape) → IsGoing (at_step o k) old left → ((cs : List Standing) (es : List Noted) (n l : ℕ) → IsTape cs es n l first → IsTape cs es (n + 1) l mid) → (IsKnown (next o.kinds (plain o.code.code) old) → WasReported mid (next_reports o.kinds (plain o.code.code) old) now) → HasTape o limit first k → HasTape o limit now (suc k)
+tape_next o limit k left old first mid now going counted reported has = by (at_step o k) refl going has
   where
     code : PlainCode
     code = plain o.code.code
@@ -77,13 +77,13 @@ tape_next o limit k left old first mid now going counted told has = by (at_step 
         subst (λ m. UnlessStuck m (Taped o limit (suc k) now)) (sym on) (unless_comes s l (suc j) (next o.kinds code s) (Taped o limit (suc k) now) (λ known.
         let cells = standing_from 0 o.first.store.cells in
         let es = notes o.kinds code o.first o.calls k in
-        let tells = next_tells o.kinds code s in
+        let reports = next_reports o.kinds code s in
         let step : k + 1 ≡ suc k = omega arith in
         let ready : IsTape cells es (suc k) limit mid = subst (λ n. IsTape cells es n limit mid) step (counted cells es k limit t.tape) in
-        let was : WasTold mid tells now = subst (λ (z : State). IsKnown (next o.kinds code z) → WasTold mid (next_tells o.kinds code z) now) h.0 told known in
-        let grown : IsTape cells (es ++ map (λ u. record { step = suc k; told = u }) tells) (suc k) limit now = was cells es (suc k) limit ready in
+        let was : WasReported mid reports now = subst (λ (z : State). IsKnown (next o.kinds code z) → WasReported mid (next_reports o.kinds code z) now) h.0 reported known in
+        let grown : IsTape cells (es ++ map (λ u. record { step = suc k; reported = u }) reports) (suc k) limit now = was cells es (suc k) limit ready in
         let last = events_last o.kinds code k (begun o.first o.calls) s l j e in
-        let same : es ++ map (λ u. record { step = suc k; told = u }) tells ≡ notes o.kinds code o.first o.calls (suc k) = ap (λ fs. es ++ fs) (sym (notes_of (suc k) (done_changes (changes_of o.kinds code s) (next o.kinds code s))) ∙ ap (λ n. map noted (events_of (suc n) (done_changes (changes_of o.kinds code s) (next o.kinds code s)))) (sym count)) ∙ sym (map-append noted (events o.kinds code k (begun o.first o.calls)) (events_of (suc j) (done_changes (changes_of o.kinds code s) (next o.kinds code s)))) ∙ ap (map noted) (sym last) in
+        let same : es ++ map (λ u. record { step = suc k; reported = u }) reports ≡ notes o.kinds code o.first o.calls (suc k) = ap (λ fs. es ++ fs) (sym (notes_of (suc k) (done_changes (changes_of o.kinds code s) (next o.kinds code s))) ∙ ap (λ n. map noted (events_of (suc n) (done_changes (changes_of o.kinds code s) (next o.kinds code s)))) (sym count)) ∙ sym (map-append noted (events o.kinds code k (begun o.first o.calls)) (events_of (suc j) (done_changes (changes_of o.kinds code s) (next o.kinds code s)))) ∙ ap (map noted) (sym last) in
         record {
           count = ap steps_of on ∙ steps_come s l (suc j) (next o.kinds code s) ∙ ap suc count;
           tape = subst (λ fs. IsTape cells fs (suc k) limit now) same grown;

@@ -22,7 +22,7 @@ use Rattle.fip_machine.specs.declared.machine.Ended.TheVariants as M
 use Rattle.fip_machine.specs.Tasks.{Stand, IsMeasured, IsFresh, state_with}
 use Rattle.fip_machine.specs.Machines.{Seen}
 use Rattle.fip_machine.specs.Ending.{KnowsRun, IsOver, RunsTo}
-use Rattle.fip_machine.specs.GaugeView.{lowered, IsUnseen, Tells, TellsOver, TellsRun}
+use Rattle.fip_machine.specs.GaugeView.{lowered, IsUnseen, Reports, ReportsOver, ReportsRun}
 use Rattle.fip_machine.specs.Along.{Origin, at_step, UnlessStuck, seen_to, HasMost, state_in, IsReady, IsAlong, HasRun}
 use Rattle.cell_trace.specs.declared.error.TraceError.{TraceError}
 use Rattle.cell_trace.specs.declared.trace.Trace.{Trace}
@@ -121,8 +121,8 @@ first_words kinds code zero (Over e s left m) = omega arith
 first_words kinds code (suc n) (Over e s left m) = omega arith
 
 -- two looks tell of all states
-tells : (kinds : Kinds) (lent : List Typed) (t u : Stand) (s w : Stored) (calls n : ℕ) (g h i : Gauge) → IsUnseen g → Saw g h s.cells s.released t.frames t.words → Saw h i w.cells w.released u.most_frames u.most_words → IsMeasured t → IsFresh t → state_of (at_step (origin_of kinds lent t s calls) n) ≡ state_in (origin_of kinds lent t s calls) u w → HasMost (origin_of kinds lent t s calls) n u → Tells i (seen_to (origin_of kinds lent t s calls) n)
-tells kinds lent t u s w calls n g h i unseen first last measured fresh there most = record {
+reports : (kinds : Kinds) (lent : List Typed) (t u : Stand) (s w : Stored) (calls n : ℕ) (g h i : Gauge) → IsUnseen g → Saw g h s.cells s.released t.frames t.words → Saw h i w.cells w.released u.most_frames u.most_words → IsMeasured t → IsFresh t → state_of (at_step (origin_of kinds lent t s calls) n) ≡ state_in (origin_of kinds lent t s calls) u w → HasMost (origin_of kinds lent t s calls) n u → Reports i (seen_to (origin_of kinds lent t s calls) n)
+reports kinds lent t u s w calls n g h i unseen first last measured fresh there most = record {
   lowest = λ k low high.
       let j : k - 1 < MOST_FIELDS = omega (arith, low, high) in
       let a = ends k low high in
@@ -175,19 +175,19 @@ tells kinds lent t u s w calls n g h i unseen first last measured fresh there mo
     ends : (k : ℕ) → 1 ≤ k → k ≤ MOST_FIELDS → held k (after kinds code n r) ≤ held k r
     ends k low high = (let top = held_last kinds code k n r in let most = highest_is_first kinds code k low n r in omega (arith, top, most))
 
-over_tells : (m : Run) (e : Ended) (new : State) (given : List ℕ) (i : Gauge) (ss : List G.Seen) (P : Type 0) → IsOver m e new given → UnlessStuck m (state_of m ≡ new) → UnlessStuck m P → (state_of m ≡ new → P → Tells i ss) → TellsOver m i ss
-over_tells (Going s left n) e new given i ss P h there p f = absurd h
-over_tells (Over (Value ws) s left n) e new given i ss P h there p f = f there p
-over_tells (Over (Trap kind line col) s left n) e new given i ss P h there p f = f there p
-over_tells (Over Out s left n) e new given i ss P h there p f = f there p
-over_tells (Over Deep s left n) e new given i ss P h there p f = f there p
-over_tells (Over Unsound s left n) e new given i ss P h there p f = tt
+over_reports : (m : Run) (e : Ended) (new : State) (given : List ℕ) (i : Gauge) (ss : List G.Seen) (P : Type 0) → IsOver m e new given → UnlessStuck m (state_of m ≡ new) → UnlessStuck m P → (state_of m ≡ new → P → Reports i ss) → ReportsOver m i ss
+over_reports (Going s left n) e new given i ss P h there p f = absurd h
+over_reports (Over (Value ws) s left n) e new given i ss P h there p f = f there p
+over_reports (Over (Trap kind line col) s left n) e new given i ss P h there p f = f there p
+over_reports (Over Out s left n) e new given i ss P h there p f = f there p
+over_reports (Over Deep s left n) e new given i ss P h there p f = f there p
+over_reports (Over Unsound s left n) e new given i ss P h there p f = tt
 
-pub tells_run : (m : Seen) (t : Stand) (s : Stored) (calls : ℕ) (e : Ended) (u : Stand) (w : Stored) (g h i : Gauge) → seen_of t s ≡ m → IsMeasured t → HasRan t s calls e u w → Saw g h s.cells s.released t.frames t.words → Saw h i w.cells w.released u.most_frames u.most_words → IsUnseen g → (kinds : Kinds) (lent : List Typed) → KnowsRun m.stack.code kinds (state_with m.stack lent m.store) calls → IsFresh m.stack → IsSmall m.store.cells → m.pushed ≡ [] → TellsRun kinds (plain m.stack.code.code) (state_with m.stack lent m.store) calls i
-tells_run m t s calls e u w g h i view measured ran first last unseen = subst (λ (q : Seen). (kinds : Kinds) (lent : List Typed) → KnowsRun q.stack.code kinds (state_with q.stack lent q.store) calls → IsFresh q.stack → IsSmall q.store.cells → q.pushed ≡ [] → TellsRun kinds (plain q.stack.code.code) (state_with q.stack lent q.store) calls i) view (λ kinds lent knows fresh small empty.
+pub reports_run : (m : Seen) (t : Stand) (s : Stored) (calls : ℕ) (e : Ended) (u : Stand) (w : Stored) (g h i : Gauge) → seen_of t s ≡ m → IsMeasured t → HasRan t s calls e u w → Saw g h s.cells s.released t.frames t.words → Saw h i w.cells w.released u.most_frames u.most_words → IsUnseen g → (kinds : Kinds) (lent : List Typed) → KnowsRun m.stack.code kinds (state_with m.stack lent m.store) calls → IsFresh m.stack → IsSmall m.store.cells → m.pushed ≡ [] → ReportsRun kinds (plain m.stack.code.code) (state_with m.stack lent m.store) calls i
+reports_run m t s calls e u w g h i view measured ran first last unseen = subst (λ (q : Seen). (kinds : Kinds) (lent : List Typed) → KnowsRun q.stack.code kinds (state_with q.stack lent q.store) calls → IsFresh q.stack → IsSmall q.store.cells → q.pushed ≡ [] → ReportsRun kinds (plain q.stack.code.code) (state_with q.stack lent q.store) calls i) view (λ kinds lent knows fresh small empty.
     let o = origin_of kinds lent t s calls in
     let r = run_from t s calls e u w measured ran kinds lent knows fresh.going small empty in
-    (r.0, over_tells (at_step o r.0) e (state_in o u w) u.given i (seen_to o r.0) (HasMost o r.0 u) r.1 (over_state (at_step o r.0) e (state_in o u w) u.given r.1) r.2 (λ there most. tells kinds lent t u s w calls r.0 g h i unseen first last measured fresh there most)))
+    (r.0, over_reports (at_step o r.0) e (state_in o u w) u.given i (seen_to o r.0) (HasMost o r.0 u) r.1 (over_state (at_step o r.0) e (state_in o u w) u.given r.1) r.2 (λ there most. reports kinds lent t u s w calls r.0 g h i unseen first last measured fresh there most)))
 
 pub saw : (g h : Gauge) (cells : Cells) (released : List Bool) (frames words f w : ℕ) (counts : List ℕ) → ((k : ℕ) → k < MOST_FIELDS → slice_index_or h.lowest k 0 ≡ lowered g.seen (slice_index_or g.lowest k 0) (slice_index_or counts k 0)) → ((k : ℕ) → k < MOST_FIELDS → slice_index_or h.highest k 0 ≡ max (slice_index_or g.highest k 0) (slice_index_or counts k 0)) → h.frames ≡ max g.frames f → h.words ≡ max g.words w → h.seen ≡ true → ((k : ℕ) → k < MOST_FIELDS → slice_index_or counts k 0 ≡ count_live (k + 1) cells released) → f ≡ frames → w ≡ words → Saw g h cells released frames words
 saw g h cells released frames words f w counts lowest highest most_frames most_words seen are fs ws = record {
@@ -198,11 +198,11 @@ saw g h cells released frames words f w counts lowest highest most_frames most_w
   seen = seen;
 }
 
--- a run without a call, of which one look tells
-pub tells_none : (m : Seen) (t : Stand) (s : Stored) (calls : ℕ) (g h : Gauge) → seen_of t s ≡ m → calls ≡ 0 → IsMeasured t → Saw g h s.cells s.released t.frames t.words → IsUnseen g → (kinds : Kinds) (lent : List Typed) → KnowsRun m.stack.code kinds (state_with m.stack lent m.store) calls → IsFresh m.stack → IsSmall m.store.cells → m.pushed ≡ [] → TellsRun kinds (plain m.stack.code.code) (state_with m.stack lent m.store) calls h
-tells_none m t s calls g h view none measured look unseen = subst (λ (q : Seen). (kinds : Kinds) (lent : List Typed) → KnowsRun q.stack.code kinds (state_with q.stack lent q.store) calls → IsFresh q.stack → IsSmall q.store.cells → q.pushed ≡ [] → TellsRun kinds (plain q.stack.code.code) (state_with q.stack lent q.store) calls h) view (λ kinds lent knows fresh small empty.
+-- a run without a call, of which one look reports
+pub reports_none : (m : Seen) (t : Stand) (s : Stored) (calls : ℕ) (g h : Gauge) → seen_of t s ≡ m → calls ≡ 0 → IsMeasured t → Saw g h s.cells s.released t.frames t.words → IsUnseen g → (kinds : Kinds) (lent : List Typed) → KnowsRun m.stack.code kinds (state_with m.stack lent m.store) calls → IsFresh m.stack → IsSmall m.store.cells → m.pushed ≡ [] → ReportsRun kinds (plain m.stack.code.code) (state_with m.stack lent m.store) calls h
+reports_none m t s calls g h view none measured look unseen = subst (λ (q : Seen). (kinds : Kinds) (lent : List Typed) → KnowsRun q.stack.code kinds (state_with q.stack lent q.store) calls → IsFresh q.stack → IsSmall q.store.cells → q.pushed ≡ [] → ReportsRun kinds (plain q.stack.code.code) (state_with q.stack lent q.store) calls h) view (λ kinds lent knows fresh small empty.
     let first : State = state_with t lent (store_of s.cells s.released) in
-    subst (λ n. TellsRun kinds (plain t.code.code) first n h) (sym none) (
+    subst (λ n. ReportsRun kinds (plain t.code.code) first n h) (sym none) (
       0,
       record {
         lowest = λ k low high.
@@ -233,13 +233,13 @@ same_parts m t s w stack store pushed same =
 pub has_come : (m : Seen) (t : Stand) (s w : Stored) (calls : ℕ) (e : Ended) (u : Stand) (v x : Stored) (new : Seen) → t ≡ m.stack → store_of s.cells s.released ≡ m.store → s.pushed ≡ m.pushed → w ≡ s → IsMeasured t → HasRan t w calls e u v → x ≡ v → new.stack ≡ u → new.store ≡ store_of x.cells x.released → (kinds : Kinds) (lent : List Typed) → KnowsRun m.stack.code kinds (state_with m.stack lent m.store) calls → m.stack.ended ≡ None → IsSmall m.store.cells → m.pushed ≡ [] → RunsTo kinds (plain m.stack.code.code) (state_with m.stack lent m.store) calls e (state_with new.stack lent new.store) new.stack.given
 has_come m t s w calls e u v x new stack store pushed same measured ran kept after cells kinds lent knows going small empty =
     let first : State = state_with m.stack lent m.store in
-    let told : RunsTo kinds (plain m.stack.code.code) first calls e (state_with u lent (store_of v.cells v.released)) u.given = runs_to m t w calls e u v (same_parts m t s w stack store pushed same) measured ran kinds lent knows going small empty in
-    let stood : RunsTo kinds (plain m.stack.code.code) first calls e (state_with new.stack lent (store_of v.cells v.released)) new.stack.given = subst (λ (q : Stand). RunsTo kinds (plain m.stack.code.code) first calls e (state_with q lent (store_of v.cells v.released)) q.given) (sym after) told in
+    let reported : RunsTo kinds (plain m.stack.code.code) first calls e (state_with u lent (store_of v.cells v.released)) u.given = runs_to m t w calls e u v (same_parts m t s w stack store pushed same) measured ran kinds lent knows going small empty in
+    let stood : RunsTo kinds (plain m.stack.code.code) first calls e (state_with new.stack lent (store_of v.cells v.released)) new.stack.given = subst (λ (q : Stand). RunsTo kinds (plain m.stack.code.code) first calls e (state_with q lent (store_of v.cells v.released)) q.given) (sym after) reported in
     let stays : store_of v.cells v.released ≡ new.store = sym (cells ∙ ap (λ (z : Stored). store_of z.cells z.released) kept) in
     subst (λ (q : Store). RunsTo kinds (plain m.stack.code.code) first calls e (state_with new.stack lent q) new.stack.given) stays stood
 
-pub has_told : (m : Seen) (t : Stand) (s w : Stored) (calls : ℕ) (e : Ended) (u : Stand) (v : Stored) (g h i : Gauge) → t ≡ m.stack → store_of s.cells s.released ≡ m.store → s.pushed ≡ m.pushed → w ≡ s → IsMeasured t → HasRan t w calls e u v → Saw g h w.cells w.released t.frames t.words → Saw h i v.cells v.released u.most_frames u.most_words → IsUnseen g → (kinds : Kinds) (lent : List Typed) → KnowsRun m.stack.code kinds (state_with m.stack lent m.store) calls → IsFresh m.stack → IsSmall m.store.cells → m.pushed ≡ [] → TellsRun kinds (plain m.stack.code.code) (state_with m.stack lent m.store) calls i
-has_told m t s w calls e u v g h i stack store pushed same measured ran first last unseen = tells_run m t w calls e u v g h i (same_parts m t s w stack store pushed same) measured ran first last unseen
+pub has_reported : (m : Seen) (t : Stand) (s w : Stored) (calls : ℕ) (e : Ended) (u : Stand) (v : Stored) (g h i : Gauge) → t ≡ m.stack → store_of s.cells s.released ≡ m.store → s.pushed ≡ m.pushed → w ≡ s → IsMeasured t → HasRan t w calls e u v → Saw g h w.cells w.released t.frames t.words → Saw h i v.cells v.released u.most_frames u.most_words → IsUnseen g → (kinds : Kinds) (lent : List Typed) → KnowsRun m.stack.code kinds (state_with m.stack lent m.store) calls → IsFresh m.stack → IsSmall m.store.cells → m.pushed ≡ [] → ReportsRun kinds (plain m.stack.code.code) (state_with m.stack lent m.store) calls i
+has_reported m t s w calls e u v g h i stack store pushed same measured ran first last unseen = reports_run m t w calls e u v g h i (same_parts m t s w stack store pushed same) measured ran first last unseen
 
 -- the trace of the run
 

@@ -1,5 +1,5 @@
--- What a gauge tells of a run: over all its states, what the language's own definition of a gauge says of them.
--- Of rev of Cons(1, Cons(2, Nil)) and Nil it tells 2 as the lowest and the highest number of held cells of size 2, no
+-- What a gauge reports of a run: over all its states, what the language's own definition of a gauge says of them.
+-- Of rev of Cons(1, Cons(2, Nil)) and Nil it reports 2 as the lowest and the highest number of held cells of size 2, no
 -- frame, and 9 words.
 use Rattle.std.specs.Prelude.{◌≡◌, ℕ, ◌-◌, ◌≤◌, Bool, true, false, List, min, slice_index_or}
 use Rattle.fip_language.specs.declared.limits.TheConstants.{MOST_FIELDS}
@@ -23,23 +23,23 @@ pub record IsUnseen (g : Gauge) : Type 0 where
   pub frames : g.frames ≡ 0
   pub words : g.words ≡ 0
 
--- It tells of these states. A size has its numbers one place before it.
-pub record Tells (g : Gauge) (ss : List Seen) : Type 0 where
+-- It reports of these states. A size has its numbers one place before it.
+pub record Reports (g : Gauge) (ss : List Seen) : Type 0 where
   pub lowest : (k : ℕ) → 1 ≤ k → k ≤ MOST_FIELDS → slice_index_or g.lowest (k - 1) 0 ≡ lowest k ss
   pub highest : (k : ℕ) → 1 ≤ k → k ≤ MOST_FIELDS → slice_index_or g.highest (k - 1) 0 ≡ highest k ss
   pub frames : g.frames ≡ highest_frames ss
   pub words : g.words ≡ highest_words ss
 
--- The run is over, and it tells of these states. Where an instruction can't be done nothing is said.
-abbrev pub TellsOver : Run → Gauge → List Seen → Type 0
-TellsOver (Going s left n) g ss = ⊥
-TellsOver (Over (Value ws) s left n) g ss = Tells g ss
-TellsOver (Over (Trap kind line col) s left n) g ss = Tells g ss
-TellsOver (Over Out s left n) g ss = Tells g ss
-TellsOver (Over Deep s left n) g ss = Tells g ss
-TellsOver (Over Unsound s left n) g ss = Unit {0}
+-- The run is over, and it reports of these states. Where an instruction can't be done nothing is said.
+abbrev pub ReportsOver : Run → Gauge → List Seen → Type 0
+ReportsOver (Going s left n) g ss = ⊥
+ReportsOver (Over (Value ws) s left n) g ss = Reports g ss
+ReportsOver (Over (Trap kind line col) s left n) g ss = Reports g ss
+ReportsOver (Over Out s left n) g ss = Reports g ss
+ReportsOver (Over Deep s left n) g ss = Reports g ss
+ReportsOver (Over Unsound s left n) g ss = Unit {0}
 
--- The run from the first state, with so many calls, comes to an end, and the gauge tells of all its states.
-abbrev pub TellsRun : Kinds → PlainCode → State → ℕ → Gauge → Type 0
-TellsRun kinds code first calls g =
-    (n : ℕ) × TellsOver (after kinds code n (begun first calls)) g (seen kinds code n (begun first calls))
+-- The run from the first state, with so many calls, comes to an end, and the gauge reports of all its states.
+abbrev pub ReportsRun : Kinds → PlainCode → State → ℕ → Gauge → Type 0
+ReportsRun kinds code first calls g =
+    (n : ℕ) × ReportsOver (after kinds code n (begun first calls)) g (seen kinds code n (begun first calls))

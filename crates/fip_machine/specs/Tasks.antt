@@ -41,7 +41,7 @@ pub record Stand : Type 0 where
   pub most_words : ℕ
   pub weight : ℕ
 
--- The frames and words that a task tells are those of its state, and no more than the most.
+-- The frames and words that a task reports are those of its state, and no more than the most.
 pub record IsMeasured (t : Stand) : Type 0 where
   pub frames : t.frames ≡ length t.waiting
   pub words : t.words ≡ sum (map words_of_frame (t.running ∷ t.waiting))

@@ -4,17 +4,17 @@
 -- of step 3, and 7 steps.
 use Rattle.std.specs.Prelude.{ℕ, List, map}
 use Rattle.cell_trace.specs.declared.trace.Trace.{Trace}
-use Rattle.cell_trace.specs.Traced.{Noted, Tells, IsTooLong, standing_from}
+use Rattle.cell_trace.specs.Traced.{Noted, Reports, IsTooLong, standing_from}
 use Rattle.machine_cells.specs.machine_semantics.Codes.{PlainCode}
 use Rattle.machine_cells.specs.machine_semantics.States.{State}
 use Rattle.machine_cells.specs.machine_semantics.Steps.{Kinds}
 use Rattle.machine_cells.specs.machine_semantics.Runs.{Value, Trap, Out, Deep, Unsound, Run, Going, Over, begun, after}
 use Rattle.machine_cells.specs.machine_semantics.Traces.{Event, events}
-use Rattle.machine_cells.specs.Telling.{as_told}
+use Rattle.machine_cells.specs.Telling.{as_reported}
 
--- an event, as a store is told of its change
+-- an event, as a store is reported of its change
 abbrev pub noted : Event → Noted
-noted e = record { step = e.step; told = as_told e.change }
+noted e = record { step = e.step; reported = as_reported e.change }
 
 -- the events of a run over at most so many steps
 abbrev pub notes : Kinds → PlainCode → State → ℕ → ℕ → List Noted
@@ -32,7 +32,7 @@ AtValue (Over Unsound s left steps) P = Unit {0}
 -- The run gives a value, and this is its trace, which isn't too long.
 abbrev pub HasTrace : Kinds → PlainCode → State → (calls limit : ℕ) → Trace → Type 0
 HasTrace kinds code first calls limit t = (n : ℕ) × AtValue (after kinds code n (begun first calls))
-    (λ steps. Tells (standing_from 0 first.store.cells) (notes kinds code first calls steps) steps limit t)
+    (λ steps. Reports (standing_from 0 first.store.cells) (notes kinds code first calls steps) steps limit t)
 
 -- The run gives a value, and its trace is too long.
 abbrev pub HasLongTrace : Kinds → PlainCode → State → (calls limit : ℕ) → Type 0

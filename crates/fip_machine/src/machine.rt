@@ -8,7 +8,7 @@ ghost use Rattle.machine_cells.specs.machine_semantics.Runs.{loaded};
 ghost use Rattle.machine_cells.specs.Small.{IsSmall, store_of};
 ghost use Rattle.machine_step.specs.Coming.{Comes, KnowsAt};
 ghost use Rattle.fip_machine.specs.Tasks.{state_with, ended_by, IsFresh};
-ghost use Rattle.fip_machine.specs.GaugeView.{IsUnseen, TellsRun};
+ghost use Rattle.fip_machine.specs.GaugeView.{IsUnseen, ReportsRun};
 ghost use Rattle.fip_machine.specs.Ending.{KnowsRun, RunsTo};
 ghost use Rattle.fip_machine.specs.Along.{end_after};
 
@@ -133,7 +133,7 @@ impl<'a> Machine<'a> {
             (state_with self.new.stack lent self.new.store) self.new.stack.given }
         ensures gauge { IsUnseen gauge.old → (kinds : Kinds) (lent : List Typed) → KnowsRun self.old.stack.code kinds
             (state_with self.old.stack lent self.old.store) calls → IsFresh self.old.stack →
-            IsSmall self.old.store.cells → self.old.pushed ≡ [] → TellsRun kinds (plain self.old.stack.code.code)
+            IsSmall self.old.store.cells → self.old.pushed ≡ [] → ReportsRun kinds (plain self.old.stack.code.code)
             (state_with self.old.stack lent self.old.store) calls gauge.new }
     {
         let frames = self.stack.frames();

@@ -9,9 +9,9 @@ ghost use Rattle.machine_cells.specs.machine_semantics.Runs.{loaded};
 ghost use Rattle.machine_step.specs.machine_frames.View.{frame_at};
 ghost use Rattle.machine_cells.specs.Small.{IsSmall, store_of};
 ghost use Rattle.machine_cells.specs.Counting.{CountsReleased, freed_of};
-ghost use Rattle.cell_store.specs.Told.{Told};
+ghost use Rattle.cell_store.specs.Reported.{Reported};
 ghost use Rattle.machine_step.specs.Coming.{Comes, KnowsAt};
-ghost use Rattle.machine_step.specs.Telling.{IsKnown, next_tells};
+ghost use Rattle.machine_step.specs.Telling.{IsKnown, next_reports};
 ghost use Rattle.fip_machine.specs.Tasks.{state_with, ended_by, IsMeasured, IsRaised, IsFresh};
 ghost use Rattle.fip_machine.specs.Along.{Origin, IsAlong, HasRun, HasPaused, is_call, calls_next, end_after};
 ghost use Rattle.fip_machine.specs.Along.{task_of, stored};
@@ -333,11 +333,11 @@ impl<'a> TaskStack<'a> {
             ≡ store_of (C.cells cells.old) (C.released cells.old)) }
         ensures counted { CountsReleased (C.cells cells.old) (C.released cells.old) self.old.freed (C.cells cells.new)
             (C.released cells.new) self.new.freed }
-        ensures told { (kinds : Kinds) (lent : List Typed) → KnowsAt self.old.code kinds self.old.running.function
+        ensures reported { (kinds : Kinds) (lent : List Typed) → KnowsAt self.old.code kinds self.old.running.function
             self.old.running.at → self.old.ended ≡ None → IsSmall (C.cells cells.old) → C.pushed cells.old ≡ [] →
             IsKnown (next kinds (plain self.old.code.code) (state_with self.old lent (store_of (C.cells cells.old)
-            (C.released cells.old)))) → (first : C) (ts : List Told) → C.was_told first ts cells.old →
-            C.was_told first (ts ++ next_tells kinds (plain self.old.code.code) (state_with self.old lent (store_of
+            (C.released cells.old)))) → (first : C) (ts : List Reported) → C.was_reported first ts cells.old →
+            C.was_reported first (ts ++ next_reports kinds (plain self.old.code.code) (state_with self.old lent (store_of
             (C.cells cells.old) (C.released cells.old)))) cells.new }
     {
         if let Some(ended) = self.ended {

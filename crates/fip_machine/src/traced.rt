@@ -4,7 +4,7 @@ ghost use Rattle.machine_cells.specs.machine_semantics.Codes.{plain};
 ghost use Rattle.machine_cells.specs.machine_semantics.States.{Typed};
 ghost use Rattle.machine_cells.specs.machine_semantics.Steps.{Kinds};
 ghost use Rattle.machine_cells.specs.Small.{IsSmall};
-ghost use Rattle.fip_machine.specs.GaugeView.{IsUnseen, TellsRun};
+ghost use Rattle.fip_machine.specs.GaugeView.{IsUnseen, ReportsRun};
 ghost use Rattle.fip_machine.specs.Tasks.{state_with, IsMeasured, IsFresh, IsRaised};
 ghost use Rattle.fip_machine.specs.Ending.{KnowsRun, RunsTo};
 ghost use Rattle.fip_machine.specs.Along.{Origin, IsReady, calls_next, end_after};
@@ -41,7 +41,7 @@ impl<'a> Machine<'a> {
         ensures gauge { OnOk result (IsUnseen gauge.old → (kinds : Kinds) (lent : List Typed) →
             KnowsRun self.entry.stack.code kinds (state_with self.entry.stack lent self.entry.store) calls →
             IsFresh self.entry.stack → IsSmall self.entry.store.cells → self.entry.pushed ≡ [] →
-            TellsRun kinds (plain self.entry.stack.code.code) (state_with self.entry.stack lent self.entry.store) calls
+            ReportsRun kinds (plain self.entry.stack.code.code) (state_with self.entry.stack lent self.entry.store) calls
             gauge.new) }
         ensures trace { IfOk result (λ r. r.1 ≡ Ended.Value → r.2 ≢ None) }
         ensures none { IfOk result (λ r. r.1 ≢ Ended.Value → r.2 ≡ None) }

@@ -1,5 +1,5 @@
--- The files of a folder: a finite map from names to bytes. What a folder tells of them is `Some` list, or `None` where
--- it tells nothing; then nothing is claimed either.
+-- The files of a folder: a finite map from names to bytes. What a folder reports of them is `Some` list, or `None` where
+-- it reports nothing; then nothing is claimed either.
 use Rattle.std.specs.Prelude.{◌≡◌, ℕ, ◌<◌, Bool, List, [], ◌∷◌, length, Option, Some, None, ⊤, bytes_eq, if◌then◌else◌}
 use Rattle.std.specs.Prelude.{IsSomeAnd}
 
@@ -24,22 +24,22 @@ put_file name bytes [] = record { name = name; bytes = bytes } ∷ []
 put_file name bytes (file ∷ files) = if has_name name file then record file { bytes = bytes } ∷ files else file
     ∷ put_file name bytes files
 
--- Where files are told, the name has these bytes.
+-- Where files are reported, the name has these bytes.
 abbrev pub HoldsFile : Option (List File) → List ℕ → List ℕ → Type 0
 HoldsFile None name bytes = ⊤
 HoldsFile (Some files) name bytes = file_of name files ≡ Some bytes
 
--- Where files are told, the name has more than so many bytes.
+-- Where files are reported, the name has more than so many bytes.
 abbrev pub HoldsLonger : Option (List File) → List ℕ → ℕ → Type 0
 HoldsLonger None name limit = ⊤
 HoldsLonger (Some files) name limit = IsSomeAnd (file_of name files) (λ bytes. limit < length bytes)
 
--- Files are told, and none has the name.
+-- Files are reported, and none has the name.
 abbrev pub IsMissing : Option (List File) → List ℕ → Type 0
 IsMissing None name = ⊥
 IsMissing (Some files) name = file_of name files ≡ None
 
--- Where files are told before, they are told after, and each name but this one has what it had.
+-- Where files are reported before, they are reported after, and each name but this one has what it had.
 abbrev pub KeepsOthers : Option (List File) → Option (List File) → List ℕ → Type 0
 KeepsOthers None after name = ⊤
 KeepsOthers (Some before) None name = ⊥

@@ -10,6 +10,6 @@ Takes before after count = (bytes : List ℕ) × Consumes before after bytes × 
 abbrev pub TakesAtMost : Option (List ℕ) → Option (List ℕ) → ℕ → Type 0
 TakesAtMost before after most = (bytes : List ℕ) × Consumes before after bytes × (length bytes ≤ most)
 
--- A front part of the bytes, which may be none or all, came behind those that were written.
+-- A front part of the bytes, which may be none or all, came after those that were written.
 abbrev pub WritesPrefix : Option (List ℕ) → Option (List ℕ) → List ℕ → Type 0
 WritesPrefix before after bytes = (count : ℕ) × Appends before after (take count bytes)

@@ -280,7 +280,7 @@ impl MemFolder {
         }
     }
 
-    // Makes the bytes the file of this name. Where memory is wanting nothing changes.
+    // Makes the bytes the file of this name. Where memory runs out nothing changes.
     fn put(&mut self, name: &str, bytes: &[u8]) -> Result<(), AllocError>
         ensures ok { OnOk result (self.new ≡ record self.old { files = put_file name.now bytes.now self.old.files }) }
         ensures err { OnErr result (self.new ≡ self.old) }
@@ -333,7 +333,7 @@ impl Folder for MemFolder {
         ensures refused { result ≡ Err StoreError.Failed ↔ IsToFail self.old.calls }
         ensures ok { OnOk result (self.new ≡ after_store self.old name.now bytes.now) }
         ensures listed { IsToFail self.old.calls → self.new ≡ after_failed_call self.old }
-        ensures wanting { result ≡ Err StoreError.NoMemory → self.new ≡ after_call self.old }
+        ensures out_of_memory { result ≡ Err StoreError.NoMemory → self.new ≡ after_call self.old }
         ensures stored { OnOk result (HoldsFile (Some self.new.files) name.now bytes.now) }
         ensures others { KeepsOthers (Some self.old.files) (Some self.new.files) name.now }
         ensures failed { result ≡ Err StoreError.Failed → Rose self.old.calls.faults self.new.calls.faults }

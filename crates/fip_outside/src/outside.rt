@@ -59,7 +59,7 @@ impl From<AllocError> for StoreError {
 
 /// Bytes that are read from their start to their end.
 pub trait Source {
-    /// The bytes that are left, where the source tells them.
+    /// The bytes that are left, where the source reports them.
     ghost left: { Self → Option (List ℕ) };
 
     /// How often the source has failed.
@@ -76,7 +76,7 @@ pub trait Source {
 
 /// Bytes that are written one after the other.
 pub trait Sink {
-    /// The bytes that were written, where the sink tells them.
+    /// The bytes that were written, where the sink reports them.
     ghost written: { Self → Option (List ℕ) };
 
     /// How often the sink has failed.
@@ -94,7 +94,7 @@ pub trait Sink {
 
 /// Files, each a name and bytes.
 pub trait Folder {
-    /// The files, where the folder tells them.
+    /// The files, where the folder reports them.
     ghost files: { Self → Option (List File) };
 
     /// How often the folder has failed.
@@ -103,7 +103,7 @@ pub trait Folder {
     /// The bytes of a file, of which there may be `limit`. It changes no file.
     ///
     /// TooLong: the file has more bytes than that. Failed: the count of faults rose, or the folder
-    /// tells its files and has none of that name. NoMemory raises no count.
+    /// reports its files and has none of that name. NoMemory raises no count.
     fn fetch(&mut self, name: &str, limit: usize) -> Result<Vec<u8>, FetchError>
         ensures found { IfOk result (λ bytes. HoldsFile (files self.old) name.now bytes.items) }
         ensures within { IfOk result (λ bytes. length bytes.items ≤ limit) }

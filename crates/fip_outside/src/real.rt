@@ -11,7 +11,7 @@ use std::fs;
 use std::io::{ErrorKind, Read, Write};
 use std::rt::Files;
 
-/// A reader of std as a source. It tells the bytes that the reader tells.
+/// A reader of std as a source. It reports the bytes that the reader reports.
 #[derive(Drop)]
 pub struct StdSource<R: Read> {
     inner: R,
@@ -44,7 +44,7 @@ impl<R: Read> Source for StdSource<R> {
     }
 }
 
-/// A writer of std as a sink. It tells the bytes that the writer tells. A write that takes none of a
+/// A writer of std as a sink. It reports the bytes that the writer reports. A write that takes none of a
 /// piece that isn't empty is a fault.
 #[derive(Drop)]
 pub struct StdSink<W: Write> {
@@ -53,7 +53,7 @@ pub struct StdSink<W: Write> {
 }
 
 impl<W: Write> StdSink<W> {
-    /// A sink that writes behind what the writer has.
+    /// A sink that writes after what the writer has.
     pub fn new(inner: W) -> Self
         ensures inner { result.inner ≡ inner }
         ensures faults { result.faults ≡ 0 }
@@ -78,7 +78,7 @@ impl<W: Write> Sink for StdSink<W> {
     }
 }
 
-/// The real files, which it tells nothing of. A name is a path.
+/// The real files, which it reports nothing of. A name is a path.
 #[derive(Drop)]
 pub struct FileFolder<'a, F: Files> {
     alloc: Global,

@@ -94,7 +94,7 @@ at_token xs ys i d e l =
 pub at_end : (xs ys : List code.Token) (i : ℕ) → ys ≡ xs → length ys ≤ i → i ≤ length (tokens xs) → i ≡ length (tokens xs)
 at_end xs ys i e l h = let k = ap length e in let n = length-map xs token in omega arith
 
--- the place behind the last token
+-- the place after the last token
 pub place_of_end : (ts : List Token) (end : Place) (i : ℕ) → i ≡ length ts → end ≡ place_at ts end i
 place_of_end ts end i h = ap (place_or end) (sym (slice_get_past ts i (omega arith)))
 

@@ -8,7 +8,7 @@ use Rattle.fip_base.specs.declared.refusal.Refusal.{Refusal}
 use Rattle.fip_base.specs.declared.surface.Declaration.{Declaration}
 use Rattle.fip_base.specs.SurfaceView.{declaration}
 use Rattle.fip_grammar.specs.Token as T
-use Rattle.fip_grammar.specs.Limits.{Seen, Breaks, IsLeastBroken, IsMisspelt, is_opening, behind, place_at}
+use Rattle.fip_grammar.specs.Limits.{Seen, Breaks, IsLeastBroken, IsMisspelt, is_opening, following, place_at}
 use Rattle.fip_grammar.specs.Grammar.{Spells}
 use Rattle.fip_language.specs.Surface.{Program}
 use Rattle.fip_parser.specs.declared.parser.Reading.{Reading}
@@ -63,7 +63,7 @@ reading_of r = record { machine = machine_of r.declarations.items r.state; seen 
 
 -- the token fits, and breaks no rule
 abbrev pub Goes : Read → Read → T.Token → Type 0
-Goes old new t = (machine_step old.machine t ≡ Some new.machine) × (new.seen ≡ behind old.seen t.word)
+Goes old new t = (machine_step old.machine t ≡ Some new.machine) × (new.seen ≡ following old.seen t.word)
     × IsWithin old.seen t.word
 
 -- A token breaks this rule: it doesn't fit, or it breaks another.

@@ -125,9 +125,9 @@ fn is_too_large(is_sign: bool, word: Word) -> bool
     }
 }
 
-// How many brackets are open behind this token.
-fn open_behind(count: usize, word: Word) -> Result<usize, Fault>
-    ensures count { IfOk result (λ n. n ≡ limits.open_behind count (tokens_view.word word.entry)) }
+// How many brackets are open after this token.
+fn open_after(count: usize, word: Word) -> Result<usize, Fault>
+    ensures count { IfOk result (λ n. n ≡ limits.open_after count (tokens_view.word word.entry)) }
     ensures within { IfOk result (λ n. limits.is_opening (tokens_view.word word.entry) ≡ true →
         MOST_BRACKETS ≤ count → ⊥) }
     ensures deep { IfErr result (λ f. (fault_rule f ≡ Rule.E03)
@@ -146,12 +146,12 @@ fn open_behind(count: usize, word: Word) -> Result<usize, Fault>
 }
 
 // What the tokens up to and with this one are like, or the rule that it breaks although it fits.
-fn behind(before: Before, word: Word) -> Result<Before, Fault>
-    ensures next { IfOk result (λ b. seen_of b ≡ limits.behind (seen_of before) (tokens_view.word word.entry)) }
+fn following(before: Before, word: Word) -> Result<Before, Fault>
+    ensures next { IfOk result (λ b. seen_of b ≡ limits.following (seen_of before) (tokens_view.word word.entry)) }
     ensures within { IfOk result (λ b. IsWithin (seen_of before) (tokens_view.word word.entry)) }
     ensures stops { IfErr result (λ f. Stops (seen_of before) (tokens_view.word word.entry) (fault_rule f)) }
 {
-    let brackets = open_behind(before.brackets, word)?;
+    let brackets = open_after(before.brackets, word)?;
     if is_too_large(before.is_sign, word) {
         return Err(Fault::TooLarge);
     }
@@ -163,7 +163,7 @@ fn behind(before: Before, word: Word) -> Result<Before, Fault>
     })
 }
 
-// The declarations and the state behind a token.
+// The declarations and the state after a token.
 fn take(
     alloc: Global,
     declarations: Vec<Declaration>,
@@ -204,7 +204,7 @@ fn refused(alloc: Global, rule: Rule, place: Place) -> ParseError
     })
 }
 
-// The reading behind a token.
+// The reading after a token.
 fn advance(alloc: Global, reading: Reading, token: Token) -> Result<Reading, ParseError>
     requires well { view.IsWell reading.state }
     ensures goes { IfOk result (λ r. Goes (reading_of reading) (reading_of r) (tokens_view.token token.entry)) }
@@ -226,7 +226,7 @@ fn advance(alloc: Global, reading: Reading, token: Token) -> Result<Reading, Par
                 declarations,
                 state,
             },
-        ) => match behind(before, token.word) {
+        ) => match following(before, token.word) {
             Ok(before) => Ok(Reading {
                 declarations,
                 state,

@@ -14,7 +14,7 @@ use fip_language::Place;
 use parser_bodies::body::end_bind;
 use parser_state::moves::{stays_in_type, type_wanted};
 use parser_state::state::{Binds, Body, Next, OpenType, TypePosition, TypeUse};
-use parser_types::behind::{
+use parser_types::following::{
     after_field, after_one_result, after_parameter, after_result_part, after_signature_parameter,
     after_static_argument, type_argument,
 };
@@ -93,7 +93,7 @@ fn type_done(
     }
 }
 
-// Behind an outermost type.
+// After an outermost type.
 fn after_type(
     alloc: Global,
     purpose: TypeUse,

@@ -53,14 +53,14 @@ pub record Rest (p : Program) (n : ℕ) (ds : List Instance) : Type 0 where
 
 rest_all : (p : Program) (needs : List (List Need)) → IsReady p needs → Rest p 0 p.instances
 rest_all p needs h = record {
-  piece = record { before = []; behind = []; is = sym (append-nil p.instances); at = refl };
+  piece = record { before = []; following = []; is = sym (append-nil p.instances); at = refl };
   numbered = h.numbered;
   sized = h.sized;
   derived = program_derived p h.filled h.numbered h.sized h.accepted;
 }
 
-rest_behind : (p : Program) (n : ℕ) (d : Instance) (ds : List Instance) → Rest p n (d ∷ ds) → Rest p (n + 1) ds
-rest_behind p n d ds h = record {
+rest_after : (p : Program) (n : ℕ) (d : Instance) (ds : List Instance) → Rest p n (d ∷ ds) → Rest p (n + 1) ds
+rest_after p n d ds h = record {
   piece = piece_second p.instances (d ∷ []) ds n (n + 1) refl h.piece;
   numbered = h.numbered.1;
   sized = h.sized.1;
@@ -102,7 +102,7 @@ line_more p needs n d ds ns old new h r e l w =
     let x : Entry = record { instance = n; tree = l.tree } in
     let rest = lines_text (made_entries p (n + 1) ds) in
     record {
-      rest = rest_behind p n d ds w.rest;
+      rest = rest_after p n d ds w.rest;
       is =
           w.is ∙ ap (λ es. old.bytes ++ lines_text es) (made_ruled p n d ds r ∙ ap (λ t. record { instance = n; tree = t } ∷ made_entries p (n + 1) ds) (sym same))
           ∙ ap (λ k. old.bytes ++ k) (line_on x rest l.whole)
@@ -112,7 +112,7 @@ line_more p needs n d ds ns old new h r e l w =
 
 pub plain_more : (p : Program) (n : ℕ) (d : Instance) (ds : List Instance) (old new : List ℕ) → is_ruled d.kind ≡ false → new ≡ old → Written p n (d ∷ ds) old → Written p (n + 1) ds new
 plain_more p n d ds old new r e w =
-    subst (Written p (n + 1) ds) (sym e) (record { rest = rest_behind p n d ds w.rest; is = w.is ∙ ap (λ es. old ++ lines_text es) (made_plain p n d ds r) })
+    subst (Written p (n + 1) ds) (sym e) (record { rest = rest_after p n d ds w.rest; is = w.is ∙ ap (λ es. old ++ lines_text es) (made_plain p n d ds r) })
 
 pub all_written : (p : Program) (n : ℕ) (ds : List Instance) (bytes : List ℕ) → ds ≡ [] → Written p n ds bytes → bytes ≡ lines_text (made_entries p 0 p.instances)
 all_written p n ds bytes e w = sym (w.is ∙ ap (λ xs. bytes ++ lines_text (made_entries p n xs)) e ∙ append-nil bytes)

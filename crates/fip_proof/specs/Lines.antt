@@ -1,4 +1,4 @@
--- It serves the proof of what derivation_text gives: the line of an instance behind a text.
+-- It serves the proof of what derivation_text gives: the line of an instance after a text.
 use Rattle.std.specs.Prelude.{◌≡◌, ℕ, List, [], ◌++◌}
 use Rattle.fip_trees.specs.declared.needs.Need.{Need}
 use Rattle.fip_trees.specs.Tree.{Instance}

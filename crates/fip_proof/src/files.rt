@@ -76,7 +76,7 @@ pub fn derivation_text(
     Ok(text.into_bytes())
 }
 
-// The line of an instance comes behind a text.
+// The line of an instance comes after a text.
 fn add_line(
     alloc: Global,
     context: &Context<'_>,
@@ -107,7 +107,7 @@ pub fn audit(alloc: Global, typed: &Typed, bytes: &[u8]) -> Result<(), AuditErro
     // A text of another derivation is none of the program.
     ensures other { result ≡ Err NotDerived → (es : List Entry) × IsProofText bytes.now es
         × (IsDerivation (V.program typed.now.program) es → ⊥) }
-    // Too many bytes are told by their most, ..
+    // Too many bytes are reported by their most, ..
     ensures long { MOST_FILE_BYTES < length bytes.now → result ≡ Err (BadProof MOST_FILE_BYTES) }
     // .. and else the place is the least with which no text begins.
     ensures place { (at : ℕ) → length bytes.now ≤ MOST_FILE_BYTES → result ≡ Err (BadProof at) →

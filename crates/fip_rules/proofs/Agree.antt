@@ -434,7 +434,7 @@ end_is i l n es fs us (Either a b) v f h =
 end_is i l n es fs us (Bound a) v f h = (λ g. absurd g, λ g. absurd g.1)
 end_is i l n es fs us (Scope k m a) v f h = end_is i l (suc m.id) es (fs ++ record { mark = m; ownership = k; level = l } ∷ []) us a v (seen_enter es fs l n k m f h.0) h.1
 
--- the status of a variable tells whether it is owned
+-- the status of a variable reports whether it is owned
 abbrev is_own : Status → Bool
 is_own Idle = false
 is_own Lent = false

@@ -4,7 +4,7 @@ pub mod LogTables
 pub mod Scopes
 pub mod Agree
 pub mod Orders
-pub mod Laws
+pub mod Theorems
 pub mod Steps
 pub mod Waits
 pub mod Views

@@ -9,7 +9,7 @@ use Rattle.fip_rules.specs.Marks.{Mark}
 use Rattle.fip_rules.specs.Shape as S
 use Rattle.fip_rules.specs.Rules.{next, Ordered}
 use Rattle.fip_rules.specs.World.{World, lends, weaker}
-use Rattle.fip_rules.specs.Shapes.{Names, Bind, or_later, known, used_at, lent_at, token, owning, owning_all, lending, passing, passing_all, mark, binds, within, behind, taking, binders, takes, clause_shape, shape, shape_block, shape_clauses, parameters, no_names, body}
+use Rattle.fip_rules.specs.Shapes.{Names, Bind, or_later, known, used_at, lent_at, token, owning, owning_all, lending, passing, passing_all, mark, binds, within, following, taking, binders, takes, clause_shape, shape, shape_block, shape_clauses, parameters, no_names, body}
 use Rattle.fip_rules.proofs.Agree.{next_le}
 
 abbrev Below : List Mark → ℕ → Type 0
@@ -126,8 +126,8 @@ within_fine : (c : Names) (bs : List Bind) → Fine c → Fine (within c bs)
 within_fine c [] h = h
 within_fine c (b ∷ bs) h = within_fine (record { marks = c.marks ++ mark c.next b.binder ∷ []; next = suc c.next }) bs (below_end c.marks (mark c.next b.binder) c.next h (omega arith))
 
-behind_fine : (c : Names) (e : S.Shape) → Fine c → Ordered c.next e → Fine (behind c e)
-behind_fine c e h g = below_later c.marks c.next (next c.next e) h (next_le c.next e g)
+after_fine : (c : Names) (e : S.Shape) → Fine c → Ordered c.next e → Fine (following c e)
+after_fine c e h g = below_later c.marks c.next (next c.next e) h (next_le c.next e g)
 
 ordered_binds : (c : Names) (bs : List Bind) (e : S.Shape) → Ordered (within c bs).next e → Ordered c.next (binds c.next bs e)
 ordered_binds c [] e h = h
@@ -154,14 +154,14 @@ mutual
   ordered_block w c (Last e) h = ordered w c e h
   ordered_block w c (Let bs e rest) h =
       let o = ordered w c e h in
-      (o, ordered_clause (behind c (shape w c e)) (taking w true bs) (λ d. shape_block w d rest) (behind_fine c (shape w c e) h o) (λ d g. ordered_block w d rest g))
+      (o, ordered_clause (following c (shape w c e)) (taking w true bs) (λ d. shape_block w d rest) (after_fine c (shape w c e) h o) (λ d g. ordered_block w d rest g))
 
   ordered_clauses : (w : World) (taken : Bool) (c : Names) (done : S.Shape) (cs : Clauses) → Fine c → Ordered c.next done → Ordered c.next (shape_clauses w taken c done cs)
   ordered_clauses w taken c done NoClauses h g = g
   ordered_clauses w taken c done (MoreClauses q b cs) h g =
       let bs = taking w taken (binders q) in
-      ordered_clauses w taken c (S.Either done (clause_shape (behind c done) bs (λ d. shape_block w d b))) cs h
-      (g, ordered_clause (behind c done) bs (λ d. shape_block w d b) (behind_fine c done h g) (λ d k. ordered_block w d b k))
+      ordered_clauses w taken c (S.Either done (clause_shape (following c done) bs (λ d. shape_block w d b))) cs h
+      (g, ordered_clause (following c done) bs (λ d. shape_block w d b) (after_fine c done h g) (λ d k. ordered_block w d b k))
 
 none_fine : Fine no_names
 none_fine = tt

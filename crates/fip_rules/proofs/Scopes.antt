@@ -114,13 +114,13 @@ found_here true n f e es h g =
     subst (λ (q : Entry). look (f ∷ es) q.mark.id ≡ Some q) z (look_head (f.mark.id == f.mark.id) f (look es f.mark.id) (same_test f.mark.id f.mark.id refl) (look_low (suc f.mark.id) n f.mark.id es g (omega arith)))
 found_here false n f e es h g = absurd (cc)
 
-found_behind : (n : ℕ) (f e : Entry) (es : List Entry) (b : Bool) (o : Option Entry) → or_else (if b then Some f else None) o ≡ Some e → (o ≡ Some e → look es e.mark.id ≡ Some e) → Rises (suc f.mark.id) es n → look (f ∷ es) e.mark.id ≡ Some e
-found_behind n f e es b None h g r = found_here b n f e es h r
-found_behind n f e es b (Some q) h g r = ap (or_else (if f.mark.id == e.mark.id then Some f else None)) (g h)
+found_after : (n : ℕ) (f e : Entry) (es : List Entry) (b : Bool) (o : Option Entry) → or_else (if b then Some f else None) o ≡ Some e → (o ≡ Some e → look es e.mark.id ≡ Some e) → Rises (suc f.mark.id) es n → look (f ∷ es) e.mark.id ≡ Some e
+found_after n f e es b None h g r = found_here b n f e es h r
+found_after n f e es b (Some q) h g r = ap (or_else (if f.mark.id == e.mark.id then Some f else None)) (g h)
 
 pub find_look : (k n x : ℕ) (es : List Entry) (e : Entry) → Rises k es n → find es x ≡ Some e → look es e.mark.id ≡ Some e
 find_look k n x [] e h g = absurd (cc)
-find_look k n x (f ∷ es) e h g = found_behind n f e es (f.mark.number == x) (find es x) g (λ q. find_look (suc f.mark.id) n x es e h.1 q) h.1
+find_look k n x (f ∷ es) e h g = found_after n f e es (f.mark.number == x) (find es x) g (λ q. find_look (suc f.mark.id) n x es e h.1 q) h.1
 
 -- ---- it rises
 

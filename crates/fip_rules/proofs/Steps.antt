@@ -11,13 +11,13 @@ use Rattle.fip_trees.specs.declared.program.Binder.{Binder}
 use Rattle.fip_base.specs.declared.plain.Param.{Param}
 use Rattle.fip_rules.specs.Noted.{first_parameter, instance_notes}
 use Rattle.fip_trees.specs.TreeView.{BoundPart, block_of}
-use Rattle.fip_rules.specs.Marks.{Mark, Entry, Breach, told}
+use Rattle.fip_rules.specs.Marks.{Mark, Entry, Breach, reported}
 use Rattle.fip_rules.specs.Shape as S
 use Rattle.fip_rules.specs.Notes.{has, look, distinct, entry, missed, nothing, notes, is_owned, if_waits, use_of, use_notes, lend_of, lend_notes}
 use Rattle.fip_rules.specs.World.{World, lends, ownership, is_fip, is_ruled}
-use Rattle.fip_rules.specs.Shapes.{Names, Bind, mark, token, known, used_at, used_by, lent_at, lent_by, owning, owning_all, lending, passing, passing_all, takes, taking, binders, binders_all, behind, clause_shape, shape, shape_block, shape_clauses, parameters, body}
+use Rattle.fip_rules.specs.Shapes.{Names, Bind, mark, token, known, used_at, used_by, lent_at, lent_by, owning, owning_all, lending, passing, passing_all, takes, taking, binders, binders_all, following, clause_shape, shape, shape_block, shape_clauses, parameters, body}
 use Rattle.fip_rules.specs.Stands.{Stand, marks, names, noted, kept_use, awaiting, missed_from, with_scope, with_walked, go, went, entered, entered_all, left_to, deepened, surfaced, aside, others}
-use Rattle.fip_rules.proofs.Laws.{entered_append, go_skip, go_then, go_use, go_lend, go_clause, go_bound, go_scope_of, clauses_go, left_twice, marks_go, names_go, take_seam, drop_seam}
+use Rattle.fip_rules.proofs.Theorems.{entered_append, go_skip, go_then, go_use, go_lend, go_clause, go_bound, go_scope_of, clauses_go, left_twice, marks_go, names_go, take_seam, drop_seam}
 use Rattle.fip_rules.proofs.Orders.{next_passing}
 
 -- two parts after each other, the second of which is seen from the scope of the first
@@ -86,14 +86,14 @@ block_step n t t1 g w b bs last h e f =
     let k : n ≤ length u.walked.scope = let z = ap (λ q. length q) (go_scope_of t B) in omega arith in
     ap (λ s. left_to n (go s (R (names s)))) e
     ∙ sym (left_twice n (length u.walked.scope) (go (entered_all u ds) (R (names (entered_all u ds)))) k)
-    ∙ ap (left_to n) (sym (go_clause u ds R) ∙ ap (λ c. go u (clause_shape c ds R)) (names_go t B) ∙ sym (go_then t B (clause_shape (behind (names t) B) ds R)))
+    ∙ ap (left_to n) (sym (go_clause u ds R) ∙ ap (λ c. go u (clause_shape c ds R)) (names_go t B) ∙ sym (go_then t B (clause_shape (following (names t) B) ds R)))
     ∙ f
 
 pub block_end : (n kept : ℕ) (t l t2 t3 : Stand) (w : World) (xs ys : List BoundPart) (last : Expression) (d : Block) → d ≡ block_of xs last → ys ≡ [] → left_to n (go l (shape_block w (names l) (block_of ys last))) ≡ go t (shape_block w (names t) (block_of xs last)) → kept ≡ n → t2 ≡ go l (shape w (names l) last) → t3 ≡ left_to kept t2 → t3 ≡ go t (shape_block w (names t) d)
 block_end n kept t l t2 t3 w xs ys last d a b e f g h =
     h ∙ ap (λ k. left_to k t2) f ∙ ap (left_to n) g ∙ sym (ap (λ q. left_to n (go l (shape_block w (names l) (block_of q last)))) b) ∙ e ∙ ap (λ q. go t (shape_block w (names t) q)) (sym a)
 
-pub instance_step : (t t1 t2 t3 : Stand) (w : World) (i : ℕ) (fip : Bool) (d : Instance) (first o : Option Violation) → t ≡ record { instance = i; fip = fip; found = first; walked = nothing; waiting = []; next = 0 } → t1 ≡ entered_all t (parameters w d.params d.binders) → t2 ≡ go t1 (shape_block w (names t1) d.body) → t3 ≡ left_to 0 t2 → o ≡ t3.found → o ≡ after first (map told (notes i fip nothing (body w d)))
+pub instance_step : (t t1 t2 t3 : Stand) (w : World) (i : ℕ) (fip : Bool) (d : Instance) (first o : Option Violation) → t ≡ record { instance = i; fip = fip; found = first; walked = nothing; waiting = []; next = 0 } → t1 ≡ entered_all t (parameters w d.params d.binders) → t2 ≡ go t1 (shape_block w (names t1) d.body) → t3 ≡ left_to 0 t2 → o ≡ t3.found → o ≡ after first (map reported (notes i fip nothing (body w d)))
 unfolding go
 instance_step t t1 t2 t3 w i fip d first o e f g h k =
     let s : Stand = record { instance = i; fip = fip; found = first; walked = nothing; waiting = []; next = 0 } in
@@ -218,8 +218,8 @@ lend_bound t t1 o x p n h e = e ∙ sym (ap (λ q. go t (lent_by (marks t) q p n
 
 -- ---- an instance
 
-pub instance_whole : (t t1 t2 t3 : Stand) (w : World) (i : ℕ) (fip : Bool) (d : Instance) (first o : Option Violation) → w.kind ≡ d.kind → is_ruled d.kind ≡ true → fip ≡ is_fip d.kind → t ≡ record { instance = i; fip = fip; found = first; walked = nothing; waiting = []; next = 0 } → t1 ≡ entered_all t (parameters w d.params d.binders) → t2 ≡ go t1 (shape_block w (names t1) d.body) → t3 ≡ left_to 0 t2 → o ≡ t3.found → o ≡ after first (map told (instance_notes w i d))
+pub instance_whole : (t t1 t2 t3 : Stand) (w : World) (i : ℕ) (fip : Bool) (d : Instance) (first o : Option Violation) → w.kind ≡ d.kind → is_ruled d.kind ≡ true → fip ≡ is_fip d.kind → t ≡ record { instance = i; fip = fip; found = first; walked = nothing; waiting = []; next = 0 } → t1 ≡ entered_all t (parameters w d.params d.binders) → t2 ≡ go t1 (shape_block w (names t1) d.body) → t3 ≡ left_to 0 t2 → o ≡ t3.found → o ≡ after first (map reported (instance_notes w i d))
 instance_whole t t1 t2 t3 w i fip d first o a b c e f g h k =
     instance_step t t1 t2 t3 w i fip d first o e f g h k
-    ∙ ap (λ q. after first (map told (notes i q nothing (body w d)))) c
-    ∙ sym (ap (λ q. after first (map told (if is_ruled q then notes i (is_fip q) nothing (body w d) else []))) a ∙ ap (λ q. after first (map told (if q then notes i (is_fip d.kind) nothing (body w d) else []))) b)
+    ∙ ap (λ q. after first (map reported (notes i q nothing (body w d)))) c
+    ∙ sym (ap (λ q. after first (map reported (if is_ruled q then notes i (is_fip q) nothing (body w d) else []))) a ∙ ap (λ q. after first (map reported (if q then notes i (is_fip d.kind) nothing (body w d) else []))) b)

@@ -25,7 +25,7 @@ use Rattle.fip_rules.specs.Shapes.{Names, owning, lending, owning_all, passing, 
 use Rattle.fip_rules.specs.Shape as S
 use Rattle.fip_trees.specs.fip_language.declared.rule.Rule.TheVariants.{E54}
 use Rattle.fip_rules.specs.Stands.{Stand, marks, names, go, went, aside, others}
-use Rattle.fip_rules.proofs.Laws.{go_skip}
+use Rattle.fip_rules.proofs.Theorems.{go_skip}
 use Rattle.fip_rules.proofs.Steps.{lending_scalar, lending_fault, match_step, one_clause, clauses_step}
 
 argument_literal : (i : ℤ) (p : Place) → argument (AV.Literal i p) ≡ T.Literal i p

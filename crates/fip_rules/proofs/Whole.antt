@@ -8,7 +8,7 @@ use Rattle.fip_trees.specs.Tree.{Instance, Program}
 use Rattle.fip_trees.specs.Least.{after, comes_before, IsLeast, IsLeastOf, refusal}
 use Rattle.fip_trees.specs.Least as L
 use Rattle.fip_trees.proofs.Leasts.{least_of, none_of}
-use Rattle.fip_rules.specs.Marks.{Breach, told}
+use Rattle.fip_rules.specs.Marks.{Breach, reported}
 use Rattle.fip_rules.specs.Shape as S
 use Rattle.fip_rules.specs.Rules.{Breaks, Ordered}
 use Rattle.fip_rules.specs.Notes.{In, nothing, notes}
@@ -28,32 +28,32 @@ all_is : (p : Program) (i : ℕ) (ds : List Instance) (b : Breach) → In b (all
 all_is p i [] b = (λ h. h, λ h. h)
 all_is p i (d ∷ ds) b = append_is b (instance_notes (world p d.kind) i d) (all_notes (is_scalar p.types) p.instances (suc i) ds) (BreaksInstance p i d b) (BreaksOne p (suc i) ds b) (one_is (is_ruled d.kind) i (is_fip d.kind) (body (world p d.kind) d) b (body_ordered (world p d.kind) d)) (all_is p (suc i) ds b)
 
-told_in : (b : Breach) (bs : List Breach) → In b bs → L.In (told b) (map told bs)
-told_in b [] h = h
-told_in b (c ∷ bs) (inl e) = inl (ap told e)
-told_in b (c ∷ bs) (inr h) = inr (told_in b bs h)
+reported_in : (b : Breach) (bs : List Breach) → In b bs → L.In (reported b) (map reported bs)
+reported_in b [] h = h
+reported_in b (c ∷ bs) (inl e) = inl (ap reported e)
+reported_in b (c ∷ bs) (inr h) = inr (reported_in b bs h)
 
-in_told : (v : Violation) (bs : List Breach) → L.In v (map told bs) → (b : Breach) × In b bs × (v ≡ told b)
-in_told v [] h = absurd h
-in_told v (c ∷ bs) (inl e) = (c, inl refl, e)
-in_told v (c ∷ bs) (inr h) = let g = in_told v bs h in (g.0, inr g.1, g.2)
+in_reported : (v : Violation) (bs : List Breach) → L.In v (map reported bs) → (b : Breach) × In b bs × (v ≡ reported b)
+in_reported v [] h = absurd h
+in_reported v (c ∷ bs) (inl e) = (c, inl refl, e)
+in_reported v (c ∷ bs) (inr h) = let g = in_reported v bs h in (g.0, inr g.1, g.2)
 
-violates_in : (p : Program) (v : Violation) → Violates p v → L.In v (map told (program_notes p))
-violates_in p v h = subst (λ u. L.In u (map told (program_notes p))) (sym h.2) (told_in h.0 (program_notes p) ((all_is p 0 p.instances h.0).1 h.1))
+violates_in : (p : Program) (v : Violation) → Violates p v → L.In v (map reported (program_notes p))
+violates_in p v h = subst (λ u. L.In u (map reported (program_notes p))) (sym h.2) (reported_in h.0 (program_notes p) ((all_is p 0 p.instances h.0).1 h.1))
 
-in_violates : (p : Program) (v : Violation) → L.In v (map told (program_notes p)) → Violates p v
-in_violates p v h = let g = in_told v (program_notes p) h in (g.0, (all_is p 0 p.instances g.0).0 g.1, g.2)
+in_violates : (p : Program) (v : Violation) → L.In v (map reported (program_notes p)) → Violates p v
+in_violates p v h = let g = in_reported v (program_notes p) h in (g.0, (all_is p 0 p.instances g.0).0 g.1, g.2)
 
 -- what a refusal names is the least violation
-pub refused : (p : Program) (o : Option Violation) (r : Refusal) → o ≡ after None (map told (program_notes p)) → option_map refusal o ≡ Some r → (v : Violation) × IsLeastOf (Violates p) v × (r ≡ refusal v)
+pub refused : (p : Program) (o : Option Violation) (r : Refusal) → o ≡ after None (map reported (program_notes p)) → option_map refusal o ≡ Some r → (v : Violation) × IsLeastOf (Violates p) v × (r ≡ refusal v)
 refused p None r h g = absurd (cc)
 refused p (Some v) r h g =
-    let l = least_of (map told (program_notes p)) v (sym h) in
+    let l = least_of (map reported (program_notes p)) v (sym h) in
     (v, record { violated = in_violates p v l.violated; least = λ w k. l.least w (violates_in p w k) }, cc)
 
 -- and where there is none, no rule is broken
-pub accepted : (p : Program) (o : Option Violation) → o ≡ after None (map told (program_notes p)) → option_map refusal o ≡ None → (v : Violation) → Violates p v → ⊥
-accepted p None h g v k = subst (λ vs. L.In v vs) (none_of (map told (program_notes p)) (sym h)) (violates_in p v k)
+pub accepted : (p : Program) (o : Option Violation) → o ≡ after None (map reported (program_notes p)) → option_map refusal o ≡ None → (v : Violation) → Violates p v → ⊥
+accepted p None h g v k = subst (λ vs. L.In v vs) (none_of (map reported (program_notes p)) (sym h)) (violates_in p v k)
 accepted p (Some u) h g v k = absurd (cc)
 
 -- the notes depend on which types are scalar alone

@@ -5,7 +5,7 @@ use Rattle.fip_base.specs.declared.refusal.PhaseError.TheVariants.{Refused, NoMe
 use Rattle.fip_trees.specs.declared.least.Violation.{Violation}
 use Rattle.fip_trees.specs.Least.{IsLeastOf, refusal}
 use Rattle.fip_trees.specs.Tree.{Instance, Program}
-use Rattle.fip_rules.specs.Marks.{Breach, told}
+use Rattle.fip_rules.specs.Marks.{Breach, reported}
 use Rattle.fip_rules.specs.Rules.{Breaks}
 use Rattle.fip_rules.specs.World.{world, is_fip, is_ruled}
 use Rattle.fip_rules.specs.Shapes.{body}
@@ -21,7 +21,7 @@ BreaksOne p i (d ∷ ds) b = BreaksInstance p i d b ⊎ BreaksOne p (suc i) ds b
 
 -- the violations of a program
 abbrev pub Violates : Program → Violation → Type 0
-Violates p v = (b : Breach) × BreaksOne p 0 p.instances b × (v ≡ told b)
+Violates p v = (b : Breach) × BreaksOne p 0 p.instances b × (v ≡ reported b)
 
 -- a refusal names the least violation
 abbrev pub Says : Program → PhaseError → Type 0

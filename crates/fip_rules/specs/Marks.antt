@@ -28,5 +28,5 @@ pub record Breach : Type 0 where
   pub mark : Mark
 
 -- the violation that it is
-abbrev pub told : Breach → Violation
-told b = violation b.rule b.mark.place b.instance 0 b.mark.name
+abbrev pub reported : Breach → Violation
+reported b = violation b.rule b.mark.place b.instance 0 b.mark.name

@@ -106,9 +106,9 @@ abbrev pub within : Names → List Bind → Names
 within c [] = c
 within c (b ∷ bs) = within record { marks = c.marks ++ mark c.next b.binder ∷ []; next = suc c.next } bs
 
--- behind a part: its binders have left scope
-abbrev pub behind : Names → S.Shape → Names
-behind c e = record { marks = c.marks; next = next c.next e }
+-- after a part: its binders have left scope
+abbrev pub following : Names → S.Shape → Names
+following c e = record { marks = c.marks; next = next c.next e }
 
 -- binders whose values are taken, or only lent
 abbrev pub taking : World → Bool → List Binder → List Bind
@@ -151,14 +151,14 @@ abbrev mutual
   shape_block w c (Last e) = shape w c e
   shape_block w c (Let bs e rest) =
       S.Then (S.Bound (shape w c e))
-      (clause_shape (behind c (shape w c e)) (taking w true bs) (λ d. shape_block w d rest))
+      (clause_shape (following c (shape w c e)) (taking w true bs) (λ d. shape_block w d rest))
 
-  -- the alternatives `done`, and the clauses behind them
+  -- the alternatives `done`, and the clauses after them
   pub shape_clauses : World → Bool → Names → S.Shape → Clauses → S.Shape
   shape_clauses w taken c done NoClauses = done
   shape_clauses w taken c done (MoreClauses q body cs) =
       shape_clauses w taken c (S.Either done
-      (clause_shape (behind c done) (taking w taken (binders q)) (λ d. shape_block w d body))) cs
+      (clause_shape (following c done) (taking w taken (binders q)) (λ d. shape_block w d body))) cs
 
 -- ---- instances
 

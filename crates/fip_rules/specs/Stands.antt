@@ -4,7 +4,7 @@ use Rattle.std.specs.Prelude.{◌==◌, if◌then◌else◌}
 use Rattle.fip_trees.specs.declared.least.Violation.{Violation}
 use Rattle.fip_trees.specs.Least.{after}
 use Rattle.fip_trees.specs.Tree.{Clauses, NoClauses, MoreClauses}
-use Rattle.fip_rules.specs.Marks.{Mark, Entry, Breach, told}
+use Rattle.fip_rules.specs.Marks.{Mark, Entry, Breach, reported}
 use Rattle.fip_rules.specs.Shape as S
 use Rattle.fip_rules.specs.Rules.{next}
 use Rattle.fip_rules.specs.Notes.{or_else, has, Walked, enter, deeper, run, notes, waits, exposed, missed}
@@ -44,7 +44,7 @@ noted t vs =
     record {
       instance = t.instance;
       fip = t.fip;
-      found = after t.found (map told vs);
+      found = after t.found (map reported vs);
       walked = t.walked;
       waiting = t.waiting;
       next = t.next;
@@ -56,7 +56,7 @@ go t e =
     record {
       instance = t.instance;
       fip = t.fip;
-      found = after t.found (map told (notes t.instance t.fip t.walked e));
+      found = after t.found (map reported (notes t.instance t.fip t.walked e));
       walked = run t.walked e;
       waiting = t.waiting ++ waits t.walked.scope t.walked.level e;
       next = next t.next e;
@@ -91,7 +91,7 @@ left_to kept t =
     record {
       instance = t.instance;
       fip = t.fip;
-      found = after t.found (map told (missed_from t.instance t.fip (drop kept t.walked.scope) t.walked.always));
+      found = after t.found (map reported (missed_from t.instance t.fip (drop kept t.walked.scope) t.walked.always));
       walked = with_scope (take kept t.walked.scope) t.walked;
       waiting = t.waiting;
       next = t.next;
@@ -117,7 +117,7 @@ surfaced l kw ku t =
     record {
       instance = t.instance;
       fip = t.fip;
-      found = after t.found (map told (exposed t.instance (drop kw t.waiting) (drop ku t.walked.used)));
+      found = after t.found (map reported (exposed t.instance (drop kw t.waiting) (drop ku t.walked.used)));
       walked = with_level l t.walked;
       waiting = take kw t.waiting;
       next = t.next;

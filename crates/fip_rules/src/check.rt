@@ -4,7 +4,7 @@ ghost use Rattle.fip_trees.specs.Least.{after};
 ghost use Rattle.fip_trees.specs.TreeView as V;
 ghost use Rattle.fip_trees.specs.declared.least.Violation.{Violation};
 ghost use Rattle.fip_rules.specs.Checks.{Violates, Says};
-ghost use Rattle.fip_rules.specs.Marks.{told};
+ghost use Rattle.fip_rules.specs.Marks.{reported};
 ghost use Rattle.fip_rules.specs.Noted.{instance_notes, all_notes, program_notes, first_parameter};
 ghost use Rattle.fip_rules.specs.Shapes.{parameters};
 ghost use Rattle.fip_rules.specs.Stands.{entered_all};
@@ -50,7 +50,7 @@ pub fn check_owned(alloc: Global, typed: &Typed) -> Result<(), PhaseError>
 
 // The least violation.
 fn check_all(alloc: Global, program: &Program) -> Result<Least, NoMemory>
-    ensures { IfOk result (λ l. l ≡ after None (map told (program_notes (V.program program.now)))) }
+    ensures { IfOk result (λ l. l ≡ after None (map reported (program_notes (V.program program.now)))) }
 {
     let scalars = Scalars::of(alloc, &program.types)?;
     let least = check_instances(alloc, &scalars, &program.instances)?;
@@ -64,7 +64,7 @@ fn check_instances(
     scalars: &Scalars,
     instances: &[Instance],
 ) -> Result<Least, NoMemory>
-    ensures { IfOk result (λ l. l ≡ after None (map told
+    ensures { IfOk result (λ l. l ≡ after None (map reported
         (all_notes (flag scalars.now) (V.instances instances.now) 0 (V.instances instances.now)))) }
 {
     let mut least = Least::new(alloc);
@@ -91,7 +91,7 @@ fn check_instance(
 ) -> Result<Least, NoMemory>
     requires { world.now.kind ≡ instance.now.kind }
     ensures { IfOk result (λ l. l ≡
-        after least (map told (instance_notes (world_of world.now) number (V.instance_of instance.now)))) }
+        after least (map reported (instance_notes (world_of world.now) number (V.instance_of instance.now)))) }
 {
     if !instance.kind.is_ruled() {
         return Ok(least);

@@ -64,7 +64,7 @@ impl Log {
         self.last_place(number).is_some()
     }
 
-    /// Whether a variable stands behind the first `kept` ones.
+    /// Whether a variable stands after the first `kept` ones.
     pub fn has_since(&self, kept: usize, number: usize) -> bool
         ensures held { result ≡ has (drop kept self.now) number }
     {
@@ -123,7 +123,7 @@ impl Log {
         self.steps[place].number
     }
 
-    /// Puts those behind the first `kept` ones behind a list.
+    /// Puts those after the first `kept` ones after a list.
     pub fn append_since(&self, kept: usize, out: &mut Vec<usize>) -> Result<(), NoMemory>
         ensures added { OnOk result (out.new.items ≡ out.old.items ++ drop kept self.now) }
     {
@@ -133,7 +133,7 @@ impl Log {
         Ok(())
     }
 
-    /// Those behind the first `kept` ones, each once.
+    /// Those after the first `kept` ones, each once.
     pub fn distinct_since(&self, alloc: Global, kept: usize) -> Result<Vec<usize>, NoMemory>
         ensures once { IfOk result (λ v. v.items ≡ distinct (drop kept self.now)) }
     {
@@ -147,7 +147,7 @@ impl Log {
         Ok(out)
     }
 
-    /// Those of a list that stand behind the first `kept` ones.
+    /// Those of a list that stand after the first `kept` ones.
     pub fn common_since(
         &self,
         alloc: Global,

@@ -4,7 +4,7 @@ ghost use Rattle.std.specs.Prelude.{◌≡◌, ◌<◌, ◌-◌, ℕ, List, [], 
 ghost use Rattle.std.specs.Prelude.{Option, Some, ◌==◌, not, ◌&&◌, if◌then◌else◌};
 ghost use Rattle.fip_trees.specs.fip_language.declared.rule.Rule.TheVariants as R;
 ghost use Rattle.fip_trees.specs.Least.{after};
-ghost use Rattle.fip_rules.specs.Marks.{Mark as PlainMark, told};
+ghost use Rattle.fip_rules.specs.Marks.{Mark as PlainMark, reported};
 ghost use Rattle.fip_rules.specs.Notes.{Walked, nothing, distinct, look, when, is_owned, use_of, lend_of, exposed};
 ghost use Rattle.fip_rules.specs.Rules.{broken};
 ghost use Rattle.fip_rules.specs.Shape as S;
@@ -139,7 +139,7 @@ impl<'a> State<'a> {
     }
 
     /// A rule that is broken as it stands.
-    #[tactic(auto, using(crate::proofs::Laws::go_fault))]
+    #[tactic(auto, using(crate::proofs::Theorems::go_fault))]
     pub fn fault(&mut self, rule: Rule, place: Place, name: &[u8]) -> Result<(), NoMemory>
         ensures noted { OnOk result (self.new ≡ go self.old (S.Fault rule (token place name.now))) }
     {
@@ -447,7 +447,7 @@ fn is_waiting(ownership: Ownership, is_bare: bool) -> bool
     is_owned(ownership) && !is_bare
 }
 
-// Notes the lending occurrences from a place on whose variables were used up behind the first `kept` uses.
+// Notes the lending occurrences from a place on whose variables were used up after the first `kept` uses.
 #[tactic(auto, using(crate::proofs::Shared::noting))]
 fn note_exposed(
     least: &mut Least,
@@ -457,7 +457,7 @@ fn note_exposed(
     marks: &[Mark<'_>],
     from: usize,
 ) -> Result<(), NoMemory>
-    ensures { OnOk result (least.new ≡ after least.old (map told
+    ensures { OnOk result (least.new ≡ after least.old (map reported
         (exposed instance (drop from (map mark_of marks.now)) (drop kept used.now)))) }
 {
     if from <= marks.len() {

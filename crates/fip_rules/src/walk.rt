@@ -16,7 +16,7 @@ use fip_trees::program::{Argument, Binder, Binding, Block, Clause, Expression, P
 
 // An argument in an owned position.
 #[cycle(argument)]
-#[tactic(auto, using(crate::proofs::Laws::going))]
+#[tactic(auto, using(crate::proofs::Theorems::going))]
 fn own<'a>(state: &mut State<'a>, argument: &'a Argument) -> Result<(), NoMemory>
     ensures { OnOk result (state.new ≡ go state.old (owning (marks state.old) (V.argument argument.now))) }
 {
@@ -32,7 +32,7 @@ fn own<'a>(state: &mut State<'a>, argument: &'a Argument) -> Result<(), NoMemory
 }
 
 #[cycle(argument)]
-#[tactic(auto, using(crate::proofs::Laws::going))]
+#[tactic(auto, using(crate::proofs::Theorems::going))]
 fn own_all<'a>(state: &mut State<'a>, arguments: &'a [Argument]) -> Result<(), NoMemory>
     ensures { OnOk result (state.new ≡ go state.old (owning_all (marks state.old) (V.arguments arguments.now))) }
 {
@@ -43,7 +43,7 @@ fn own_all<'a>(state: &mut State<'a>, arguments: &'a [Argument]) -> Result<(), N
 }
 
 // An argument in a borrowed position. E54: it is a constructor of a type that isn't scalar.
-#[tactic(auto, using(crate::proofs::Laws::going))]
+#[tactic(auto, using(crate::proofs::Theorems::going))]
 fn lend<'a>(
     state: &mut State<'a>,
     world: &World<'_>,
@@ -94,7 +94,7 @@ fn pass<'a>(
 }
 
 // The arguments of a call.
-#[tactic(auto, using(crate::proofs::Laws::going))]
+#[tactic(auto, using(crate::proofs::Theorems::going))]
 fn pass_all<'a>(
     state: &mut State<'a>,
     world: &World<'_>,
@@ -113,7 +113,7 @@ fn pass_all<'a>(
 }
 
 // The callee of a call. E55: it is of a weaker kind.
-#[tactic(auto, using(crate::proofs::Laws::going))]
+#[tactic(auto, using(crate::proofs::Theorems::going))]
 fn note_callee(
     state: &mut State<'_>,
     world: &World<'_>,
@@ -207,7 +207,7 @@ fn bind_patterns<'a>(
 }
 
 #[cycle(block)]
-#[tactic(auto, using(crate::proofs::Laws::going))]
+#[tactic(auto, using(crate::proofs::Theorems::going))]
 fn expression<'a>(
     state: &mut State<'a>,
     world: &World<'_>,
@@ -267,7 +267,7 @@ fn clause<'a>(
     Ok(())
 }
 
-// The clauses behind the first one, with what those before them use up.
+// The clauses after the first one, with what those before them use up.
 #[cycle(block)]
 fn other_clauses<'a>(
     state: &mut State<'a>,

@@ -31,7 +31,7 @@ use Rattle.session_lines.specs.session_semantics.Lines.{Given as Written}
 use Rattle.session_lines.specs.session_semantics.Talk.{Setting, State, free_frames, ok_text, running}
 use Rattle.value_text.specs.Loaded.{types_of, AreZero, cell_words}
 use Rattle.fip_session.specs.Answered.{GivesNone, GivesValues, IsAnswered}
-use Rattle.fip_session.specs.Behind.{IsBegun, IsBehind, IsKept}
+use Rattle.fip_session.specs.After.{IsBegun, IsAfter, IsKept}
 use Rattle.fip_session.specs.Came.{Came}
 use Rattle.fip_session.specs.Gone.{fresh_trees, all_uses, named_uses, lent_of}
 use Rattle.fip_session.specs.Planned.{Finds}
@@ -41,7 +41,7 @@ use Rattle.fip_session.specs.declared.book.Held.{Held}
 use Rattle.fip_session.specs.declared.ready.Ready.{Ready}
 use Rattle.fip_session.specs.declared.reply.Reply.{Reply}
 use Rattle.fip_session.specs.declared.reply.Reply.TheVariants as R
-use Rattle.fip_session.proofs.Behind as B
+use Rattle.fip_session.proofs.After as B
 use Rattle.fip_session.proofs.GivingUp.{up_same, fresh_are, used_are, lent_are}
 use Rattle.fip_session.proofs.Starting as S
 use Rattle.fip_session.proofs.Stores.{stand_all}
@@ -103,10 +103,10 @@ module _ (o : Setting) (s : State) (code : Code) (ls : List Lodged) (names : Lis
         (subst (λ m. GivesNone o s code.types i d gs vs held cells (R.NoValue e o.calls m)) (sym frames_same)
         (record {
           text = B.text o s code ls names n f i d gs vs old new r b before waits kinds frames frames_are e given u came not;
-          behind = by up;
+          following = by up;
         }))))
       where
-        by : IsGivenUp (λ q. (all_uses (fresh_trees gs xs) q + named_uses ls used q) + count q b.ready.spares) u (store_of cells.cells cells.released) ⊎ IsSwept (lodged_uses (but_all used ls)) u (store_of cells.cells cells.released) → IsBehind code.types held cells (running o s d gs vs)
+        by : IsGivenUp (λ q. (all_uses (fresh_trees gs xs) q + named_uses ls used q) + count q b.ready.spares) u (store_of cells.cells cells.released) ⊎ IsSwept (lodged_uses (but_all used ls)) u (store_of cells.cells cells.released) → IsAfter code.types held cells (running o s d gs vs)
         by (inl g) = record {
           lodged = but_all used ls;
           finds = finds;
@@ -136,7 +136,7 @@ module _ (o : Setting) (s : State) (code : Code) (ls : List Lodged) (names : Lis
         calls = results.calls;
         answer = results.answer;
         text = ap said done;
-        behind = record {
+        following = record {
           lodged = but_all used ls ++ lodge_all names f.results results.trees;
           finds = finds;
           kept = results.kept as_loading (up_same (lent_of (fresh_list f.params gs xs) (fresh_trees gs xs)) (λ q. lent_fresh_uses f.params gs xs q) u (store_of cells.cells cells.released) (λ q. sym (lent_are f.params gs xs q)) up);

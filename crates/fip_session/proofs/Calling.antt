@@ -38,7 +38,7 @@ use Rattle.fip_session.specs.Answered.{CanCall, CanRun, GivesNone, GivesValues, 
 use Rattle.fip_session.specs.Booked.{IsBook}
 use Rattle.fip_session.specs.Readied.{IsReady, Lie}
 use Rattle.fip_session.specs.declared.ready.Ready.{Ready}
-use Rattle.fip_session.specs.Behind.{IsBehind, IsKept}
+use Rattle.fip_session.specs.After.{IsAfter, IsKept}
 use Rattle.fip_session.specs.Named.{found}
 use Rattle.fip_session.specs.Opened.{IsSession, found_as}
 use Rattle.fip_session.specs.Planned.{CanTakeAll, Finds, IsWeighed, held_by}
@@ -64,8 +64,8 @@ found_names held ls finds name = ap (option_map (λ (h : Held). (h.ty, h.word)))
     by None = refl
     by (Some l) = refl
 
-pub session_on : (o : Setting) (s s' : State) (b b' : Book) (t t' : Room) → IsSession o (record { book = b; store = t }) s → b' ≡ record b { held = b'.held } → IsBehind o.program.types b'.held t'.cells s' → t'.left + over_sizes MOST_FIELDS (λ k. s'.made k * suc k) ≡ o.words → IsSession o (record { book = b'; store = t' }) s'
-session_on o s s' b b' t t' h same behind room =
+pub session_on : (o : Setting) (s s' : State) (b b' : Book) (t t' : Room) → IsSession o (record { book = b; store = t }) s → b' ≡ record b { held = b'.held } → IsAfter o.program.types b'.held t'.cells s' → t'.left + over_sizes MOST_FIELDS (λ k. s'.made k * suc k) ≡ o.words → IsSession o (record { book = b'; store = t' }) s'
+session_on o s s' b b' t t' h same following room =
     subst (λ c. IsSession o (record { book = c; store = t' }) s') (sym same) (record {
       served = h.served;
       table = h.table;
@@ -73,13 +73,13 @@ session_on o s s' b b' t t' h same behind room =
       calls = h.calls;
       frames = h.frames;
       opened = record {
-        lodged = behind.lodged;
-        names = found_names b'.held behind.lodged behind.finds;
-        distinct = behind.kept.distinct;
-        said = behind.kept.said;
-        held = behind.kept.held;
-        small = behind.small;
-        made = behind.kept.made;
+        lodged = following.lodged;
+        names = found_names b'.held following.lodged following.finds;
+        distinct = following.kept.distinct;
+        said = following.kept.said;
+        held = following.kept.held;
+        small = following.small;
+        made = following.kept.made;
         left = room;
       };
     })
@@ -122,7 +122,7 @@ module _ (o : Setting) (s : State) (b : Book) (t : Room) (h : IsSession o (recor
       let a = adds k le (omega (arith, z, few, short)) in
       (omega (arith, a, z), omega (arith, few, short))
 
-  -- behind a call for which there was room
+  -- after a call for which there was room
   pub room_then : (gs : List Written) (vs : Values) (credits : List ℕ) (s' : State) → needed s gs vs credits ≤ t.left → ((k : ℕ) → s'.made k ≡ made_then s gs vs credits k) → (t.left - needed s gs vs credits) + over_sizes MOST_FIELDS (λ k. s'.made k * suc k) ≡ o.words
   room_then gs vs credits s' fits made =
       let a = left_then MOST_FIELDS o.words t.left (needed s gs vs credits) s.made (made_then s gs vs credits) (λ k. more (s.made k) (live k s.held + (written k gs vs + credits_of k credits))) refl fits h.opened.left in
@@ -143,12 +143,12 @@ module _ (o : Setting) (s : State) (names : List Name) (entry : Name) (i : ℕ) 
   call_done r (inl v) = (
     holding (running o s d gs vs) (hold_all names d.results v.values),
     subst (λ x. CallReplies o s names entry gs x (holding (running o s d gs vs) (hold_all names d.results v.values))) (sym v.text) (Done i d vs v.values v.calls entered fits v.answer),
-    session_on o s (holding (running o s d gs vs) (hold_all names d.results v.values)) b b' t t' h same v.behind (ap (λ n. n + over_sizes MOST_FIELDS (λ k. made_then s gs vs d.credits k * suc k)) room ∙ room_then o s b t h gs vs d.credits (holding (running o s d gs vs) (hold_all names d.results v.values)) enough (λ k. refl)),
+    session_on o s (holding (running o s d gs vs) (hold_all names d.results v.values)) b b' t t' h same v.following (ap (λ n. n + over_sizes MOST_FIELDS (λ k. made_then s gs vs d.credits k * suc k)) room ∙ room_then o s b t h gs vs d.credits (holding (running o s d gs vs) (hold_all names d.results v.values)) enough (λ k. refl)),
   )
   call_done r (inr e) = (
     running o s d gs vs,
     Ended i d vs (said r) entered fits e.text,
-    session_on o s (running o s d gs vs) b b' t t' h same e.behind (ap (λ n. n + over_sizes MOST_FIELDS (λ k. made_then s gs vs d.credits k * suc k)) room ∙ room_then o s b t h gs vs d.credits (running o s d gs vs) enough (λ k. refl)),
+    session_on o s (running o s d gs vs) b b' t t' h same e.following (ap (λ n. n + over_sizes MOST_FIELDS (λ k. made_then s gs vs d.credits k * suc k)) room ∙ room_then o s b t h gs vs d.credits (running o s d gs vs) enough (λ k. refl)),
   )
 
 -- ---- words of a line

@@ -18,7 +18,7 @@ use Rattle.session_values.specs.Readable.{IsLine}
 use Rattle.value_text.specs.Loaded.{types_of}
 use Rattle.session_lines.specs.instance_semantics.fip_trees.Tree.{Instance}
 use Rattle.session_lines.specs.session_semantics.Lines.{Given as Written}
-use Rattle.session_lines.specs.session_semantics.Talk.{Setting, State, Holding, Called, CallReplies, NoEntry, WrongNumber, BadArgument, BadResult, AreTaken, AreFree, IsWrong, IsTakenName, used_by, written, told}
+use Rattle.session_lines.specs.session_semantics.Talk.{Setting, State, Holding, Called, CallReplies, NoEntry, WrongNumber, BadArgument, BadResult, AreTaken, AreFree, IsWrong, IsTakenName, used_by, written, reported}
 use Rattle.session_lines.specs.session_semantics.Typed.{IsEntry}
 use Rattle.session_values.specs.Read.{Adds}
 use Rattle.value_text.specs.declared.counts.Counts.{Counts}
@@ -37,7 +37,7 @@ module _ (o : Setting) (s : State) (b : Book) (ls : List Lodged) (book : IsBook 
   abbrev functions : List Function
   functions = b.verified.now.code.functions.items
 
-  pub no_entry : 0 < length name → ((n : ℕ) → HasName functions name n → ⊥) → CallReplies o s results name gs (told (codes "no entry ") name) s
+  pub no_entry : 0 < length name → ((n : ℕ) → HasName functions name n → ⊥) → CallReplies o s results name gs (reported (codes "no entry ") name) s
   no_entry some none = NoEntry (λ i d e. (let f = book.served.function name i d some e in none f.0 f.1))
 
   module _ (n : ℕ) (f : Function) (there : slice_get functions n ≡ Some f) (has : HasName functions name n) where
@@ -81,9 +81,9 @@ module _ (o : Setting) (s : State) (b : Book) (ls : List Lodged) (book : IsBook 
       carried : (P : Table → List Holding → List Param → Type 0) → P b.table.now (map holding_of ls) f.params → P o.program.types s.held d.params
       carried P h = subst (λ tb. P tb s.held d.params) book.table (subst (λ hs. P b.table.now hs d.params) (sym held) (subst (λ qs. P b.table.now (map holding_of ls) qs) is_of.params h))
 
-      pub bad_argument : (number : ℕ) → IsBadAt b.table.now (map holding_of ls) [] f.params gs number → CallReplies o s results name gs (told (codes "bad argument ") (decimal number)) s
+      pub bad_argument : (number : ℕ) → IsBadAt b.table.now (map holding_of ls) [] f.params gs number → CallReplies o s results name gs (reported (codes "bad argument ") (decimal number)) s
       bad_argument number bad =
-          subst (λ m. CallReplies o s results name gs (told (codes "bad argument ") (decimal m)) s) (sym bad.1)
+          subst (λ m. CallReplies o s results name gs (reported (codes "bad argument ") (decimal m)) s) (sym bad.1)
           (BadArgument i d bad.0 entered (given ∙ params_many) (named' ∙ results_many) (carried (λ tb hs qs. IsWrong tb hs [] qs gs bad.0) bad.2))
 
       module _ (begun taken : Arguments) (empty : begun.given.items ≡ []) (all : TakesAll b.table.now (map holding_of ls) f.params gs begun taken) where
@@ -93,7 +93,7 @@ module _ (o : Setting) (s : State) (b : Book) (ls : List Lodged) (book : IsBook 
         used_is : names_used taken.given.items ≡ used_by o.program.types d.params gs
         used_is = all.used ∙ ap (λ gs'. names_used gs' ++ used_by b.table.now f.params gs) empty ∙ ap (λ tb. used_by tb f.params gs) book.table ∙ ap (λ qs. used_by o.program.types qs gs) is_of.params
 
-        pub bad_result : (m : Name) → IsTakenName (map holding_of ls) (names_used taken.given.items) [] results m → CallReplies o s results name gs (told (codes "bad result ") m) s
+        pub bad_result : (m : Name) → IsTakenName (map holding_of ls) (names_used taken.given.items) [] results m → CallReplies o s results name gs (reported (codes "bad result ") m) s
         bad_result m bad = BadResult i d all.values m entered (named' ∙ results_many) are (subst (λ us. IsTakenName s.held us [] results m) used_is (subst (λ hs. IsTakenName hs (names_used taken.given.items) [] results m) (sym held) bad))
 
         pub planned : (p : Plan) → p.entry ≡ n → p.function.now ≡ f → p.arguments ≡ taken → ((k : ℕ) → slice_index_or begun.fresh.numbers k 0 ≡ 0) → AreFree (map holding_of ls) (names_used taken.given.items) [] results → IsPlanned o s b results name gs p

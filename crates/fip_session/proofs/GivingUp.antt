@@ -1,4 +1,4 @@
--- What is released behind a call, one tree after another.
+-- What is released after a call, one tree after another.
 use Rattle.std.proofs.Common.{◌≡◌, ◌⊎◌, inl, inr, ◌∙◌, ℕ, zero, suc, ◌+◌, ◌/◌, ◌*◌, ◌<◌, ◌≤◌, Bool, true, false, List, [], ◌∷◌, ◌++◌, length, map, drop, take, get_or, Option, Some, None, refl, sym, ap, subst, arith, append-nil, if◌then◌else◌}
 use Rattle.std.proofs.lemmas.Option.{none-some, same_Some}
 use Rattle.fip_base.specs.declared.plain.Param.{Param}
@@ -31,7 +31,7 @@ use Rattle.fip_language.proofs.Facts.{length_join, positive_or_zero as some_or}
 use Rattle.session_correctness.proofs.Calls.{there_at as there_same}
 use Rattle.value_text.proofs.Credits.{count_append as count_join}
 
--- ---- one behind another
+-- ---- one after another
 
 pub up_none : (s : Store) → IsGivenUp (λ q. 0) s s
 up_none s = record { cells = refl; wide = refl; here = λ q some. absurd (let z : ⊥ = omega (arith, some) in z); other = λ q none. refl }

@@ -18,7 +18,7 @@ pub mod Made
 pub mod Forgetting
 pub mod Sweeping
 pub mod Noting
-pub mod Behind
+pub mod After
 pub mod Answering
 pub mod RunAnswers
 pub mod Calling

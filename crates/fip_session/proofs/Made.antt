@@ -95,7 +95,7 @@ held_all tb ls credits spares s k st stand spare once =
     let c = parts_cells k ls in
     omega (arith, f, c)
 
--- Behind the making of a line's cells there are those that were made before, or more where they don't suffice.
+-- After the making of a line's cells there are those that were made before, or more where they don't suffice.
 pub made_of : (tb : Table) (ls : List Lodged) (ps : List Param) (credits spares : List ℕ) (gs : List Written) (xs : Parts) (old new : Loading) (k live made more : ℕ) → IsHeld tb ls (store_of old.cells old.released) → IsStore (store_of new.cells new.released) → AllStand tb (store_of new.cells new.released) ls → AreTrees tb ls [] ps gs xs → StandAll tb (store_of new.cells new.released) (map (λ p. p.ty) ps) xs → AreSpare (store_of new.cells new.released) credits spares → ((q : ℕ) → lodged_uses ls q + ((fresh_uses gs xs q + count q spares) + released_at (store_of new.cells new.released) q) ≡ there (store_of new.cells new.released) q) → count_free k new.cells new.released ≡ count_free k old.cells old.released - more → more ≡ written k gs (values_of xs) + count k credits → made ≡ sized k old.cells → live ≡ lodged_cells k ls → max made (live + more) ≡ sized k new.cells
 made_of tb ls ps credits spares gs xs old new k live made more held st stand trees stands spare once free is was lives =
     let s : Store = store_of new.cells new.released in

@@ -7,13 +7,13 @@ use Rattle.store_trees.specs.Added.{places_of}
 use Rattle.store_trees.specs.declared.trees.Tree.{Tree}
 use Rattle.std.specs.Prelude.{IfSome}
 use Rattle.cell_store.specs.Cells as L
-use Rattle.cell_store.specs.Cells.{IsBehind}
+use Rattle.cell_store.specs.Cells.{IsAfter}
 use Rattle.fip_machine.specs.machine_cells.Small.{store_of}
 use Rattle.session_correctness.specs.tree_refinement.machine_semantics.Cells.{Store, IsStore}
 use Rattle.store_trees.specs.GivenUp.{given_up}
 use Rattle.fip_session.specs.Swept.{IsMarked}
 use Rattle.fip_session.proofs.GivingUp.{up_none, up_places}
-use Rattle.fip_session.proofs.Sweeping.{Sweeping, sweeping_on, sweeping_store, behind_of, IsNextCell}
+use Rattle.fip_session.proofs.Sweeping.{Sweeping, sweeping_on, sweeping_store, after_of, IsNextCell}
 use Rattle.fip_language.proofs.Facts.{replicate_length as length_replicate, same_or_apart as same_place}
 
 one_here : (p q : ℕ) → p ≡ q → one_at q p ≡ 1
@@ -128,19 +128,19 @@ marked_or marks p = by (slice_get marks p)
     by (Some false) = inr (λ e. (let z = same_Some false true e in absurd (cc)))
 
 -- one cell is looked at
-pub swept_on : (list : List Tree) (marks : List Bool) (first : Store) (cs ds : L.Cells) (rs new : List Bool) (p : ℕ) (next : Option ℕ) → IsMarked list marks → IsStore first → Sweeping (λ q. count q (places_of list)) first (store_of cs rs) (Some p) → ds ≡ cs → (slice_get marks p ≡ Some true → new ≡ rs) → ((slice_get marks p ≡ Some true → ⊥) → new ≡ given_up (L.cell_at cs p) p rs) → IfSome next (IsBehind (Some p)) → IsNextCell (Some p) next first.cells → Sweeping (λ q. count q (places_of list)) first (store_of ds new) next
-swept_on list marks first cs ds rs new p next m st w same marked unmarked behind empty =
+pub swept_on : (list : List Tree) (marks : List Bool) (first : Store) (cs ds : L.Cells) (rs new : List Bool) (p : ℕ) (next : Option ℕ) → IsMarked list marks → IsStore first → Sweeping (λ q. count q (places_of list)) first (store_of cs rs) (Some p) → ds ≡ cs → (slice_get marks p ≡ Some true → new ≡ rs) → ((slice_get marks p ≡ Some true → ⊥) → new ≡ given_up (L.cell_at cs p) p rs) → IfSome next (IsAfter (Some p)) → IsNextCell (Some p) next first.cells → Sweeping (λ q. count q (places_of list)) first (store_of ds new) next
+swept_on list marks first cs ds rs new p next m st w same marked unmarked following empty =
     let held : ℕ → ℕ = λ q. count q (places_of list) in
     subst (λ es. Sweeping held first (store_of es new) next) (sym same) (elim (marked_or marks p) as (λ v. Sweeping held first (store_of cs new) next) [
       | inl is ↦
           subst (λ ns. Sweeping held first (store_of cs ns) next) (sym (marked is))
-          (sweeping_on held first (store_of cs rs) (store_of cs rs) p next [] st w (up_none (store_of cs rs)) (λ q some. absurd (let z : ⊥ = omega (arith, some) in z)) (λ none. (let y = m.yes p is in absurd (let z : ⊥ = omega (arith, y, none) in z))) (λ some q. refl) (behind_of p next behind) empty)
+          (sweeping_on held first (store_of cs rs) (store_of cs rs) p next [] st w (up_none (store_of cs rs)) (λ q some. absurd (let z : ⊥ = omega (arith, some) in z)) (λ none. (let y = m.yes p is in absurd (let z : ⊥ = omega (arith, y, none) in z))) (λ some q. refl) (after_of p next following) empty)
       | inr not ↦
           sweeping_on held first (store_of cs rs) (store_of cs new) p next (p ∷ []) st w (up_places cs rs new (p ∷ []) (sweeping_store held first (store_of cs rs) (Some p) st w) (unmarked not))
           (λ q some. alone q some)
           (λ none. (let e = one_here p p refl in omega (arith, e)))
           (λ some q. absurd (not (m.all p some)))
-          (behind_of p next behind) empty
+          (after_of p next following) empty
     ])
   where
     alone : (q : ℕ) → 0 < count q (p ∷ []) → q ≡ p

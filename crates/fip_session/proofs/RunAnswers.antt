@@ -43,7 +43,7 @@ use Rattle.fip_session.specs.declared.plan.Plan.{Plan}
 use Rattle.fip_session.specs.declared.ready.Ready.{Ready}
 use Rattle.fip_session.specs.declared.reply.Reply.TheVariants as Y
 use Rattle.fip_session.proofs.Answering as A
-use Rattle.fip_session.proofs.Behind as B
+use Rattle.fip_session.proofs.After as B
 use Rattle.fip_session.proofs.GivingUp.{all_standing}
 use Rattle.fip_session.proofs.Starting as S
 
@@ -149,8 +149,8 @@ module _ (o : Setting) (s : State) (b : Book) (p : Plan) (ls : List Lodged) (nam
         can_release b1 noted table forgets are = record {
           finds = forgotten b1.held forgets;
           distinct = distinct_but_all (A.used o s code ls names p.entry f i d gs vs old new r can.begun) ls can.begun.kept.distinct;
-          stand = subst (λ tb. Every (λ l. V.Stands tb cells1.cells l.type l.tree) (but_all (A.used o s code ls names p.entry f i d gs vs old new r can.begun) ls)) (sym (table ∙ can.table)) (B.behind_lies o s code ls names p.entry f i d gs vs old new r can.begun before waits kinds frames frames_are e given u came);
-          apart = B.behind_apart o s code ls names p.entry f i d gs vs old new r can.begun before waits kinds frames frames_are e given u came;
+          stand = subst (λ tb. Every (λ l. V.Stands tb cells1.cells l.type l.tree) (but_all (A.used o s code ls names p.entry f i d gs vs old new r can.begun) ls)) (sym (table ∙ can.table)) (B.after_lies o s code ls names p.entry f i d gs vs old new r can.begun before waits kinds frames frames_are e given u came);
+          apart = B.after_apart o s code ls names p.entry f i d gs vs old new r can.begun before waits kinds frames frames_are e given u came;
           are = are;
           words = can.begun.ready.credits_are;
           few = A.places_within new.cells can.begun.ready.spares f.credits.items can.begun.small can.begun.ready.zero;

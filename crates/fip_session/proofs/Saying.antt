@@ -29,10 +29,10 @@ use Rattle.session_lines.specs.declared.line.CallLine.{CallLine}
 use Rattle.session_lines.specs.declared.line.Line.TheVariants as R
 use Rattle.session_lines.specs.command_outcome.Texts.{line_end}
 use Rattle.session_lines.specs.session_semantics.Lines.{Given as Written, Line, SpellsLine, Calls, GivesUp, Shows}
-use Rattle.session_lines.specs.session_semantics.Talk.{Setting, State, Replies, CallReplies, BadLine, NothingGivenUp, GivenUp, NothingShown, Shown, Called', held_as, without, told, ok_text}
+use Rattle.session_lines.specs.session_semantics.Talk.{Setting, State, Replies, CallReplies, BadLine, NothingGivenUp, GivenUp, NothingShown, Shown, Called', held_as, without, reported, ok_text}
 use Rattle.value_text.specs.Standing as V
 use Rattle.fip_session.specs.Answered.{CallAnswered, LineAnswered}
-use Rattle.fip_session.specs.Behind.{IsBehind}
+use Rattle.fip_session.specs.After.{IsAfter}
 use Rattle.fip_session.specs.Named.{found}
 use Rattle.fip_session.specs.Opened.{IsSession, RepliesTo}
 use Rattle.fip_session.specs.Planned.{Finds, held_by}
@@ -105,7 +105,7 @@ module _ (o : Setting) (s : State) (b : Book) (t : Room) (h : IsSession o (recor
   stand : Every (λ l. V.Stands o.program.types t.cells.cells l.type l.tree) ls
   stand = lodged_lie o.program.types (store_of t.cells.cells t.cells.released) ls h.opened.held.stand
 
-  pub show_answered : (name : Name) (r : Reply) → SpellsLine bytes (Shows name) → (found b.held name ≡ None → said r ≡ told (codes "no name ") name) → ((ls : List Lodged) → Finds b.held ls → length t.cells.cells ≤ 2 ^ 32 → (l : Lodged) → lodged_as name ls ≡ Some l → V.Stands b.table.now t.cells.cells l.type l.tree → said r ≡ printed b.table.now l.type (value_of l.tree) line_end) → LineAnswered o s bytes b t r
+  pub show_answered : (name : Name) (r : Reply) → SpellsLine bytes (Shows name) → (found b.held name ≡ None → said r ≡ reported (codes "no name ") name) → ((ls : List Lodged) → Finds b.held ls → length t.cells.cells ≤ 2 ^ 32 → (l : Lodged) → lodged_as name ls ≡ Some l → V.Stands b.table.now t.cells.cells l.type l.tree → said r ≡ printed b.table.now l.type (value_of l.tree) line_end) → LineAnswered o s bytes b t r
   show_answered name r spelt none shown = by (lodged_as name ls) refl
     where
       by : (m : Option Lodged) → lodged_as name ls ≡ m → LineAnswered o s bytes b t r
@@ -120,7 +120,7 @@ module _ (o : Setting) (s : State) (b : Book) (t : Room) (h : IsSession o (recor
           ∙ ap (λ tb. printed tb l.type (value_of l.tree) line_end) h.table in
           (s, subst (λ x. Replies o s bytes x s) (sym text) (Shown name (holding_of l) spelt (is_held o s b t h name l e)), h)
 
-  pub not_given : (name : Name) → SpellsLine bytes (GivesUp name) → found b.held name ≡ None → (x : State) × Replies o s bytes (told (codes "no name ") name) x × IsSession o (record { book = b; store = t }) x
+  pub not_given : (name : Name) → SpellsLine bytes (GivesUp name) → found b.held name ≡ None → (x : State) × Replies o s bytes (reported (codes "no name ") name) x × IsSession o (record { book = b; store = t }) x
   not_given name spelt none = (s, NothingGivenUp name spelt (not_held o s b t h name none), h)
 
   pub give_answered : (name : Name) (hd : Held) (b' : Book) (new : Stored) → SpellsLine bytes (GivesUp name) → found b.held name ≡ Some hd → b' ≡ record b { held = b'.held } → ((other : Name) → found b'.held other ≡ update bytes_eq (found b.held) name None other) → new.cells ≡ t.cells.cells → (length t.cells.cells ≤ MOST_STORE_WORDS → IsStore (store_of t.cells.cells t.cells.released) → (x : Placed) → V.Stands b'.table.now t.cells.cells hd.ty x → word_of x ≡ hd.word → ((q : ℕ) → uses q x ≤ there (store_of t.cells.cells t.cells.released) q) → IsGivenUp (λ q. uses q x) (store_of t.cells.cells t.cells.released) (store_of new.cells new.released)) → LineAnswered o s bytes b' (record { cells = new; left = t.left }) Y.Done
@@ -135,7 +135,7 @@ module _ (o : Setting) (s : State) (b : Book) (t : Room) (h : IsSession o (recor
           let stands : V.Stands b'.table.now t.cells.cells hd.ty l.tree = subst (λ tb. V.Stands tb t.cells.cells hd.ty l.tree) (sym table) (subst (λ (k : Held). V.Stands o.program.types t.cells.cells k.ty l.tree) held here) in
           let sums : (q : ℕ) → lodged_uses ls q ≡ uses q l.tree + lodged_uses (but name ls) q = λ q. taken_out name l ls q h.opened.distinct e in
           let up = gone h.opened.small h.opened.held.store l.tree stands (ap (λ (k : Held). k.word) held) (λ q. (let a = h.opened.held.once q in let z = sums q in omega (arith, a, z))) in
-          let behind : IsBehind o.program.types b'.held new (record { held = without name s.held; made = s.made }) = record {
+          let following : IsAfter o.program.types b'.held new (record { held = without name s.held; made = s.made }) = record {
             lodged = but name ls;
             finds = finds_but b.held b'.held ls name finds forgets;
             kept = record {
@@ -148,7 +148,7 @@ module _ (o : Setting) (s : State) (b : Book) (t : Room) (h : IsSession o (recor
           } in (
             record { held = without name s.held; made = s.made },
             GivenUp name (holding_of l) spelt (is_held o s b t h name l e),
-            session_on o s (record { held = without name s.held; made = s.made }) b b' t (record { cells = new; left = t.left }) h same behind h.opened.left,
+            session_on o s (record { held = without name s.held; made = s.made }) b b' t (record { cells = new; left = t.left }) h same following h.opened.left,
           )
 
 -- a call's answer is that of its line

@@ -17,7 +17,7 @@ use Rattle.std.specs.declared.alloc.Global.{Global}
 use Rattle.std.specs.declared.cmp.Ordering.TheVariants.{Less}
 use Rattle.std.specs.declared.vec.Vec.{Vec}
 use Rattle.cell_store.specs.Cells as L
-use Rattle.cell_store.specs.Cells.{IsBehind}
+use Rattle.cell_store.specs.Cells.{IsAfter}
 use Rattle.fip_language.specs.Core.{Name}
 use Rattle.fip_language.specs.Every.{Every}
 use Rattle.fip_language.specs.Store.{Cell, Placed, word_of, uses, count, places, one_at}
@@ -38,7 +38,7 @@ use Rattle.fip_session.proofs.GivingUp.{added_more, few_more}
 use Rattle.fip_session.proofs.Readying.{every_at}
 use Rattle.fip_session.proofs.Stores.{same_cell}
 use Rattle.fip_language.proofs.Facts.{positive_or_zero as some_or, three_ways as place_or}
-pub use Rattle.fip_session.proofs.Behind.{every_but}
+pub use Rattle.fip_session.proofs.After.{every_but}
 
 abbrev pub Entries : Type 0
 Entries = List (Vec ℕ Global × Held)
@@ -46,10 +46,10 @@ Entries = List (Vec ℕ Global × Held)
 abbrev pub at_name : Name → Entries → Option Held
 at_name name es = lookup (is_at (λ k. slice_cmp nat_cmp name k.items)) es
 
--- behind a key there is no equal one
-none_behind : (name : Name) (es : Entries) → AllByRecursion (λ y. slice_cmp nat_cmp name y.items ≡ Less) (keys_of es) → at_name name es ≡ None
-none_behind name [] h = refl
-none_behind name (e ∷ es) h = cond-false (is_eq (slice_cmp nat_cmp name (e.0).items)) (Some e.1) (at_name name es) (ap is_eq h.0) ∙ none_behind name es h.1
+-- after a key there is no equal one
+none_after : (name : Name) (es : Entries) → AllByRecursion (λ y. slice_cmp nat_cmp name y.items ≡ Less) (keys_of es) → at_name name es ≡ None
+none_after name [] h = refl
+none_after name (e ∷ es) h = cond-false (is_eq (slice_cmp nat_cmp name (e.0).items)) (Some e.1) (at_name name es) (ap is_eq h.0) ∙ none_after name es h.1
 
 -- the trees of the first entries are gathered
 pub record Gathering (tb : Table) (cs : L.Cells) (ls : List Lodged) (es : Entries) (list : List Tree) : Type 0 where
@@ -97,7 +97,7 @@ module _ (tb : Table) (cs : L.Cells) (ls : List Lodged) (k : Vec ℕ Global) (h 
     finds = λ name. elim (same_or k.items name) as (λ v. at_name name es ≡ option_map held_by (lodged_as name (but k.items g.left))) [
       | inl e ↦
           subst (λ m. at_name m es ≡ option_map held_by (lodged_as m (but k.items g.left))) e
-          (none_behind k.items es (sorted_head (λ (a b : Vec ℕ Global). slice_cmp nat_cmp a.items b.items) k (keys_of es) g.ordered) ∙ sym (ap (option_map held_by) (but_same k.items g.left)))
+          (none_after k.items es (sorted_head (λ (a b : Vec ℕ Global). slice_cmp nat_cmp a.items b.items) k (keys_of es) g.ordered) ∙ sym (ap (option_map held_by) (but_same k.items g.left)))
       | inr off ↦
           sym (cond-false (is_eq (slice_cmp nat_cmp name k.items)) (Some h) (at_name name es) (is_eq-slice_cmp name k.items ∙ unlike name k.items (λ e. off (sym e))))
           ∙ g.finds name ∙ ap (option_map held_by) (sym (but_other name k.items g.left off))
@@ -153,9 +153,9 @@ past_or (Some a) q = less_or q a
 none_there : (s : Store) (q : ℕ) → L.cell_at s.cells q ≡ None → there s q ≡ 0
 none_there s q e = ap one_if_some (sym (same_cell s.cells q) ∙ e)
 
--- between a place and the next one, or behind it where there is none, no cell begins
+-- between a place and the next one, or after it where there is none, no cell begins
 abbrev pub IsNextCell : Option ℕ → Option ℕ → L.Cells → Type 0
-IsNextCell before next cs = (r : ℕ) → IsBehind before r → IsPast next r → L.cell_at cs r ≡ None
+IsNextCell before next cs = (r : ℕ) → IsAfter before r → IsPast next r → L.cell_at cs r ≡ None
 
 pub sweeping_starts : (held : ℕ → ℕ) (first : Store) (next : Option ℕ) → IsStore first → IsNextCell None next first.cells → Sweeping held first first next
 sweeping_starts held first next st empty = record {
@@ -181,20 +181,20 @@ sweeping_store held first now next st w = record {
       ];
 }
 
-module _ (held : ℕ → ℕ) (first now u : Store) (p : ℕ) (next : Option ℕ) (ps : List ℕ) (st : IsStore first) (w : Sweeping held first now (Some p)) (up : IsGivenUp (λ q. count q ps) now u) (one : (q : ℕ) → 0 < count q ps → q ≡ p) (covers : held p ≡ 0 → 0 < count p ps) (held_not : 0 < held p → (q : ℕ) → count q ps ≡ 0) (behind : (q : ℕ) → next ≡ Some q → p < q) (empty : IsNextCell (Some p) next first.cells) where
+module _ (held : ℕ → ℕ) (first now u : Store) (p : ℕ) (next : Option ℕ) (ps : List ℕ) (st : IsStore first) (w : Sweeping held first now (Some p)) (up : IsGivenUp (λ q. count q ps) now u) (one : (q : ℕ) → 0 < count q ps → q ≡ p) (covers : held p ≡ 0 → 0 < count p ps) (held_not : 0 < held p → (q : ℕ) → count q ps ≡ 0) (following : (q : ℕ) → next ≡ Some q → p < q) (empty : IsNextCell (Some p) next first.cells) where
   before_next : (q : ℕ) → q < p → IsPast next q
   before_next q less = by next refl
     where
       by : (o : Option ℕ) → next ≡ o → IsPast o q
       by None e = tt
-      by (Some a) e = (let b = behind a e in omega (arith, b, less))
+      by (Some a) e = (let b = following a e in omega (arith, b, less))
 
   here_next : IsPast next p
   here_next = by next refl
     where
       by : (o : Option ℕ) → next ≡ o → IsPast o p
       by None e = tt
-      by (Some a) e = behind a e
+      by (Some a) e = following a e
 
   away : (q : ℕ) → (q ≡ p → ⊥) → count q ps ≡ 0
   away q off = elim (some_or (count q ps)) as (λ v. count q ps ≡ 0) [
@@ -239,7 +239,7 @@ sweeping_ends held first now w = record {
 
 -- ---- the walk's end
 
--- how far the cells reach behind a place
+-- how far the cells reach after a place
 abbrev pub left_behind : L.Cells → Option ℕ → ℕ
 left_behind cs None = 0
 left_behind cs (Some p) = suc (length cs - p)
@@ -249,13 +249,13 @@ within_cells [] p h = absurd (h refl)
 within_cells (o ∷ os) zero h = omega arith
 within_cells (o ∷ os) (suc p) h = (let r = within_cells os p h in omega (arith, r))
 
-pub less_left : (cs : L.Cells) (p : ℕ) (o : Option ℕ) → L.cell_at cs p ≢ None → IfSome o (IsBehind (Some p)) → left_behind cs o < left_behind cs (Some p)
-less_left cs p None there behind = omega arith
-less_left cs p (Some q) there behind = (let l = within_cells cs p there in omega (arith, l, behind))
+pub less_left : (cs : L.Cells) (p : ℕ) (o : Option ℕ) → L.cell_at cs p ≢ None → IfSome o (IsAfter (Some p)) → left_behind cs o < left_behind cs (Some p)
+less_left cs p None there following = omega arith
+less_left cs p (Some q) there following = (let l = within_cells cs p there in omega (arith, l, following))
 
-pub next_cell : (before next : Option ℕ) (cs : L.Cells) → IfSome next (λ q. (r : ℕ) → IsBehind before r → r < q → L.cell_at cs r ≡ None) → IfNone next ((r : ℕ) → IsBehind before r → L.cell_at cs r ≡ None) → IsNextCell before next cs
-next_cell before None cs some none r behind past = none r behind
-next_cell before (Some q) cs some none r behind past = some r behind past
+pub next_cell : (before next : Option ℕ) (cs : L.Cells) → IfSome next (λ q. (r : ℕ) → IsAfter before r → r < q → L.cell_at cs r ≡ None) → IfNone next ((r : ℕ) → IsAfter before r → L.cell_at cs r ≡ None) → IsNextCell before next cs
+next_cell before None cs some none r following past = none r following
+next_cell before (Some q) cs some none r following past = some r following past
 
-pub behind_of : (p : ℕ) (next : Option ℕ) → IfSome next (IsBehind (Some p)) → (q : ℕ) → next ≡ Some q → p < q
-behind_of p next h q e = subst (λ o. IfSome o (IsBehind (Some p))) e h
+pub after_of : (p : ℕ) (next : Option ℕ) → IfSome next (IsAfter (Some p)) → (q : ℕ) → next ≡ Some q → p < q
+after_of p next h q e = subst (λ o. IfSome o (IsAfter (Some p))) e h

@@ -26,5 +26,5 @@ goes_on o lines out t u line reply rest f h =
           (f.talks ((reply ++ line_end) ++ text) (reply ++ line_end, text, h.0, h.1, refl, g));
     }
 
-pub all_told : (o : Setting) (lines : List (List ℕ)) (out : List ℕ) (t : Session) → Follows o lines out t [] → Talks o at_first lines out
-all_told o lines out t f = subst (Talks o at_first lines) (append-nil out) (f.talks [] refl)
+pub all_reported : (o : Setting) (lines : List (List ℕ)) (out : List ℕ) (t : Session) → Follows o lines out t [] → Talks o at_first lines out
+all_reported o lines out t f = subst (Talks o at_first lines) (append-nil out) (f.talks [] refl)

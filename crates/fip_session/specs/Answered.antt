@@ -1,4 +1,4 @@
--- For private contracts alone: what a call is answered, and what a session has behind it.
+-- For private contracts alone: what a call is answered, and what a session has after it.
 use Rattle.std.specs.Prelude.{◌≡◌, ◌⊎◌, ℕ, ◌+◌, ◌-◌, ◌^◌, ◌≤◌, List, ◌∷◌, length, Option, IfSome}
 use Rattle.std.specs.BTreeMap.{BTreeMap}
 use Rattle.std.specs.declared.alloc.Global.{Global}
@@ -25,7 +25,7 @@ use Rattle.value_text.specs.Loaded.{cell_words}
 use Rattle.value_text.specs.Standing.{Stands}
 use Rattle.session_lines.specs.session_semantics.Talk.{Setting, State, CallReplies, Replies, EndText, answer_of, used_by}
 use Rattle.session_lines.specs.session_semantics.Talk.{running, holding, hold_all, ok_text}
-use Rattle.fip_session.specs.Behind.{IsBegun, IsBehind}
+use Rattle.fip_session.specs.After.{IsBegun, IsAfter}
 use Rattle.fip_session.specs.Opened.{IsSession}
 use Rattle.fip_session.specs.Planned.{Finds, names_used}
 use Rattle.fip_session.specs.Said.{said}
@@ -40,7 +40,7 @@ use Rattle.fip_session.specs.declared.reply.Reply.{Reply}
 pub record GivesNone (o : Setting) (s : State) (tb : Table) (i : ℕ) (d : Instance) (gs : List Written) (vs : Values)
     (held : BTreeMap (Vec ℕ Global) Held) (cells : Stored) (r : Reply) : Type 0 where
   pub text : EndText o i (answer_of o i vs) (said r)
-  pub behind : IsBehind tb held cells (running o s d gs vs)
+  pub following : IsAfter tb held cells (running o s d gs vs)
 
 pub record GivesValues (o : Setting) (s : State) (tb : Table) (names : List Name) (i : ℕ) (d : Instance)
     (gs : List Written) (vs : Values) (held : BTreeMap (Vec ℕ Global) Held) (cells : Stored) (r : Reply) : Type 0 where
@@ -48,7 +48,7 @@ pub record GivesValues (o : Setting) (s : State) (tb : Table) (names : List Name
   pub calls : ℕ
   pub answer : answer_of o i vs ≡ A.Gives values calls
   pub text : said r ≡ ok_text
-  pub behind : IsBehind tb held cells (holding (running o s d gs vs) (hold_all names d.results values))
+  pub following : IsAfter tb held cells (holding (running o s d gs vs) (hold_all names d.results values))
 
 abbrev pub IsAnswered : Setting → State → Table → List Name → ℕ → Instance → List Written → Values →
     BTreeMap (Vec ℕ Global) Held → Stored → Reply → Type 0
@@ -89,7 +89,7 @@ pub record CanRun (o : Setting) (s : State) (b : Book) (p : Plan) (ls : List Lod
   pub used : names_used p.arguments.given.items ≡ used_by b.verified.now.code.types p.function.now.params gs
   pub begun : IsBegun o s b.verified.now.code ls names p.entry p.function.now i d gs vs old new r
 
--- The call is replied so, and the session is in the state behind it.
+-- The call is replied so, and the session is in the state after it.
 abbrev pub CallAnswered : Setting → State → List Name → Name → List Written → Book → Store → Reply → Type 0
 CallAnswered o s names entry gs b t r =
     (s' : State) × CallReplies o s names entry gs (said r) s' × IsSession o (record { book = b; store = t }) s'

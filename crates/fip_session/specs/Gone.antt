@@ -1,6 +1,6 @@
--- For private contracts alone: what is given up behind a call.
+-- For private contracts alone: what is given up after a call.
 --
--- Behind a call that was given Cons(1, Nil) for a lent parameter, the cell of this value is given up.
+-- After a call that was given Cons(1, Nil) for a lent parameter, the cell of this value is given up.
 use Rattle.std.specs.Prelude.{◌≡◌, ℕ, ◌+◌, true, List, [], ◌∷◌, ◌++◌, Option, Some, None, if◌then◌else◌}
 use Rattle.cell_store.specs.Cells.{Cells}
 use Rattle.fip_language.specs.Core.{Name}

@@ -30,6 +30,6 @@ pub record IsSession (o : Setting) (t : Session) (s : State) : Type 0 where
   pub opened : IsOpen o.program.types o.words (found_as t.book.held)
       (record { cells = t.store.cells.cells; released = t.store.cells.released }) t.store.left s
 
--- A line of these bytes gets this reply, of which the LF at its end is left out, and the session is in the state behind it.
+-- A line of these bytes gets this reply, of which the LF at its end is left out, and the session is in the state after it.
 abbrev pub RepliesTo : Setting → State → List ℕ → List ℕ → Session → Type 0
 RepliesTo o s bytes text t = (s' : State) × Replies o s bytes (text ++ line_end) s' × IsSession o t s'

@@ -21,7 +21,7 @@ pub struct Room {
     pub frames: usize,
 }
 
-/// The replies to all lines of an input, each ended by LF. An error where memory is wanting.
+/// The replies to all lines of an input, each ended by LF. An error where memory runs out.
 pub fn session_reply(
     alloc: Global,
     typed: &Typed,

@@ -31,7 +31,7 @@ pub struct Fresh {
 /// What a call is run on.
 #[derive(Drop)]
 pub struct Ready {
-    /// The words of the arguments, and behind them those of the credits' cells.
+    /// The words of the arguments, and after them those of the credits' cells.
     pub words: Vec<u64>,
     /// The values of the line.
     pub values: Vec<Fresh>,

@@ -69,7 +69,7 @@ impl<'l> From<AllocError> for Stop<'l> {
     }
 }
 
-// Some words, and a name behind them.
+// Some words, and a name after them.
 fn with_name(alloc: Global, words: &[u8], name: &[u8]) -> Result<Vec<u8>, NoMemory>
     ensures text { IfOk result (λ t. t.items ≡ words.now ++ name.now) }
 {
@@ -96,7 +96,7 @@ fn trap_text(alloc: Global, kind: TrapKind, line: usize, col: usize) -> Result<S
     format!(in alloc; "trap {name} at {line}:{col}")
 }
 
-// A number behind some words.
+// A number after some words.
 fn bad_argument(alloc: Global, number: usize) -> Result<String, AllocError>
     ensures text { IfOk result (λ s. string_bytes s ≡ codes "bad argument " ++ decimal number) }
 {

@@ -5,7 +5,7 @@ ghost use Rattle.session_lines.specs.Said.{Says};
 ghost use Rattle.session_lines.specs.session_semantics.Lines.{Line as a_line, SpellsLine, GivesUp};
 ghost use Rattle.fip_session.specs.Answered.{LineAnswered};
 ghost use Rattle.session_lines.specs.command_outcome.Texts.{line_end};
-ghost use Rattle.session_lines.specs.session_semantics.Talk.{Setting, State, at_first, told};
+ghost use Rattle.session_lines.specs.session_semantics.Talk.{Setting, State, at_first, reported};
 ghost use Rattle.fip_language.specs.PrintedText.{printed};
 ghost use Rattle.fip_language.specs.Store.{value_of};
 ghost use Rattle.session_values.specs.Readable.{IsLine};
@@ -35,7 +35,7 @@ use std::alloc::Global;
 ///     - b
 ///
 /// A call uses up the names that it gives to parameters that aren't lent, unless their type is scalar. The values in
-/// a line come to life at the call, and those that are lent are given up behind it.
+/// a line come to life at the call, and those that are lent are given up after it.
 #[derive(Drop)]
 pub struct Session<'a> {
     book: Book<'a>,
@@ -45,7 +45,7 @@ pub struct Session<'a> {
 impl<'a> Session<'a> {
     /// A session of a program and the code that it was lowered to, in which no name holds a value: over a store of so
     /// many words, at most 16,777,216, with so many calls for each run, and so many frames, at most 1,000,000, for
-    /// each run of a function that isn't fip. An error where memory is wanting.
+    /// each run of a function that isn't fip. An error where memory runs out.
     pub fn new(
         alloc: Global,
         typed: &'a Typed,
@@ -68,7 +68,7 @@ impl<'a> Session<'a> {
         })
     }
 
-    /// Does a line, which has no LF, and answers the reply, without an LF. Where memory is wanting, the session is
+    /// Does a line, which has no LF, and answers the reply, without an LF. Where memory runs out, the session is
     /// given up.
     ///
     /// | Reply | Where |
@@ -114,7 +114,7 @@ impl<'a> Session<'a> {
 
 // The text of what a name holds.
 fn show<'l>(book: &Book, cells: &Sealed, name: &'l [u8]) -> Result<Reply<'l>, NoMemory>
-    ensures none { found book.now.held name.now ≡ None → IfOk result (λ r. said r ≡ told (codes "no name ") name.now) }
+    ensures none { found book.now.held name.now ≡ None → IfOk result (λ r. said r ≡ reported (codes "no name ") name.now) }
     ensures shown { (ls : List Lodged) → Finds book.now.held ls → length cells.now.cells ≤ 2 ^ 32 → (l : Lodged) →
         lodged_as name.now ls ≡ Some l → Stands book.now.table.now cells.now.cells l.type l.tree →
         IfOk result (λ r. said r ≡ printed book.now.table.now l.type (value_of l.tree) line_end) }

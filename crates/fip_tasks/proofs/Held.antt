@@ -164,4 +164,3 @@ few_cells tb cs ts k xs low h =
     let a = sized_trees tb cs ts k xs low h in
     let b = sized_few k cs (places_of_all xs) in
     omega (arith, a, b)
-

@@ -1,6 +1,6 @@
 -- A task's turn leads to where the written run stands one step later.
 -- The idea: a task that goes on is in a state of its run but for the cells, which are those of the store. What its step
--- came to is told by what the definition says comes next, and each way that this may come about is a case.
+-- came to is reported by what the definition says comes next, and each way that this may come about is a case.
 use Rattle.std.proofs.Common.{◌≡◌, ◌≢◌, ℕ, zero, suc, ◌-◌, ◌<◌, arith, Bool, true, false, List, [], Option, Some, None, refl, sym, ap, subst, ◌∙◌}
 use Rattle.cell_store.specs.Made.{Stored}
 use Rattle.code_verify.specs.Checked.{Checked}
@@ -124,45 +124,45 @@ not_ended t Out h e = absurd cc
 not_ended t Deep h e = absurd cc
 not_ended t Unsound h e = absurd h
 
--- what is told of a task's step over the cells of a store
-abbrev pub IsTold : Standing → Stored → Stepped → Standing → Stored → Type 0
-IsTold old before r new behind = (kinds : Kinds) → KnowsAt old.stack.code kinds old.stack.running.function old.stack.running.at → old.stack.ended ≡ None → IsSmall before.cells → before.pushed ≡ [] → (lent : List Typed) → Comes (state_with old.stack lent (cells_of before)) (next kinds (plain old.stack.code.code) (state_with old.stack lent (cells_of before))) r (state_with new.stack lent (cells_of behind)) new.stack.given
+-- what is reported of a task's step over the cells of a store
+abbrev pub IsReported : Standing → Stored → Stepped → Standing → Stored → Type 0
+IsReported old before r new following = (kinds : Kinds) → KnowsAt old.stack.code kinds old.stack.running.function old.stack.running.at → old.stack.ended ≡ None → IsSmall before.cells → before.pushed ≡ [] → (lent : List Typed) → Comes (state_with old.stack lent (cells_of before)) (next kinds (plain old.stack.code.code) (state_with old.stack lent (cells_of before))) r (state_with new.stack lent (cells_of following)) new.stack.given
 
 -- what a step came to, over these cells, and that it was no call where none was left
-record WentOn (v : Checked) (kinds : Kinds) (old new : Standing) (before behind : Stored) (r : Stepped) (s : State) : Type 0 where
-  comes : Comes (record s { store = cells_of before }) (next kinds (plain v.code) (record s { store = cells_of before })) r (state_with new.stack s.lent (cells_of behind)) new.stack.given
+record WentOn (v : Checked) (kinds : Kinds) (old new : Standing) (before following : Stored) (r : Stepped) (s : State) : Type 0 where
+  comes : Comes (record s { store = cells_of before }) (next kinds (plain v.code) (record s { store = cells_of before })) r (state_with new.stack s.lent (cells_of following)) new.stack.given
   call : old.left ≡ 0 → is_call_in (instr_of (plain v.code) (record s { store = cells_of before })) ≡ false
 
-went : (v : Checked) (kinds : Kinds) (old new : Standing) (before behind : Stored) (r : Stepped) (s : State) (l n : ℕ) → (old.left ≡ 0 → calls_next old.stack.code old.stack ≡ false) → IsTold old before r new behind → IsSmall before.cells → before.pushed ≡ [] → IsAt v old s l → CanGo v kinds (Going (record s { store = cells_of before }) l n) → WentOn v kinds old new before behind r s
-went v kinds old new before behind r s l n none told small empty at can =
+went : (v : Checked) (kinds : Kinds) (old new : Standing) (before following : Stored) (r : Stepped) (s : State) (l n : ℕ) → (old.left ≡ 0 → calls_next old.stack.code old.stack ≡ false) → IsReported old before r new following → IsSmall before.cells → before.pushed ≡ [] → IsAt v old s l → CanGo v kinds (Going (record s { store = cells_of before }) l n) → WentOn v kinds old new before following r s
+went v kinds old new before following r s l n none reported small empty at can =
     let here : State = record s { store = cells_of before } in
     let e : state_with old.stack s.lent (cells_of before) ≡ here = at_cells old.stack s (cells_of before) at.state in
     let knows : KnowsAt old.stack.code kinds old.stack.running.function old.stack.running.at =
     subst (λ (w : Checked). KnowsAt w kinds old.stack.running.function old.stack.running.at) (sym at.code)
     (subst (λ (q : State). KnowsAt v kinds q.running.function q.running.at) (sym e) can.0) in
-    let first : Comes (state_with old.stack s.lent (cells_of before)) (next kinds (plain v.code) (state_with old.stack s.lent (cells_of before))) r (state_with new.stack s.lent (cells_of behind)) new.stack.given =
-    subst (λ (w : Checked). Comes (state_with old.stack s.lent (cells_of before)) (next kinds (plain w.code) (state_with old.stack s.lent (cells_of before))) r (state_with new.stack s.lent (cells_of behind)) new.stack.given) at.code (told kinds knows at.going small empty s.lent) in
+    let first : Comes (state_with old.stack s.lent (cells_of before)) (next kinds (plain v.code) (state_with old.stack s.lent (cells_of before))) r (state_with new.stack s.lent (cells_of following)) new.stack.given =
+    subst (λ (w : Checked). Comes (state_with old.stack s.lent (cells_of before)) (next kinds (plain w.code) (state_with old.stack s.lent (cells_of before))) r (state_with new.stack s.lent (cells_of following)) new.stack.given) at.code (reported kinds knows at.going small empty s.lent) in
     record {
-      comes = subst (λ (q : State). Comes q (next kinds (plain v.code) q) r (state_with new.stack s.lent (cells_of behind)) new.stack.given) e first;
+      comes = subst (λ (q : State). Comes q (next kinds (plain v.code) q) r (state_with new.stack s.lent (cells_of following)) new.stack.given) e first;
       call = λ z.
           subst (λ (q : State). is_call_in (instr_of (plain v.code) q) ≡ false) e
           (subst (λ (w : Checked). calls_next w old.stack ≡ false) at.code (none z));
     }
 
-went_on : (v : Checked) (kinds : Kinds) (old new : Standing) (before behind : Stored) (r : Stepped) (s : State) (l n : ℕ) → WentOn v kinds old new before behind r s → new.stack.code ≡ old.stack.code → new.stack.ended ≡ ended_by r → Fits r old.left new → IsAt v old s l → CanGo v kinds (Going (record s { store = cells_of before }) l n) → IsLanded v new (cells_of behind) (comes (record s { store = cells_of before }) l (suc n) (next kinds (plain v.code) (record s { store = cells_of before })))
-went_on v kinds old new before behind r s l n w code ends fits at can =
+went_on : (v : Checked) (kinds : Kinds) (old new : Standing) (before following : Stored) (r : Stepped) (s : State) (l n : ℕ) → WentOn v kinds old new before following r s → new.stack.code ≡ old.stack.code → new.stack.ended ≡ ended_by r → Fits r old.left new → IsAt v old s l → CanGo v kinds (Going (record s { store = cells_of before }) l n) → IsLanded v new (cells_of following) (comes (record s { store = cells_of before }) l (suc n) (next kinds (plain v.code) (record s { store = cells_of before })))
+went_on v kinds old new before following r s l n w code ends fits at can =
     let here : State = record s { store = cells_of before } in
-    came v here l (suc n) (is_call_in (instr_of (plain v.code) here)) (next kinds (plain v.code) here) r new (cells_of behind) w.comes can.1 (calling (plain v.code) (kinds_of kinds here) here (instr_of (plain v.code) here)) (λ z. w.call (at.left ∙ z)) (code ∙ at.code) ends (subst (λ m. Fits r m new) at.left fits)
+    came v here l (suc n) (is_call_in (instr_of (plain v.code) here)) (next kinds (plain v.code) here) r new (cells_of following) w.comes can.1 (calling (plain v.code) (kinds_of kinds here) here (instr_of (plain v.code) here)) (λ z. w.call (at.left ∙ z)) (code ∙ at.code) ends (subst (λ m. Fits r m new) at.left fits)
 
-went_risen : (v : Checked) (kinds : Kinds) (old new : Standing) (before behind : Stored) (r : Stepped) (s : State) (l n : ℕ) → WentOn v kinds old new before behind r s → IsMeasured new.stack → IsRaised old.stack new.stack → IsAt v old s l → CanGo v kinds (Going (record s { store = cells_of before }) l n) → IsWithin old (Going s l n) → HasRisen old new (seen kinds (plain v.code) 1 (Going (record s { store = cells_of before }) l n))
-went_risen v kinds old new before behind r s l n w measured raised at can within =
+went_risen : (v : Checked) (kinds : Kinds) (old new : Standing) (before following : Stored) (r : Stepped) (s : State) (l n : ℕ) → WentOn v kinds old new before following r s → IsMeasured new.stack → IsRaised old.stack new.stack → IsAt v old s l → CanGo v kinds (Going (record s { store = cells_of before }) l n) → IsWithin old (Going s l n) → HasRisen old new (seen kinds (plain v.code) 1 (Going (record s { store = cells_of before }) l n))
+went_risen v kinds old new before following r s l n w measured raised at can within =
     let here : State = record s { store = cells_of before } in
-    let is : state_of (later kinds (plain v.code) (Going here l n)) ≡ state_with new.stack s.lent (cells_of behind) =
-    came_state here l (suc n) (is_call_in (instr_of (plain v.code) here)) (next kinds (plain v.code) here) r (state_with new.stack s.lent (cells_of behind)) new.stack.given w.comes can.1 (calling (plain v.code) (kinds_of kinds here) here (instr_of (plain v.code) here)) (λ z. w.call (at.left ∙ z)) in
-    risen_step kinds (plain v.code) old new here l n (state_with new.stack s.lent (cells_of behind)) measured raised is (sym measured.frames) (sym measured.words) within
+    let is : state_of (later kinds (plain v.code) (Going here l n)) ≡ state_with new.stack s.lent (cells_of following) =
+    came_state here l (suc n) (is_call_in (instr_of (plain v.code) here)) (next kinds (plain v.code) here) r (state_with new.stack s.lent (cells_of following)) new.stack.given w.comes can.1 (calling (plain v.code) (kinds_of kinds here) here (instr_of (plain v.code) here)) (λ z. w.call (at.left ∙ z)) in
+    risen_step kinds (plain v.code) old new here l n (state_with new.stack s.lent (cells_of following)) measured raised is (sym measured.frames) (sym measured.words) within
 
-pub step_lands : (old new : Standing) (before behind : Stored) (r : Stepped) → old.ended ≡ None → (old.stack.ended ≡ None → old.left ≡ 0 → calls_next old.stack.code old.stack ≡ false) → new.stack.code ≡ old.stack.code → (IsSmall before.cells → IsSmall behind.cells) → (before.pushed ≡ [] → behind.pushed ≡ []) → (old.stack.ended ≡ None → new.stack.ended ≡ ended_by r) → Fits r old.left new → IsTold old before r new behind → IsMeasured new.stack → (old.stack.ended ≡ None → IsRaised old.stack new.stack) → HasCounted old (cells_of before) new (cells_of behind) → Lands old before new behind
-step_lands old new before behind r on none code small empty ends fits told measured raised counted = record {
+pub step_lands : (old new : Standing) (before following : Stored) (r : Stepped) → old.ended ≡ None → (old.stack.ended ≡ None → old.left ≡ 0 → calls_next old.stack.code old.stack ≡ false) → new.stack.code ≡ old.stack.code → (IsSmall before.cells → IsSmall following.cells) → (before.pushed ≡ [] → following.pushed ≡ []) → (old.stack.ended ≡ None → new.stack.ended ≡ ended_by r) → Fits r old.left new → IsReported old before r new following → IsMeasured new.stack → (old.stack.ended ≡ None → IsRaised old.stack new.stack) → HasCounted old (cells_of before) new (cells_of following) → Lands old before new following
+step_lands old new before following r on none code small empty ends fits reported measured raised counted = record {
   small = small;
   empty = empty;
   counted = counted;
@@ -170,12 +170,12 @@ step_lands old new before behind r on none code small empty ends fits told measu
   risen = rises;
 }
   where
-    by : (v : Checked) (kinds : Kinds) (q : Run) → IsSmall before.cells → before.pushed ≡ [] → StandsAt v old q → CanGo v kinds (in_store (cells_of before) q) → IsLanded v new (cells_of behind) (later kinds (plain v.code) (in_store (cells_of before) q))
-    by v kinds (Going s l n) few top at can = went_on v kinds old new before behind r s l n (went v kinds old new before behind r s l n (none at.going) told few top at can) code (ends at.going) fits at can
+    by : (v : Checked) (kinds : Kinds) (q : Run) → IsSmall before.cells → before.pushed ≡ [] → StandsAt v old q → CanGo v kinds (in_store (cells_of before) q) → IsLanded v new (cells_of following) (later kinds (plain v.code) (in_store (cells_of before) q))
+    by v kinds (Going s l n) few top at can = went_on v kinds old new before following r s l n (went v kinds old new before following r s l n (none at.going) reported few top at can) code (ends at.going) fits at can
     by v kinds (Over e s l n) few top at can = not_ended old e at on
 
     rises : (v : Checked) (kinds : Kinds) (q : Run) → IsSmall before.cells → before.pushed ≡ [] → StandsAt v old q → CanGo v kinds (in_store (cells_of before) q) → IsWithin old q → HasRisen old new (seen kinds (plain v.code) 1 (in_store (cells_of before) q))
-    rises v kinds (Going s l n) few top at can within = went_risen v kinds old new before behind r s l n (went v kinds old new before behind r s l n (none at.going) told few top at can) measured (raised at.going) at can within
+    rises v kinds (Going s l n) few top at can within = went_risen v kinds old new before following r s l n (went v kinds old new before following r s l n (none at.going) reported few top at can) measured (raised at.going) at can within
     rises v kinds (Over e s l n) few top at can within = not_ended old e at on
 
 -- ---- a task that has ended, and one that is out of calls
@@ -253,11 +253,14 @@ goes_on a b c x y z g l = record {
       let q : Run = after kinds (plain v.code) h.0 first in
       let own : in_store (cells_of y) q ≡ q = in_own (cells_of y) q h.1.cells in
       let next : IsLanded v c (cells_of z) (later kinds (plain v.code) (in_store (cells_of y) q)) = l.turn v kinds q (g.small few) (g.empty top) h.1.stands (subst (λ (m : Run). CanGo v kinds m) (sym own) (can h.0)) in
-      let can_now : CanGo v kinds (in_store (cells_of y) q) = subst (λ (m : Run). CanGo v kinds m) (sym own) (can h.0) in
-      (both h.0 1, subst (λ (m : Run). IsLanded v c (cells_of z) m) (ap (λ m. later kinds (plain v.code) m) own ∙ sym (after_both kinds (plain v.code) h.0 1 first)) next, λ within.
-          let rises = h.2 within in
-          let more : HasRisen b c (seen kinds (plain v.code) 1 (in_store (cells_of y) q)) = l.risen v kinds q (g.small few) (g.empty top) h.1.stands can_now (within_after kinds (plain v.code) a b h.0 first rises) in
-          risen_both kinds (plain v.code) a b c h.0 1 first rises (subst (λ (m : Run). HasRisen b c (seen kinds (plain v.code) 1 m)) own more));
+      let can_now : CanGo v kinds (in_store (cells_of y) q) = subst (λ (m : Run). CanGo v kinds m) (sym own) (can h.0) in (
+        both h.0 1,
+        subst (λ (m : Run). IsLanded v c (cells_of z) m) (ap (λ m. later kinds (plain v.code) m) own ∙ sym (after_both kinds (plain v.code) h.0 1 first)) next,
+        λ within.
+            let rises = h.2 within in
+            let more : HasRisen b c (seen kinds (plain v.code) 1 (in_store (cells_of y) q)) = l.risen v kinds q (g.small few) (g.empty top) h.1.stands can_now (within_after kinds (plain v.code) a b h.0 first rises) in
+            risen_both kinds (plain v.code) a b c h.0 1 first rises (subst (λ (m : Run). HasRisen b c (seen kinds (plain v.code) 1 m)) own more),
+      );
 }
 
 pub goes_far : (a b c : Standing) (x y z : Stored) → Goes a x b y → Goes b y c z → Goes a x c z
@@ -272,11 +275,14 @@ goes_far a b c x y z g l = record {
       let own : in_store (cells_of y) q ≡ q = in_own (cells_of y) q h.1.cells in
       let can_on : (n : ℕ) → CanGo v kinds (after kinds (plain v.code) n (in_store (cells_of y) q)) = λ n.
       subst (λ (m : Run). CanGo v kinds m) (after_both kinds (plain v.code) h.0 n first ∙ sym (ap (λ m. after kinds (plain v.code) n m) own)) (can (both h.0 n)) in
-      let w = l.turns v kinds q (g.small few) (g.empty top) h.1.stands can_on in
-      (both h.0 w.0, subst (λ (m : Run). IsLanded v c (cells_of z) m) (ap (λ m. after kinds (plain v.code) w.0 m) own ∙ sym (after_both kinds (plain v.code) h.0 w.0 first)) w.1, λ within.
-          let rises = h.2 within in
-          let more : HasRisen b c (seen kinds (plain v.code) w.0 (in_store (cells_of y) q)) = w.2 (within_after kinds (plain v.code) a b h.0 first rises) in
-          risen_both kinds (plain v.code) a b c h.0 w.0 first rises (subst (λ (m : Run). HasRisen b c (seen kinds (plain v.code) w.0 m)) own more));
+      let w = l.turns v kinds q (g.small few) (g.empty top) h.1.stands can_on in (
+        both h.0 w.0,
+        subst (λ (m : Run). IsLanded v c (cells_of z) m) (ap (λ m. after kinds (plain v.code) w.0 m) own ∙ sym (after_both kinds (plain v.code) h.0 w.0 first)) w.1,
+        λ within.
+            let rises = h.2 within in
+            let more : HasRisen b c (seen kinds (plain v.code) w.0 (in_store (cells_of y) q)) = w.2 (within_after kinds (plain v.code) a b h.0 first rises) in
+            risen_both kinds (plain v.code) a b c h.0 w.0 first rises (subst (λ (m : Run). HasRisen b c (seen kinds (plain v.code) w.0 m)) own more),
+      );
 }
 
 -- ---- the start

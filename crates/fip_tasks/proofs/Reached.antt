@@ -71,7 +71,7 @@ module _ (kinds : Kinds) (code : PlainCode) where
       by None = omega arith
       by (Some r) = (let a = later_falls k some (in_store t.store r) in let b = ap (λ (s : Store). count_held k s) (cells_in t.store r) in omega (arith, a, b))
 
-  -- ---- one schedule behind another
+  -- ---- one schedule after another
 
   pub last_frames : (k : ℕ) (ks : List ℕ) (t : Shared) → frames_in (slice_get (scheduled kinds code ks t).runs k) ≤ frames_reached kinds code k ks t
   last_frames k [] t = omega arith

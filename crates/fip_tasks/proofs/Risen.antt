@@ -153,7 +153,7 @@ module _ (kinds : Kinds) (code : PlainCode) where
       let hw = h.words in
       record { frames = omega (arith, x, gf, hf); words = omega (arith, y, gw, hw) }
 
-  -- behind them the most are still those of the run
+  -- after them the most are still those of the run
   pub within_after : (a b : Standing) (n : ℕ) (r : Run) → HasRisen a b (seen kinds code n r) → IsWithin b (after kinds code n r)
   within_after a b n r g =
       let x = frames_last kinds code n r in

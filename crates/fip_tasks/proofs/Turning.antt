@@ -99,8 +99,8 @@ pub was_set : (ts : List Task) (k : ℕ) (x : Task) (a : Standing) → slice_get
 was_set ts k x a at is = same_Some (standing x) a (sym (ap (λ o. option_map standing o) at) ∙ sym (slice_get-map standing ts k) ∙ is)
 
 -- what its turns released is counted
-pub counts_at : (ts : List Task) (k : ℕ) (x t : Task) (a b : Standing) (before behind : Store) → k < length ts → slice_get ts k ≡ Some x → slice_get (map standing ts) k ≡ Some a → slice_get (map standing (slice_set ts k t)) k ≡ Some b → HasCounted (standing x) before (standing t) behind → HasCounted a before b behind
-counts_at ts k x t a b before behind within at old new counted = subst (λ (z : Standing). HasCounted z before b behind) (was_set ts k x a at old) (subst (λ (z : Standing). HasCounted (standing x) before z behind) (is_set ts k t b within new) counted)
+pub counts_at : (ts : List Task) (k : ℕ) (x t : Task) (a b : Standing) (before following : Store) → k < length ts → slice_get ts k ≡ Some x → slice_get (map standing ts) k ≡ Some a → slice_get (map standing (slice_set ts k t)) k ≡ Some b → HasCounted (standing x) before (standing t) following → HasCounted a before b following
+counts_at ts k x t a b before following within at old new counted = subst (λ (z : Standing). HasCounted z before b following) (was_set ts k x a at old) (subst (λ (z : Standing). HasCounted (standing x) before z following) (is_set ts k t b within new) counted)
 
 -- the others stay
 pub others_at : (ts : List Task) (k j : ℕ) (t : Task) → j ≢ k → slice_get (map standing (slice_set ts k t)) j ≡ slice_get (map standing ts) j
@@ -123,11 +123,11 @@ abbrev pub seen : List Task → Stored → Turns
 seen ts cells = record { tasks = map standing ts; store = store_of cells.cells cells.released; pushed = cells.pushed }
 
 -- the task's own turns, as turns of it among others
-pub shows_landed : (v : Checked) (kinds : Kinds) (ts : List Task) (before behind : Stored) (shared : Shared) (k : ℕ) (x t : Task) (n : ℕ) (r : Run) → Shows v (seen ts before) shared → slice_get ts k ≡ Some x → slice_get shared.runs k ≡ Some r → (IsSmall before.cells → IsSmall behind.cells) → (before.pushed ≡ [] → behind.pushed ≡ []) → IsLanded v (standing t) (cells_of behind) (after kinds (plain v.code) n (in_store shared.store r)) → Shows v (seen (slice_set ts k t) behind) (scheduled kinds (plain v.code) (replicate n k) shared)
-shows_landed v kinds ts before behind shared k x t n r s at run small empty landed =
+pub shows_landed : (v : Checked) (kinds : Kinds) (ts : List Task) (before following : Stored) (shared : Shared) (k : ℕ) (x t : Task) (n : ℕ) (r : Run) → Shows v (seen ts before) shared → slice_get ts k ≡ Some x → slice_get shared.runs k ≡ Some r → (IsSmall before.cells → IsSmall following.cells) → (before.pushed ≡ [] → following.pushed ≡ []) → IsLanded v (standing t) (cells_of following) (after kinds (plain v.code) n (in_store shared.store r)) → Shows v (seen (slice_set ts k t) following) (scheduled kinds (plain v.code) (replicate n k) shared)
+shows_landed v kinds ts before following shared k x t n r s at run small empty landed =
     let there : slice_get (map standing ts) k ≡ Some (standing x) = slice_get-map standing ts k ∙ ap (λ o. option_map standing o) at in
-    let shows = shows_after v kinds n (seen ts before) shared k (standing x) (standing t) (cells_of behind) behind.pushed r s there run (small s.small) (empty s.empty) landed in
-    subst (λ (zs : List Standing). Shows v (record { tasks = zs; store = cells_of behind; pushed = behind.pushed }) (scheduled kinds (plain v.code) (replicate n k) shared)) (sym (map_set standing ts k t)) shows
+    let shows = shows_after v kinds n (seen ts before) shared k (standing x) (standing t) (cells_of following) following.pushed r s there run (small s.small) (empty s.empty) landed in
+    subst (λ (zs : List Standing). Shows v (record { tasks = zs; store = cells_of following; pushed = following.pushed }) (scheduled kinds (plain v.code) (replicate n k) shared)) (sym (map_set standing ts k t)) shows
 
 -- where the run of a task is
 pub run_at : (v : Checked) (ts : List Task) (before : Stored) (shared : Shared) (k : ℕ) (x : Task) → Shows v (seen ts before) shared → slice_get ts k ≡ Some x → (r : Run) × (slice_get shared.runs k ≡ Some r) × StandsAt v (standing x) r
@@ -137,46 +137,47 @@ run_at v ts before shared k x s at =
     (h.0, h.1, s.tasks k (standing x) h.0 there_at h.1)
 
 -- a turn of the task is a turn of the schedule
-pub turn_shows : (v : Checked) (kinds : Kinds) (ts : List Task) (before behind : Stored) (shared : Shared) (k : ℕ) (x t : Task) → Shows v (seen ts before) shared → CanTurn v kinds shared k → slice_get ts k ≡ Some x → Lands (standing x) before (standing t) behind → Shows v (seen (slice_set ts k t) behind) (turn kinds (plain v.code) shared k)
-turn_shows v kinds ts before behind shared k x t s can at lands =
+pub turn_shows : (v : Checked) (kinds : Kinds) (ts : List Task) (before following : Stored) (shared : Shared) (k : ℕ) (x t : Task) → Shows v (seen ts before) shared → CanTurn v kinds shared k → slice_get ts k ≡ Some x → Lands (standing x) before (standing t) following → Shows v (seen (slice_set ts k t) following) (turn kinds (plain v.code) shared k)
+turn_shows v kinds ts before following shared k x t s can at lands =
     let r = run_at v ts before shared k x s at in
     let can_go : CanGo v kinds (in_store (cells_of before) r.0) = subst (λ (c : Store). CanGo v kinds (in_store c r.0)) (sym s.store) (can r.0 r.1) in
-    let landed : IsLanded v (standing t) (cells_of behind) (later kinds (plain v.code) (in_store shared.store r.0)) =
-    subst (λ (c : Store). IsLanded v (standing t) (cells_of behind) (later kinds (plain v.code) (in_store c r.0))) s.store (lands.turn v kinds r.0 s.small s.empty r.2 can_go) in
-    shows_landed v kinds ts before behind shared k x t 1 r.0 s at r.1 lands.small lands.empty landed
+    let landed : IsLanded v (standing t) (cells_of following) (later kinds (plain v.code) (in_store shared.store r.0)) =
+    subst (λ (c : Store). IsLanded v (standing t) (cells_of following) (later kinds (plain v.code) (in_store c r.0))) s.store (lands.turn v kinds r.0 s.small s.empty r.2 can_go) in
+    shows_landed v kinds ts before following shared k x t 1 r.0 s at r.1 lands.small lands.empty landed
 
 -- where the task is after as many turns as it takes, and what it saw
-turns_gone : (v : Checked) (kinds : Kinds) (ts : List Task) (before behind : Stored) (shared : Shared) (k : ℕ) (x t : Task) (r : Run) → Shows v (seen ts before) shared → slice_get shared.runs k ≡ Some r → StandsAt v (standing x) r → CanFinish v kinds shared k → Goes (standing x) before (standing t) behind → (n : ℕ) × IsLanded v (standing t) (cells_of behind) (after kinds (plain v.code) n (in_store shared.store r)) × (IsWithin (standing x) r → HasRisen (standing x) (standing t) (G.seen kinds (plain v.code) n (in_store shared.store r)))
-turns_gone v kinds ts before behind shared k x t r s run at can goes =
+turns_gone : (v : Checked) (kinds : Kinds) (ts : List Task) (before following : Stored) (shared : Shared) (k : ℕ) (x t : Task) (r : Run) → Shows v (seen ts before) shared → slice_get shared.runs k ≡ Some r → StandsAt v (standing x) r → CanFinish v kinds shared k → Goes (standing x) before (standing t) following → (n : ℕ) × IsLanded v (standing t) (cells_of following) (after kinds (plain v.code) n (in_store shared.store r)) × (IsWithin (standing x) r → HasRisen (standing x) (standing t) (G.seen kinds (plain v.code) n (in_store shared.store r)))
+turns_gone v kinds ts before following shared k x t r s run at can goes =
     let can_all : (n : ℕ) → CanGo v kinds (after kinds (plain v.code) n (in_store (cells_of before) r)) = λ n.
     subst (λ (c : Store). CanGo v kinds (after kinds (plain v.code) n (in_store c r))) (sym s.store) (can_go v kinds shared k r run can n) in
-    let h = goes.turns v kinds r s.small s.empty at can_all in
-    (h.0,
-    subst (λ (c : Store). IsLanded v (standing t) (cells_of behind) (after kinds (plain v.code) h.0 (in_store c r))) s.store h.1,
-    λ within. subst (λ (c : Store). HasRisen (standing x) (standing t) (G.seen kinds (plain v.code) h.0 (in_store c r))) s.store (h.2 within))
+    let h = goes.turns v kinds r s.small s.empty at can_all in (
+      h.0,
+      subst (λ (c : Store). IsLanded v (standing t) (cells_of following) (after kinds (plain v.code) h.0 (in_store c r))) s.store h.1,
+      λ within. subst (λ (c : Store). HasRisen (standing x) (standing t) (G.seen kinds (plain v.code) h.0 (in_store c r))) s.store (h.2 within),
+    )
 
 -- and so with many
-pub turns_show : (v : Checked) (kinds : Kinds) (ts : List Task) (before behind : Stored) (shared : Shared) (k : ℕ) (x t : Task) → Shows v (seen ts before) shared → CanFinish v kinds shared k → slice_get ts k ≡ Some x → Goes (standing x) before (standing t) behind → (n : ℕ) × Shows v (seen (slice_set ts k t) behind) (scheduled kinds (plain v.code) (replicate n k) shared)
-turns_show v kinds ts before behind shared k x t s can at goes =
+pub turns_show : (v : Checked) (kinds : Kinds) (ts : List Task) (before following : Stored) (shared : Shared) (k : ℕ) (x t : Task) → Shows v (seen ts before) shared → CanFinish v kinds shared k → slice_get ts k ≡ Some x → Goes (standing x) before (standing t) following → (n : ℕ) × Shows v (seen (slice_set ts k t) following) (scheduled kinds (plain v.code) (replicate n k) shared)
+turns_show v kinds ts before following shared k x t s can at goes =
     let r = run_at v ts before shared k x s at in
-    let g = turns_gone v kinds ts before behind shared k x t r.0 s r.1 r.2 can goes in
-    (g.0, shows_landed v kinds ts before behind shared k x t g.0 r.0 s at r.1 goes.small goes.empty g.1)
+    let g = turns_gone v kinds ts before following shared k x t r.0 s r.1 r.2 can goes in
+    (g.0, shows_landed v kinds ts before following shared k x t g.0 r.0 s at r.1 goes.small goes.empty g.1)
 
 -- ---- what tasks saw along a schedule
 
--- task k did so many turns behind a schedule, and what it saw and released
-record HasGone (kinds : Kinds) (code : PlainCode) (first : Shared) (schedule : List ℕ) (k n : ℕ) (a b : Standing) (before behind : Store) (r : Run) : Type 0 where
+-- task k did so many turns after a schedule, and what it saw and released
+record HasGone (kinds : Kinds) (code : PlainCode) (first : Shared) (schedule : List ℕ) (k n : ℕ) (a b : Standing) (before following : Store) (r : Run) : Type 0 where
   is : slice_get (scheduled kinds code schedule first).runs k ≡ Some r
   store : before ≡ (scheduled kinds code schedule first).store
-  stored : behind ≡ (scheduled kinds code (replicate n k) (scheduled kinds code schedule first)).store
+  stored : following ≡ (scheduled kinds code (replicate n k) (scheduled kinds code schedule first)).store
   small : IsSmall first.store.cells
   risen : IsWithin a r → HasRisen a b (G.seen kinds code n (in_store (scheduled kinds code schedule first).store r))
-  counted : HasCounted a before b behind
+  counted : HasCounted a before b following
 
 module _ (kinds : Kinds) (code : PlainCode) (first : Shared) (schedule : List ℕ) where
   -- the task whose turns they were
-  own_seen : (k n : ℕ) (a b : Standing) (before behind : Store) (r : Run) → HasGone kinds code first schedule k n a b before behind r → HasSeen kinds code first schedule k a → HasSeen kinds code first (schedule ++ replicate n k) k b
-  own_seen k n a b before behind r g old =
+  own_seen : (k n : ℕ) (a b : Standing) (before following : Store) (r : Run) → HasGone kinds code first schedule k n a b before following r → HasSeen kinds code first schedule k a → HasSeen kinds code first (schedule ++ replicate n k) k b
+  own_seen k n a b before following r g old =
       let now : Shared = scheduled kinds code schedule first in
       let lf = last_frames kinds code k schedule first in
       let lw = last_words kinds code k schedule first in
@@ -202,7 +203,7 @@ module _ (kinds : Kinds) (code : PlainCode) (first : Shared) (schedule : List �
             let most = few_held size first.store in
             let small = g.small in
             let x = live_is_held size before.cells before.released ∙ ap (λ (s : Store). count_held size s) g.store in
-            let y = live_is_held size behind.cells behind.released ∙ ap (λ (s : Store). count_held size s) g.stored in
+            let y = live_is_held size following.cells following.released ∙ ap (λ (s : Store). count_held size s) g.stored in
             let counts = g.counted.counted size some few (omega (arith, freed, all, most, small, x)) in
             omega (arith, freed, on, mine, x, y, counts);
       }
@@ -230,24 +231,24 @@ module _ (kinds : Kinds) (code : PlainCode) (first : Shared) (schedule : List �
       }
 
   -- all of them
-  all_seen : (ts : List Task) (k n : ℕ) (x t : Task) (before behind : Store) (cells pushed : Stored) (r : Run) → slice_get ts k ≡ Some x → HasGone kinds code first schedule k n (standing x) (standing t) before behind r → HaveSeen kinds code first schedule (seen ts cells) → HaveSeen kinds code first (schedule ++ replicate n k) (seen (slice_set ts k t) pushed)
-  all_seen ts k n x t before behind cells pushed r at g old j c is =
+  all_seen : (ts : List Task) (k n : ℕ) (x t : Task) (before following : Store) (cells pushed : Stored) (r : Run) → slice_get ts k ≡ Some x → HasGone kinds code first schedule k n (standing x) (standing t) before following r → HaveSeen kinds code first schedule (seen ts cells) → HaveSeen kinds code first (schedule ++ replicate n k) (seen (slice_set ts k t) pushed)
+  all_seen ts k n x t before following cells pushed r at g old j c is =
       let there_at : slice_get (map standing ts) k ≡ Some (standing x) = slice_get-map standing ts k ∙ ap (λ o. option_map standing o) at in
       elim (same_place j k) [
         | inl e ↦ (
             let now : slice_get (slice_set (map standing ts) k (standing t)) j ≡ Some c = ap (λ zs. slice_get zs j) (sym (map_set standing ts k t)) ∙ is in
             let own : standing t ≡ c = same_Some (standing t) c (sym (at_same (map standing ts) k (standing x) (standing t) there_at) ∙ ap (slice_get (slice_set (map standing ts) k (standing t))) (sym e) ∙ now) in
-            let s : HasSeen kinds code first (schedule ++ replicate n k) k (standing t) = own_seen k n (standing x) (standing t) before behind r g (old k (standing x) there_at) in
+            let s : HasSeen kinds code first (schedule ++ replicate n k) k (standing t) = own_seen k n (standing x) (standing t) before following r g (old k (standing x) there_at) in
             subst (λ i. HasSeen kinds code first (schedule ++ replicate n k) i c) (sym e) (subst (λ (z : Standing). HasSeen kinds code first (schedule ++ replicate n k) k z) own s))
         | inr m ↦ other_seen j k n c m (old j c (sym (others_at ts k j t m) ∙ is))
       ]
 
--- the task did so many turns of its own, behind a schedule that the tasks have followed
-pub followed_landed : (v : Checked) (kinds : Kinds) (first : Shared) (schedule : List ℕ) (ts : List Task) (before behind : Stored) (k : ℕ) (x t : Task) (n : ℕ) (r : Run) → HaveFollowed v kinds first schedule (seen ts before) → slice_get ts k ≡ Some x → slice_get (scheduled kinds (plain v.code) schedule first).runs k ≡ Some r → HasCounted (standing x) (cells_of before) (standing t) (cells_of behind) → (IsWithin (standing x) r → HasRisen (standing x) (standing t) (G.seen kinds (plain v.code) n (in_store (scheduled kinds (plain v.code) schedule first).store r))) → Shows v (seen (slice_set ts k t) behind) (scheduled kinds (plain v.code) (replicate n k) (scheduled kinds (plain v.code) schedule first)) → HaveFollowed v kinds first (schedule ++ replicate n k) (seen (slice_set ts k t) behind)
-followed_landed v kinds first schedule ts before behind k x t n r h at run counted risen shows = record {
+-- the task did so many turns of its own, after a schedule that the tasks have followed
+pub followed_landed : (v : Checked) (kinds : Kinds) (first : Shared) (schedule : List ℕ) (ts : List Task) (before following : Stored) (k : ℕ) (x t : Task) (n : ℕ) (r : Run) → HaveFollowed v kinds first schedule (seen ts before) → slice_get ts k ≡ Some x → slice_get (scheduled kinds (plain v.code) schedule first).runs k ≡ Some r → HasCounted (standing x) (cells_of before) (standing t) (cells_of following) → (IsWithin (standing x) r → HasRisen (standing x) (standing t) (G.seen kinds (plain v.code) n (in_store (scheduled kinds (plain v.code) schedule first).store r))) → Shows v (seen (slice_set ts k t) following) (scheduled kinds (plain v.code) (replicate n k) (scheduled kinds (plain v.code) schedule first)) → HaveFollowed v kinds first (schedule ++ replicate n k) (seen (slice_set ts k t) following)
+followed_landed v kinds first schedule ts before following k x t n r h at run counted risen shows = record {
   small = h.small;
-  shows = subst (λ (s : Shared). Shows v (seen (slice_set ts k t) behind) s) (sym (goes_on kinds (plain v.code) schedule (replicate n k) first)) shows;
-  seen = all_seen kinds (plain v.code) first schedule ts k n x t (cells_of before) (cells_of behind) before behind r at (record {
+  shows = subst (λ (s : Shared). Shows v (seen (slice_set ts k t) following) s) (sym (goes_on kinds (plain v.code) schedule (replicate n k) first)) shows;
+  seen = all_seen kinds (plain v.code) first schedule ts k n x t (cells_of before) (cells_of following) before following r at (record {
     is = run;
     store = h.shows.store;
     stored = shows.store;
@@ -257,22 +258,24 @@ followed_landed v kinds first schedule ts before behind k x t n r h at run count
   }) h.seen;
 }
 
-pub turn_followed : (v : Checked) (kinds : Kinds) (first : Shared) (schedule : List ℕ) (ts : List Task) (before behind : Stored) (k : ℕ) (x t : Task) → HaveFollowed v kinds first schedule (seen ts before) → CanTurn v kinds (scheduled kinds (plain v.code) schedule first) k → slice_get ts k ≡ Some x → Lands (standing x) before (standing t) behind → HaveFollowed v kinds first (schedule ++ k ∷ []) (seen (slice_set ts k t) behind)
-turn_followed v kinds first schedule ts before behind k x t h can at lands =
+pub turn_followed : (v : Checked) (kinds : Kinds) (first : Shared) (schedule : List ℕ) (ts : List Task) (before following : Stored) (k : ℕ) (x t : Task) → HaveFollowed v kinds first schedule (seen ts before) → CanTurn v kinds (scheduled kinds (plain v.code) schedule first) k → slice_get ts k ≡ Some x → Lands (standing x) before (standing t) following → HaveFollowed v kinds first (schedule ++ k ∷ []) (seen (slice_set ts k t) following)
+turn_followed v kinds first schedule ts before following k x t h can at lands =
     let shared : Shared = scheduled kinds (plain v.code) schedule first in
     let r = run_at v ts before shared k x h.shows at in
     let can_go : CanGo v kinds (in_store (cells_of before) r.0) = subst (λ (c : Store). CanGo v kinds (in_store c r.0)) (sym h.shows.store) (can r.0 r.1) in
-    followed_landed v kinds first schedule ts before behind k x t 1 r.0 h at r.1 lands.counted
+    followed_landed v kinds first schedule ts before following k x t 1 r.0 h at r.1 lands.counted
     (λ within. subst (λ (c : Store). HasRisen (standing x) (standing t) (G.seen kinds (plain v.code) 1 (in_store c r.0))) h.shows.store (lands.risen v kinds r.0 h.shows.small h.shows.empty r.2 can_go within))
-    (turn_shows v kinds ts before behind shared k x t h.shows can at lands)
+    (turn_shows v kinds ts before following shared k x t h.shows can at lands)
 
-pub turns_followed : (v : Checked) (kinds : Kinds) (first : Shared) (schedule : List ℕ) (ts : List Task) (before behind : Stored) (k : ℕ) (x t : Task) → HaveFollowed v kinds first schedule (seen ts before) → CanFinish v kinds (scheduled kinds (plain v.code) schedule first) k → slice_get ts k ≡ Some x → Goes (standing x) before (standing t) behind → (n : ℕ) × HaveFollowed v kinds first (schedule ++ replicate n k) (seen (slice_set ts k t) behind)
-turns_followed v kinds first schedule ts before behind k x t h can at goes =
+pub turns_followed : (v : Checked) (kinds : Kinds) (first : Shared) (schedule : List ℕ) (ts : List Task) (before following : Stored) (k : ℕ) (x t : Task) → HaveFollowed v kinds first schedule (seen ts before) → CanFinish v kinds (scheduled kinds (plain v.code) schedule first) k → slice_get ts k ≡ Some x → Goes (standing x) before (standing t) following → (n : ℕ) × HaveFollowed v kinds first (schedule ++ replicate n k) (seen (slice_set ts k t) following)
+turns_followed v kinds first schedule ts before following k x t h can at goes =
     let shared : Shared = scheduled kinds (plain v.code) schedule first in
     let r = run_at v ts before shared k x h.shows at in
-    let g = turns_gone v kinds ts before behind shared k x t r.0 h.shows r.1 r.2 can goes in
-    (g.0, followed_landed v kinds first schedule ts before behind k x t g.0 r.0 h at r.1 goes.counted g.2
-    (shows_landed v kinds ts before behind shared k x t g.0 r.0 h.shows at r.1 goes.small goes.empty g.1))
+    let g = turns_gone v kinds ts before following shared k x t r.0 h.shows r.1 r.2 can goes in (
+      g.0,
+      followed_landed v kinds first schedule ts before following k x t g.0 r.0 h at r.1 goes.counted g.2
+          (shows_landed v kinds ts before following shared k x t g.0 r.0 h.shows at r.1 goes.small goes.empty g.1),
+    )
 
 -- ---- for the answers of the start
 

@@ -1,4 +1,4 @@
--- What the gauge of a task tells. A task's turns release cells of its own and make none, so it held the most of each
+-- What the gauge of a task reports. A task's turns release cells of its own and make none, so it held the most of each
 -- size at its start, and holds the least now.
 --
 -- A task that was started with a list of three cells of size 2, and whose turns have released one of them, holds two:
@@ -51,12 +51,12 @@ HoldsAtStart v cs start held = length cs ≤ 2 ^ 32 → (g : Function) (xs : Par
 
 -- Turns of the task led from one store to another, and counted what is released: of each size as many cells as the
 -- store holds no more.
-pub record HasCounted (old : Standing) (before : Store) (new : Standing) (behind : Store) : Type 0 where
+pub record HasCounted (old : Standing) (before : Store) (new : Standing) (following : Store) : Type 0 where
   pub started : new.started ≡ old.started
-  pub counted : CountsReleased before.cells before.released old.stack.freed behind.cells behind.released
+  pub counted : CountsReleased before.cells before.released old.stack.freed following.cells following.released
       new.stack.freed
 
--- The gauge tells of the states that the task was in.
+-- The gauge reports of the states that the task was in.
 pub record IsGaugeOf (t : Standing) (g : Gauge) : Type 0 where
   pub lowest : (k : ℕ) → 1 ≤ k → k ≤ MOST_FIELDS → slice_index_or g.lowest (k - 1) 0 ≡ left_of t k
   pub highest : (k : ℕ) → 1 ≤ k → k ≤ MOST_FIELDS → slice_index_or g.highest (k - 1) 0 ≡ started_of t k

@@ -49,25 +49,25 @@ pub record HasRisen (old new : Standing) (ss : List Seen) : Type 0 where
   pub words : new.stack.most_words ≡ max old.stack.most_words (highest_words ss)
 
 -- A turn, from a moment over these cells to another.
-pub record Lands (old : Standing) (before : Stored) (new : Standing) (behind : Stored) : Type 0 where
-  pub small : IsSmall before.cells → IsSmall behind.cells
-  pub empty : before.pushed ≡ [] → behind.pushed ≡ []
-  pub counted : HasCounted old (cells_of before) new (cells_of behind)
+pub record Lands (old : Standing) (before : Stored) (new : Standing) (following : Stored) : Type 0 where
+  pub small : IsSmall before.cells → IsSmall following.cells
+  pub empty : before.pushed ≡ [] → following.pushed ≡ []
+  pub counted : HasCounted old (cells_of before) new (cells_of following)
   pub turn : (v : Checked) (kinds : Kinds) (r : Run) → IsSmall before.cells → before.pushed ≡ [] → StandsAt v old r →
       CanGo v kinds (in_store (cells_of before) r) →
-      IsLanded v new (cells_of behind) (later kinds (plain v.code) (in_store (cells_of before) r))
+      IsLanded v new (cells_of following) (later kinds (plain v.code) (in_store (cells_of before) r))
   pub risen : (v : Checked) (kinds : Kinds) (r : Run) → IsSmall before.cells → before.pushed ≡ [] → StandsAt v old r →
       CanGo v kinds (in_store (cells_of before) r) → IsWithin old r →
       HasRisen old new (seen kinds (plain v.code) 1 (in_store (cells_of before) r))
 
 -- Turns of one task, from a moment over these cells to another, of a run that can go on at each of them.
-pub record Goes (old : Standing) (before : Stored) (new : Standing) (behind : Stored) : Type 0 where
-  pub small : IsSmall before.cells → IsSmall behind.cells
-  pub empty : before.pushed ≡ [] → behind.pushed ≡ []
-  pub counted : HasCounted old (cells_of before) new (cells_of behind)
+pub record Goes (old : Standing) (before : Stored) (new : Standing) (following : Stored) : Type 0 where
+  pub small : IsSmall before.cells → IsSmall following.cells
+  pub empty : before.pushed ≡ [] → following.pushed ≡ []
+  pub counted : HasCounted old (cells_of before) new (cells_of following)
   pub turns : (v : Checked) (kinds : Kinds) (r : Run) → IsSmall before.cells → before.pushed ≡ [] → StandsAt v old r →
       ((n : ℕ) → CanGo v kinds (after kinds (plain v.code) n (in_store (cells_of before) r))) →
-      (n : ℕ) × IsLanded v new (cells_of behind) (after kinds (plain v.code) n (in_store (cells_of before) r))
+      (n : ℕ) × IsLanded v new (cells_of following) (after kinds (plain v.code) n (in_store (cells_of before) r))
       × (IsWithin old r → HasRisen old new (seen kinds (plain v.code) n (in_store (cells_of before) r)))
 
 -- A new task stands where its start begins.

@@ -1,7 +1,7 @@
 -- Tasks against the schedule that is written: each task stands where its run does, and the store is the schedule's.
 --
 -- Two tasks of the reversal of a list took the turns 0, 1 and 0. Then the first stands at its third instruction and the
--- second at its second, as the runs of the two do behind this schedule; neither has ended.
+-- second at its second, as the runs of the two do after this schedule; neither has ended.
 use Rattle.std.specs.Prelude.{◌≡◌, ◌≢◌, ℕ, ◌≤◌, List, [], Option, Some, None, length, replicate, slice_get}
 use Rattle.fip_machine.specs.cell_code.declared.code.Function.{Function}
 use Rattle.task_semantics.specs.machine_semantics.Codes.{plain}
@@ -29,7 +29,7 @@ pub record IsAt (v : Checked) (t : Standing) (s : State) (calls : ℕ) : Type 0 
   pub on : t.ended ≡ None
   pub left : t.left ≡ calls
 
--- The task ended so; behind a value it has the words of the results.
+-- The task ended so; after a value it has the words of the results.
 abbrev pub HasEnded : Standing → End → Type 0
 HasEnded t (Value ws) = (t.ended ≡ Some M.Value) × (t.stack.given ≡ ws)
 HasEnded t (Trap kind line col) = t.ended ≡ Some (M.Trap kind line col)
@@ -68,7 +68,7 @@ abbrev pub CanFinish : Checked → Kinds → Shared → ℕ → Type 0
 CanFinish v kinds shared k =
     (n : ℕ) → CanTurn v kinds (scheduled kinds (plain v.code) (replicate n k) shared) k
 
--- ---- what is told
+-- ---- what is reported
 
 -- what a turn came to, by how the task has ended then
 abbrev pub turned_by : Option Ended → Turned

@@ -251,7 +251,7 @@ impl<'a> Task<'a> {
 
     /// The gauge of the states that it was in.
     pub fn gauge(&self) -> Gauge
-        ensures tells { IsGaugeOf (standing self.now) result }
+        ensures reports { IsGaugeOf (standing self.now) result }
     {
         let highest = self.stack.highest();
         let mut gauge = Gauge::new();
@@ -296,7 +296,7 @@ impl<'a> Task<'a> {
     /// answers its end again and changes nothing.
     pub fn turn(&mut self, cells: &mut Sealed) -> Turned
         ensures lands { Lands (standing self.old) cells.old (standing self.new) cells.new }
-        ensures told { result ≡ turned_by self.new.ended }
+        ensures reported { result ≡ turned_by self.new.ended }
     {
         match self.advance(cells) {
             Advanced::Went | Advanced::Called => Turned::Went,

@@ -95,8 +95,8 @@ impl<'a> Tasks<'a> {
         ensures counted { (a b : Standing) → slice_get self.old.tasks k ≡ Some a → slice_get self.new.tasks k ≡ Some b →
             HasCounted a self.old.store b self.new.store }
         ensures others { (j : ℕ) → j ≢ k → slice_get self.new.tasks j ≡ slice_get self.old.tasks j }
-        // and the answer tells whether the task has ended, and how.
-        ensures told { (a : Standing) → slice_get self.new.tasks k ≡ Some a → result ≡ turned_by a.ended }
+        // and the answer reports whether the task has ended, and how.
+        ensures reported { (a : Standing) → slice_get self.new.tasks k ≡ Some a → result ≡ turned_by a.ended }
     {
         self.tasks[k].turn(&mut self.cells)
     }
@@ -119,7 +119,7 @@ impl<'a> Tasks<'a> {
             HasCounted a self.old.store b self.new.store }
         ensures others { (j : ℕ) → j ≢ k → slice_get self.new.tasks j ≡ slice_get self.old.tasks j }
         // and the task has ended.
-        ensures told { (a : Standing) → slice_get self.new.tasks k ≡ Some a → a.ended ≡ Some result }
+        ensures reported { (a : Standing) → slice_get self.new.tasks k ≡ Some a → a.ended ≡ Some result }
     {
         self.tasks[k].finish(&mut self.cells)
     }
@@ -144,7 +144,7 @@ impl<'a> Tasks<'a> {
     /// those of the start, its lowest those that its turns have left.
     pub fn gauge(&self, k: usize) -> Gauge
         requires there { k < length self.now.tasks }
-        ensures tells { (a : Standing) → slice_get self.now.tasks k ≡ Some a → IsGaugeOf a result }
+        ensures reports { (a : Standing) → slice_get self.now.tasks k ≡ Some a → IsGaugeOf a result }
     {
         self.tasks[k].gauge()
     }

@@ -19,11 +19,11 @@ names es = map (λ e. e.0) es
 abbrev pub is_among : Name → List Name → Bool
 is_among n ns = list_any (same_name n) ns
 
--- the list with one more name behind it; as it was where it has the name
+-- the list with one more name after it; as it was where it has the name
 abbrev pub with_meaning : {A : Type 0} → List (Name × A) → Name → A → List (Name × A)
 with_meaning es n a = if is_among n (names es) then es else es ++ (n, a) ∷ []
 
--- the list with more names behind it, one after another
+-- the list with more names after it, one after another
 abbrev pub with_meanings : {A : Type 0} → List (Name × A) → List (Name × A) → List (Name × A)
 with_meanings es [] = es
 with_meanings es (f ∷ fs) = with_meanings (with_meaning es f.0 f.1) fs

@@ -1,4 +1,4 @@
-// The trees behind the core form: what a program declares, and programs without static parameters, before and after
+// The trees after the core form: what a program declares, and programs without static parameters, before and after
 // they are typed; and what every walk over them shares: the least violation, numbers by size.
 #![tactic(auto)]
 

@@ -1,7 +1,7 @@
 // Programs without static parameters: instances that call one another by number.
 //
 // One family of trees serves before typing (`Flat`) and after it (`Typed`). A field named `ty` of a binder, a
-// constructor or a match is a slot: it says nothing in a `Flat`, and is the node's type in a `Typed`. No pass behind
+// constructor or a match is a slot: it says nothing in a `Flat`, and is the node's type in a `Typed`. No pass after
 // these trees looks a name up; names stay for what a refusal names.
 ghost use Rattle.std.specs.Prelude.{◌≡◌};
 ghost use Rattle.fip_trees.specs.SoundProgram.{IsSoundProgram};

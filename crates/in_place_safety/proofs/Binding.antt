@@ -1,4 +1,4 @@
--- Several binders at once: what is tracked behind them, which of their variables are counted, and that these hold
+-- Several binders at once: what is tracked after them, which of their variables are counted, and that these hold
 -- together the cells of the values that are bound.
 use Rattle.std.proofs.Common.{◌≡◌, ◌<◌, ℕ, suc, ◌+◌, Bool, true, false, ◌||◌, List, [], ◌∷◌, ◌++◌, map, length, Some, if◌then◌else◌, ◌==◌, refl, sym, ap, ◌∙◌, subst, arith}
 use Rattle.std.proofs.lemmas.List.{append-nil, append_assoc}

@@ -1,4 +1,4 @@
--- The laws on types, cells and the stack, joined for programs that pass all checks.
+-- The theorems on types, cells and the stack, joined for programs that pass all checks.
 use Rattle.std.proofs.Common.{◌≡◌, ◌≢◌, ◌≤◌, ℕ, zero, suc, ◌+◌, List, [], ◌∷◌, map, Option, Some, None, slice_get, if◌then◌else◌, refl, ap, ◌∙◌}
 use Rattle.tail_groups.specs.fip_language.declared.FunKind.TheVariants.{Fip}
 use Rattle.tail_groups.specs.fip_language.declared.limits.TheConstants.{FRAME_WORDS}

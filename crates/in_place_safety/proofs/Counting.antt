@@ -1,4 +1,4 @@
--- An evaluation that gives values counts as the calculus says: by induction on the trees. So the law of the calculus on
+-- An evaluation that gives values counts as the calculus says: by induction on the trees. So the theorem of the calculus on
 -- cells holds of it, and by induction on the calls that stand above one another of each fip instance.
 use Rattle.std.proofs.Common.{◌≡◌, ◌<◌, ◌⊎◌, inl, inr, ⊎_elim, ℕ, zero, suc, ◌+◌, ℤ, pos, Bool, true, false, not, List, ◌++◌, map, length, Option, Some, None, slice_get, if◌then◌else◌, refl, sym, ap, ◌∙◌, subst, arith, int_div, int_rem, ◌+ℤ◌, ◌-ℤ◌, ◌*ℤ◌}
 use Rattle.tail_groups.specs.fip_language.declared.Place.{Place}
@@ -19,7 +19,7 @@ use Rattle.type_safety.specs.type_check.Binders.{all_annotated, entries}
 use Rattle.type_safety.specs.type_check.World as Y
 use Rattle.type_safety.specs.type_check.Typing.{HasType as IsOfType, Types, TypesBlock, TypesClauses, Typed, bound_by, parameter_entries}
 use Rattle.ownership_agreement.specs.fip_rules.World.{World, world, weaker, weaker_than, is_weaker}
-use Rattle.ownership_agreement.specs.fip_rules.Shapes.{Names, behind, binders, takes, shape}
+use Rattle.ownership_agreement.specs.fip_rules.Shapes.{Names, following, binders, takes, shape}
 use Rattle.type_safety.specs.instance_semantics.Matching.{matching}
 use Rattle.type_safety.specs.instance_semantics.Meaning.{bind_binders, argument_value, argument_values, Calls, eval, eval_block, eval_clauses}
 use Rattle.type_safety.specs.Formed.{FormedExpression, FormedBlock, FormedClauses, IsFormed}
@@ -277,7 +277,7 @@ module _ (p : Program) (well : IsFormed p) (calls : Calls) (gain : CallsGain p c
         let first = expression_counts c sc s held (all_annotated bs) e h.0 false d env k f.0 h.1 has us z.1 z.2 in
         let typed = typed_given p.types h.0 (eval calls words e false d env k).answer us z.1 (expression_gained p well calls gain words s (all_annotated bs) e h.0 false d env k f.0 h.1 (tracks_values p.types c sc s env held has)) z.2 in
         let slotted : HaveTypes p.types (slots bs) us = subst (λ qs. HaveTypes p.types qs us) (let_slots bs h.0 h.2) typed in
-        let c1 = behind c (shape w c e) in
+        let c1 = following c (shape w c e) in
         let later = tracks_later p.types c c1 sc s env held refl (grows w c e) has in
         let new = held_all (is_scalar p.types) c1.next bs us held in
         let all = tracks_binders p.types w refl true c1 sc s env held bs us later slotted in

@@ -1,4 +1,4 @@
--- The fip instances of the program of the examples are derived, so the law on cells speaks of some.
+-- The fip instances of the program of the examples are derived, so the theorem on cells speaks of some.
 use Rattle.std.proofs.Common.{◌≡◌, ◌≤◌, ◌⊎◌, inl, inr, ⊎_elim, ℕ, Bool, true, false, ◌||◌, [], ◌∷◌, ◌==◌, refl, subst, arith}
 use Rattle.std.proofs.lemmas.Bool.{eqb-true}
 use Rattle.ownership_agreement.specs.ownership_calculus.Terms.{has}

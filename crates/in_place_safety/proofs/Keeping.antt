@@ -23,7 +23,7 @@ use Rattle.ownership_agreement.specs.Agreement.{IsDerived, AreDerived, AreSized,
 use Rattle.ownership_agreement.proofs.Instances.{programs_agree}
 use Rattle.in_place_safety.specs.Conservation.{cells_given, KeepsCells, AreFipDerived}
 use Rattle.in_place_safety.specs.Counts.{Held}
-use Rattle.in_place_safety.proofs.CellLaw.{function_law}
+use Rattle.in_place_safety.proofs.CellTheorem.{function_theorem}
 use Rattle.in_place_safety.proofs.Tracking.{Tracks}
 use Rattle.in_place_safety.proofs.Binding.{held_all, tracks_binders, parameter_slots, parameter_slot_entries, parameter_names, parameter_scalars}
 use Rattle.in_place_safety.proofs.Owned.{owned_once, owned_total}
@@ -88,7 +88,7 @@ body_keeps p well calls gain keep f fip derived typed formed d vs k g =
     let held = held_all (is_scalar p.types) 0 f.binders vs nothing_held in
     let own = owned_parameters w 0 f.params f.binders in
     let counts = block_counts p well calls gain keep (frame_words f) names scalars (parameter_entries f.params f.binders) held true f.body f.results true d (bind_binders nothing_bound f.binders vs) k formed.body typed.3 has rs left e in
-    let law = function_law (borrowed_parameters w 0 f.params f.binders) own f.credits (body_term w f) held (λ j. cells_of_all j rs) (fip_derived p f Fip fip derived) (owned_once p.types w refl 0 f.params f.binders) counts n in
+    let theorem = function_theorem (borrowed_parameters w 0 f.params f.binders) own f.credits (body_term w f) held (λ j. cells_of_all j rs) (fip_derived p f Fip fip derived) (owned_once p.types w refl 0 f.params f.binders) counts n in
     let whole = owned_total p.types w refl 0 f.params f.binders vs nothing_held n formed.binders slot g in
     omega arith)
 

@@ -1,4 +1,4 @@
-pub mod CellLaw
+pub mod CellTheorem
 pub mod NamesGrow
 pub mod Tracking
 pub mod Binding

@@ -1,4 +1,4 @@
--- Behind a part no fewer binders have been passed than before it.
+-- After a part no fewer binders have been passed than before it.
 use Rattle.std.proofs.Common.{◌≡◌, ℕ, suc, ◌≤◌, Bool, true, false, not, List, [], ◌∷◌, ◌++◌, refl, sym, ap, ◌∙◌, subst, if◌then◌else◌, arith}
 use Rattle.tail_groups.specs.fip_language.declared.Place.{Place}
 use Rattle.tail_groups.specs.fip_language.declared.rule.Rule.TheVariants.{E55}
@@ -8,7 +8,7 @@ use Rattle.ownership_agreement.specs.fip_rules.Marks.{Mark}
 use Rattle.ownership_agreement.specs.fip_rules.Shape as S
 use Rattle.ownership_agreement.specs.fip_rules.Rules.{next}
 use Rattle.ownership_agreement.specs.fip_rules.World.{World, lends, weaker}
-use Rattle.ownership_agreement.specs.fip_rules.Shapes.{Names, Bind, token, owning, owning_all, passing_all, mark, binds, within, behind, taking, binders, takes, clause_shape, shape, shape_block, shape_clauses}
+use Rattle.ownership_agreement.specs.fip_rules.Shapes.{Names, Bind, token, owning, owning_all, passing_all, mark, binds, within, following, taking, binders, takes, clause_shape, shape, shape_block, shape_clauses}
 use Rattle.ownership_agreement.proofs.fip_rules.Orders.{next_passing}
 
 called_next : (n : ℕ) (b : Bool) (p : Place) (l : Name) → next n (if b then S.Fault E55 (token p l) else S.Skip) ≡ n
@@ -57,13 +57,13 @@ module _ (w : World) where
     grows_block c (Last e) = grows c e
     grows_block c (Let bs e rest) =
         let f = grows c e in
-        let g = clause_grows (behind c (shape w c e)) (taking w true bs) (λ d. shape_block w d rest) (λ d. grows_block d rest) in omega arith
+        let g = clause_grows (following c (shape w c e)) (taking w true bs) (λ d. shape_block w d rest) (λ d. grows_block d rest) in omega arith
 
     grows_clauses : (taken : Bool) (c : Names) (done : S.Shape) (cs : Clauses) → c.next ≤ next c.next done → c.next ≤ next c.next (shape_clauses w taken c done cs)
     grows_clauses taken c done NoClauses h = h
     grows_clauses taken c done (MoreClauses q body cs) h =
-        let g = clause_grows (behind c done) (taking w taken (binders q)) (λ d. shape_block w d body) (λ d. grows_block d body) in
-        grows_clauses taken c (S.Either done (clause_shape (behind c done) (taking w taken (binders q)) (λ d. shape_block w d body))) cs (omega arith)
+        let g = clause_grows (following c done) (taking w taken (binders q)) (λ d. shape_block w d body) (λ d. grows_block d body) in
+        grows_clauses taken c (S.Either done (clause_shape (following c done) (taking w taken (binders q)) (λ d. shape_block w d body))) cs (omega arith)
 
-  pub past_grows : (taken : Bool) (c : Names) (bs : List Binder) (body : Block) → c.next ≤ (behind c (clause_shape c (taking w taken bs) (λ d. shape_block w d body))).next
+  pub past_grows : (taken : Bool) (c : Names) (bs : List Binder) (body : Block) → c.next ≤ (following c (clause_shape c (taking w taken bs) (λ d. shape_block w d body))).next
   past_grows taken c bs body = clause_grows c (taking w taken bs) (λ d. shape_block w d body) (λ d. grows_block d body)

@@ -8,7 +8,7 @@ use Rattle.tail_groups.specs.Sites.{Site, sites, block_sites, clauses_sites, ins
 use Rattle.tail_groups.specs.Rules.{is_fip}
 use Rattle.tail_groups.specs.Members.{FipCallsFip}
 use Rattle.ownership_agreement.specs.fip_rules.World.{World, world, weaker, weaker_than, is_weaker}
-use Rattle.ownership_agreement.specs.fip_rules.Shapes.{Names, behind, binders, takes, shape}
+use Rattle.ownership_agreement.specs.fip_rules.Shapes.{Names, following, binders, takes, shape}
 use Rattle.type_safety.specs.Formed.{FormedExpression, FormedBlock, FormedClauses, IsFormed}
 use Rattle.type_safety.proofs.WellTyped.{formed_at}
 use Rattle.ownership_agreement.specs.ownership_calculus.Terms as C
@@ -88,7 +88,7 @@ module _ (p : Program) where
     block_strong : (sc : Scalars) (c : Names) (b : Block) (tail : Bool) (B : ℕ → Bool) (O : Item → ℕ) → FormedBlock p b → Derives true B O (term_block w sc c b) → AllSites IsStrong (block_sites tail b)
     block_strong sc c (Last e) tail B O f h = expression_strong sc c e tail B O f h
     block_strong sc c (Let bs e rest) tail B O f h =
-        let d = behind c (shape w c e) in
+        let d = following c (shape w c e) in
         join_sites IsStrong (sites false e) (block_sites tail rest)
         (expression_strong sc c e false _ _ f.0 h.5)
         (block_strong (entering w d.next sc bs) (inside w true d bs) rest tail _ _ f.1 h.6)

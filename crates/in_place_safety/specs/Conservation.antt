@@ -1,4 +1,4 @@
--- What the law on cells says of an instance: what it gives has, of each size, the cells of its owned arguments and the
+-- What the theorem on cells says of an instance: what it gives has, of each size, the cells of its owned arguments and the
 -- credits of its header together. The cells of a lent argument stay with the caller.
 -- For example `fip +2 fun push(x: int, xs: ints): ints { Cons(x, xs) }` is given a credit of size 2 and a list of three
 -- cells of this size, and gives a list of four.
@@ -17,7 +17,7 @@ owned_cells k [] vs = 0
 owned_cells k (p ∷ ps) End = 0
 owned_cells k (p ∷ ps) (More v vs) = (if p.lent then 0 else cells k v) + owned_cells k ps vs
 
--- `given k ks` tells how often the size k stands in a header
+-- `given k ks` reports how often the size k stands in a header
 abbrev pub cells_given : ℕ → Instance → Values → ℕ
 cells_given k f vs = owned_cells k f.params vs + given k f.credits
 

@@ -1,4 +1,4 @@
-// The laws on cells. Each is the contract of a function that does nothing.
+// The theorems on cells. Each is the contract of a function that does nothing.
 ghost use Rattle.std.specs.Prelude.{◌≡◌, ℕ, Some, slice_get};
 ghost use Rattle.tail_groups.specs.fip_language.declared.FunKind.TheVariants.{Fip};
 ghost use Rattle.tail_groups.specs.fip_language.Values.{Values};
@@ -14,10 +14,10 @@ ghost use Rattle.in_place_safety.specs.Conservation.{KeepsCells, AreFipDerived};
 
 /// In a typed program whose fip instances are derived: where a fip instance gives values, on arguments of its
 /// parameters' types, these have as many cells of each size as its owned arguments and its header's credits together.
-/// So it needs no allocator, and leaves nothing behind. For who runs it where there is none.
+/// So it needs no allocator, and leaves nothing after. For who runs it where there is none.
 #[tactic(auto, using(crate::proofs::Keeping::meaning_keeps))]
 pub fn derived_instances_keep_their_cells()
-    ensures law { (program : Program) (i : ℕ) (f : Instance) (arguments : Values) (calls frames : ℕ) →
+    ensures theorem { (program : Program) (i : ℕ) (f : Instance) (arguments : Values) (calls frames : ℕ) →
         IsFormed program → IsFilled program → AreFipDerived program program.instances →
         slice_get program.instances i ≡ Some f → f.kind ≡ Fip → HaveTypes program.types (parameter_types f) arguments →
         KeepsCells f arguments (flat_meaning program i arguments calls frames).answer }
@@ -27,16 +27,16 @@ pub fn derived_instances_keep_their_cells()
 /// these rules.
 #[tactic(auto, using(crate::proofs::Keeping::accepted_keeps))]
 pub fn accepted_instances_keep_their_cells()
-    ensures law { (program : Program) (i : ℕ) (f : Instance) (arguments : Values) (calls frames : ℕ) →
+    ensures theorem { (program : Program) (i : ℕ) (f : Instance) (arguments : Values) (calls frames : ℕ) →
         IsFormed program → IsFilled program → AreSized program program.instances → IsAccepted program →
         slice_get program.instances i ≡ Some f → f.kind ≡ Fip →
         HaveTypes program.types (parameter_types f) arguments →
         KeepsCells f arguments (flat_meaning program i arguments calls frames).answer }
 {}
 
-/// There are such programs: in that of the examples each fip instance is derived. For who doubts that the laws speak of
+/// There are such programs: in that of the examples each fip instance is derived. For who doubts that the theorems speak of
 /// any.
 #[tactic(auto, using(crate::proofs::Examples::lists_derived))]
 pub fn an_example_is_derived()
-    ensures law { AreFipDerived lists lists.instances }
+    ensures theorem { AreFipDerived lists lists.instances }
 {}

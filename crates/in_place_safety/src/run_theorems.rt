@@ -1,4 +1,4 @@
-// The laws on programs that pass all checks. Each is the contract of a function that does nothing.
+// The theorems on programs that pass all checks. Each is the contract of a function that does nothing.
 ghost use Rattle.std.specs.Prelude.{◌≡◌, ◌≤◌, ℕ, List, Some, slice_get};
 ghost use Rattle.tail_groups.specs.fip_base.declared.plain.Stack.{Stack};
 ghost use Rattle.tail_groups.specs.fip_language.declared.FunKind.TheVariants.{Fip};
@@ -24,7 +24,7 @@ ghost use Rattle.in_place_safety.specs.InPlace.{RunsInPlace, IsChecked};
 /// where there is no allocator.
 #[tactic(auto, using(crate::proofs::Checked::runs_in_place))]
 pub fn checked_programs_run_in_place()
-    ensures law { (program : Program) (members : List Member) (i : ℕ) (f : Instance) (m : Member) (s : Stack)
+    ensures theorem { (program : Program) (members : List Member) (i : ℕ) (f : Instance) (m : Member) (s : Stack)
         (arguments : Values) (calls frames : ℕ) → IsChecked program members →
         slice_get program.instances i ≡ Some f → f.kind ≡ Fip → slice_get members i ≡ Some m → m.stack ≡ Some s →
         HaveTypes program.types (parameter_types f) arguments → s.frames ≤ frames →
@@ -36,7 +36,7 @@ pub fn checked_programs_run_in_place()
 /// reads the source alone.
 #[tactic(auto, using(crate::proofs::Sources::source_in_place))]
 pub fn checked_sources_run_in_place()
-    ensures law { (core : Core) (program : Program) (numbered : List Closed) (members : List Member) (i : ℕ)
+    ensures theorem { (core : Core) (program : Program) (numbered : List Closed) (members : List Member) (i : ℕ)
         (name : Name) (given : Closeds) (f : Instance) (m : Member) (s : Stack) (arguments : Values)
         (calls frames : ℕ) → IsSpecialised core program numbered →
         slice_get numbered i ≡ Some (ClosedName name given) → IsChecked (filled program) members →
@@ -48,7 +48,7 @@ pub fn checked_sources_run_in_place()
 /// In a program that passes all checks each fip instance has a stack number. For who reserves its stack.
 #[tactic(auto, using(crate::proofs::Checked::has_stack))]
 pub fn fip_instances_have_a_stack()
-    ensures law { (program : Program) (members : List Member) (i : ℕ) (f : Instance) → IsChecked program members →
+    ensures theorem { (program : Program) (members : List Member) (i : ℕ) (f : Instance) → IsChecked program members →
         slice_get program.instances i ≡ Some f → f.kind ≡ Fip →
         (m : Member) × (s : Stack) × (slice_get members i ≡ Some m) × (m.stack ≡ Some s) }
 {}
@@ -57,6 +57,6 @@ pub fn fip_instances_have_a_stack()
 /// asks what groups and numbers ask.
 #[tactic(auto, using(crate::proofs::Strong::fip_calls_fip))]
 pub fn derived_instances_call_fip_ones()
-    ensures law { (program : Program) → IsFormed program → AreFipDerived program program.instances →
+    ensures theorem { (program : Program) → IsFormed program → AreFipDerived program program.instances →
         FipCallsFip program.instances }
 {}

@@ -1,4 +1,4 @@
-// The laws on the stack. Each is the contract of a function that does nothing.
+// The theorems on the stack. Each is the contract of a function that does nothing.
 ghost use Rattle.std.specs.Prelude.{◌≡◌, ℕ, ◌+◌, ◌≤◌, List, Some, slice_get};
 ghost use Rattle.tail_groups.specs.fip_base.declared.plain.Stack.{Stack};
 ghost use Rattle.tail_groups.specs.fip_language.Values.{Values};
@@ -11,7 +11,7 @@ ghost use Rattle.in_place_safety.specs.Bounds.{IsWithin, AreBounded};
 /// frames it doesn't end for want of one. For who reserves a stack.
 #[tactic(auto, using(crate::proofs::Within::meaning_within))]
 pub fn runs_stay_within_their_stack()
-    ensures law { (program : Program) (members : List Member) (i : ℕ) (m : Member) (s : Stack) (arguments : Values)
+    ensures theorem { (program : Program) (members : List Member) (i : ℕ) (m : Member) (s : Stack) (arguments : Values)
         (calls frames : ℕ) → AreBounded program.instances members → slice_get members i ≡ Some m →
         m.stack ≡ Some s → IsWithin s frames (flat_meaning program i arguments calls frames) }
 {}
@@ -19,7 +19,7 @@ pub fn runs_stay_within_their_stack()
 /// With so many free frames, more of them change nothing. For who gives a run more stack than it needs.
 #[tactic(auto, using(crate::proofs::Within::meaning_same))]
 pub fn more_stack_keeps_the_run()
-    ensures law { (program : Program) (members : List Member) (i : ℕ) (m : Member) (s : Stack) (arguments : Values)
+    ensures theorem { (program : Program) (members : List Member) (i : ℕ) (m : Member) (s : Stack) (arguments : Values)
         (calls frames more : ℕ) → AreBounded program.instances members → slice_get members i ≡ Some m →
         m.stack ≡ Some s → s.frames ≤ frames →
         flat_meaning program i arguments calls (frames + more) ≡ flat_meaning program i arguments calls frames }

@@ -6,7 +6,7 @@ use Rattle.fip_trees.specs.fip_language.Values.{Value, Int, Node, Values}
 use Rattle.fip_trees.specs.fip_language.Matching.{Binding}
 use Rattle.fip_trees.specs.fip_language.Arithmetic.{Operated, Is, Fails, operate}
 use Rattle.fip_trees.specs.fip_language.Meaning.{Run, in_frame, Environment, nothing_bound, bind_matched, with_value, with_values, operated, operation, if_matches}
-use Rattle.fip_trees.specs.fip_language.Laws.{AtMost}
+use Rattle.fip_trees.specs.fip_language.Theorems.{AtMost}
 use Rattle.fip_trees.proofs.fip_language.Left.{AtMost-go_on, AtMost-counted}
 use Rattle.fip_trees.specs.Tree.{Expression, Give, Tuple, Operation, Call, Match, Nested, Block, Last, Let, Clauses, NoClauses, MoreClauses, Instance, Program}
 use Rattle.instance_semantics.specs.Registers.{frame_words}

@@ -44,7 +44,7 @@ abbrev mutual
 abbrev pub Calls : Type 0
 Calls = ℕ → ℕ → Values → ℕ → Run
 
--- The evaluation of an expression in an instance whose frame has so many words, over what calls give: the flag tells
+-- The evaluation of an expression in an instance whose frame has so many words, over what calls give: the flag reports
 -- tail position, d is the number of free frames and k that of the calls left. The first clause that matches is chosen.
 abbrev mutual
   pub eval : Calls → ℕ → Expression → Bool → ℕ → Environment → ℕ → Run

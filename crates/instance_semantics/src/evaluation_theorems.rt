@@ -1,9 +1,9 @@
-// The laws of the meaning of programs without static parameters. Each is the contract of a function that does nothing.
+// The theorems of the meaning of programs without static parameters. Each is the contract of a function that does nothing.
 ghost use Rattle.std.specs.Prelude.{◌≡◌, ◌≢◌, ℕ, suc, ◌+◌, ◌≤◌, pos, Some, slice_get};
 ghost use Rattle.fip_trees.specs.fip_language.declared.TrapKind.TheVariants.{Overflow};
 ghost use Rattle.fip_trees.specs.fip_language.Values.{Int, Node, Values, End, More};
 ghost use Rattle.fip_trees.specs.fip_language.Meaning.{Gives, Trap, Out, Deep, ends};
-ghost use Rattle.fip_trees.specs.fip_language.Laws.{AtMost};
+ghost use Rattle.fip_trees.specs.fip_language.Theorems.{AtMost};
 ghost use Rattle.fip_trees.specs.fip_language.Example.{empty, item, pair, three, three_reversed};
 ghost use Rattle.fip_trees.specs.Tree.{Instance, Program};
 ghost use Rattle.instance_semantics.specs.Registers.{frame_words};
@@ -13,7 +13,7 @@ ghost use Rattle.instance_semantics.specs.Example.{lists};
 /// An evaluation never leaves more calls than it was given. For who reads the meaning: no call is made up.
 #[tactic(auto, using(crate::proofs::Left::meaning_left))]
 pub fn calls_never_rise()
-    ensures law { (program : Program) (i : ℕ) (arguments : Values) (calls frames : ℕ) →
+    ensures theorem { (program : Program) (i : ℕ) (arguments : Values) (calls frames : ℕ) →
         AtMost calls (flat_meaning program i arguments calls frames).answer }
 {}
 
@@ -31,7 +31,7 @@ pub fn an_entry_costs_a_call()
 /// who was out of calls and gives more of them.
 #[tactic(auto, using(crate::proofs::More::more_calls))]
 pub fn more_calls_keep_the_values()
-    ensures law { (program : Program) (i : ℕ) (arguments : Values) (calls frames more : ℕ) (results : Values)
+    ensures theorem { (program : Program) (i : ℕ) (arguments : Values) (calls frames more : ℕ) (results : Values)
         (left : ℕ) → (flat_meaning program i arguments calls frames).answer ≡ Gives results left →
         flat_meaning program i arguments (calls + more) frames ≡ record {
           answer = Gives results (left + more);
@@ -44,7 +44,7 @@ pub fn more_calls_keep_the_values()
 /// changes no value.
 #[tactic(auto, using(crate::proofs::Frames::more_frames))]
 pub fn more_frames_keep_the_run()
-    ensures law { (program : Program) (i : ℕ) (arguments : Values) (calls frames more : ℕ) →
+    ensures theorem { (program : Program) (i : ℕ) (arguments : Values) (calls frames more : ℕ) →
         (flat_meaning program i arguments calls frames).answer ≢ Deep →
         flat_meaning program i arguments calls (frames + more) ≡ flat_meaning program i arguments calls frames }
 {}
@@ -52,14 +52,14 @@ pub fn more_frames_keep_the_run()
 /// No evaluation holds more frames than were free. For who builds a stack.
 #[tactic(auto, using(crate::proofs::Peak::peak_within))]
 pub fn held_frames_were_free()
-    ensures law { (program : Program) (i : ℕ) (arguments : Values) (calls frames : ℕ) →
+    ensures theorem { (program : Program) (i : ℕ) (arguments : Values) (calls frames : ℕ) →
         (flat_meaning program i arguments calls frames).peak.frames ≤ frames }
 {}
 
 /// An instance that is entered has its own frame on the stack. For who reads the peak.
 #[tactic(auto, using(crate::proofs::Peak::peak_of_entry))]
 pub fn an_entry_has_its_frame()
-    ensures law { (program : Program) (i : ℕ) (arguments : Values) (calls frames : ℕ) (f : Instance) →
+    ensures theorem { (program : Program) (i : ℕ) (arguments : Values) (calls frames : ℕ) (f : Instance) →
         slice_get program.instances i ≡ Some f →
         frame_words f ≤ (flat_meaning program i arguments (suc calls) frames).peak.words }
 {}

@@ -1,4 +1,4 @@
-// The laws on instances. Each is the contract of a function that does nothing.
+// The theorems on instances. Each is the contract of a function that does nothing.
 ghost use Rattle.std.specs.Prelude.{◌≡◌, ℕ, List, [], ◌∷◌, Some, slice_get};
 ghost use Rattle.fip_trees.specs.fip_language.Core.{Name, Core};
 ghost use Rattle.fip_trees.specs.fip_language.Example.{rev, reversing};
@@ -14,15 +14,15 @@ ghost use Rattle.instance_semantics.specs.Specialised.{IsSpecialised};
 /// the same calls left, and the same peak of the stack. For who runs a program without static parameters.
 #[tactic(auto, using(crate::proofs::Means::means))]
 pub fn instances_mean_what_their_functions_mean()
-    ensures law { (core : Core) (program : Program) (numbered : List Closed) (i : ℕ) (name : Name) (given : Closeds)
+    ensures theorem { (core : Core) (program : Program) (numbered : List Closed) (i : ℕ) (name : Name) (given : Closeds)
         (arguments : Values) (calls frames : ℕ) → IsSpecialised core program numbered →
         slice_get numbered i ≡ Some (ClosedName name given) →
         flat_meaning program i arguments calls frames ≡ meaning core name given arguments calls frames }
 {}
 
-/// There are such programs: that of the examples is one, for the instance of `rev`. For who doubts that the law speaks
+/// There are such programs: that of the examples is one, for the instance of `rev`. For who doubts that the theorem speaks
 /// of any.
 #[tactic(auto, using(crate::proofs::InstanceExamples::lists_specialised))]
 pub fn an_example_is_specialised()
-    ensures law { IsSpecialised reversing lists (ClosedName rev.name NoClosed ∷ []) }
+    ensures theorem { IsSpecialised reversing lists (ClosedName rev.name NoClosed ∷ []) }
 {}

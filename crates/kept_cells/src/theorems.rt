@@ -24,7 +24,7 @@ pub fn no_step_changes_a_kept_cell()
 /// After any steps of a run of sound code each kept cell has the constructor and the fields that it had before the
 /// first, and isn't released. For who keeps values in a store that a stranger's code runs over.
 pub fn a_run_leaves_kept_cells_as_they_were()
-    ensures law { (c : PlainCode) (before waits : Kinds) (n : ℕ) (kept : List ℕ) (s : State) (calls steps p : ℕ) →
+    ensures theorem { (c : PlainCode) (before waits : Kinds) (n : ℕ) (kept : List ℕ) (s : State) (calls steps p : ℕ) →
         IsStart c before waits n kept s → 0 < count p kept →
         cell_at (state_of (after before (run_code c) steps (begun s calls))).store p ≡ cell_at s.store p }
     ensures held { (c : PlainCode) (before waits : Kinds) (n : ℕ) (kept : List ℕ) (s : State) (calls steps p : ℕ) →

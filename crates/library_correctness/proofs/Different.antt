@@ -53,7 +53,7 @@ only_once xs k ys h a = not_above k ys (ascending_last xs (k ∷ ys) h).0 (not_b
 
 -- ---- their number
 
--- the others are the keys behind, where the first doesn't come again
+-- the others are the keys after, where the first doesn't come again
 others : (k : ℤ) (ks low high : List ℤ) → IsAscending (low ++ (k ∷ high)) → (Among k ks → ⊥) → ((j : ℤ) → Among j (low ++ (k ∷ high)) ↔ Among j (k ∷ ks)) → (j : ℤ) → Among j (low ++ high) ↔ Among j ks
 others k ks low high h new same j = (to, from)
   where
@@ -71,7 +71,7 @@ others k ks low high h new same j = (to, from)
     from : Among j ks → Among j (low ++ high)
     from a = left a ((among_more k j low high).0 ((same j).1 (inr a)))
 
--- the keys behind are all, where the first comes again
+-- the keys after are all, where the first comes again
 again : (k : ℤ) (ks xs : List ℤ) → Among k ks → ((j : ℤ) → Among j xs ↔ Among j (k ∷ ks)) → (j : ℤ) → Among j xs ↔ Among j ks
 again k ks xs there same j = (to, from)
   where

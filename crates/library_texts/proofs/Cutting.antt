@@ -9,7 +9,7 @@ use Rattle.std.proofs.Math.Seq.{drop-append_seam}
 use Rattle.source_report.specs.fip_language.declared.Place.{Place}
 use Rattle.source_report.specs.fip_grammar.Token.{Word, Upper, Number, Mark, Token}
 use Rattle.source_report.specs.fip_grammar.declared.Sign.TheVariants as S
-use Rattle.source_report.specs.fip_grammar.Cut.{is_lower, is_upper, is_digit, is_name, keyword_or_name, single_sign, IsFirst, is_blank, is_comment, is_gap, is_no_lf, Piece, Blank, Comment, Cut, piece_text, along, next_line, first_place, Pieces, tokens_of, behind_all, IsCut}
+use Rattle.source_report.specs.fip_grammar.Cut.{is_lower, is_upper, is_digit, is_name, keyword_or_name, single_sign, IsFirst, is_blank, is_comment, is_gap, is_no_lf, Piece, Blank, Comment, Cut, piece_text, along, next_line, first_place, Pieces, tokens_of, after_all, IsCut}
 use Rattle.source_report.specs.fip_grammar.Claims.{double_start, IsFront}
 use Rattle.source_report.proofs.fip_grammar.Fronts.{first_bang, first_lower, first_upper, first_digit, first_double, first_single, gap_lf, gap_blank, gap_comment, gap_none, cut_first}
 pub use Rattle.source_report.proofs.cell_lower.fip_language.Facts.{same_number as is_byte}
@@ -87,14 +87,14 @@ AllPieces text = (xs : List Piece) × Pieces xs text []
 pub after_first : (text : List ℕ) (x : Piece) (next : Place) (f : IsFront text first_place x next) → drop (length (piece_text x)) text ≡ f.after
 after_first text x next f = ap (drop (length (piece_text x))) f.whole ∙ drop-append_seam (piece_text x) f.after
 
--- the pieces behind the first
-abbrev behind_first : (text : List ℕ) (x : Piece) (next : Place) (f : IsFront text first_place x next) → Option (AllPieces (drop (length (piece_text x)) text)) → Option (AllPieces text)
-behind_first text x next f None = None
-behind_first text x next f (Some (xs, h)) = Some (x ∷ xs, (f.after, f.whole, f.begins, subst (λ t. Pieces xs t []) (after_first text x next f) h))
+-- the pieces after the first
+abbrev following_first : (text : List ℕ) (x : Piece) (next : Place) (f : IsFront text first_place x next) → Option (AllPieces (drop (length (piece_text x)) text)) → Option (AllPieces text)
+following_first text x next f None = None
+following_first text x next f (Some (xs, h)) = Some (x ∷ xs, (f.after, f.whole, f.begins, subst (λ t. Pieces xs t []) (after_first text x next f) h))
 
 abbrev pub from_first : (text : List ℕ) → Option (FirstPiece text) → ((rest : List ℕ) → Option (AllPieces rest)) → Option (AllPieces text)
 from_first text None go = None
-from_first text (Some (x, next, f)) go = behind_first text x next f (go (drop (length (piece_text x)) text))
+from_first text (Some (x, next, f)) go = following_first text x next f (go (drop (length (piece_text x)) text))
 
 -- the pieces of a text of at most so many bytes
 abbrev pub all_pieces : ℕ → (text : List ℕ) → Option (AllPieces text)
@@ -110,9 +110,9 @@ pieces_or_none (Some (xs, h)) = xs
 abbrev pub tokens_in : List ℕ → List Token
 tokens_in text = tokens_of first_place (pieces_or_none (all_pieces (length text) text))
 
-pub is_cut : (text : List ℕ) → is_some (all_pieces (length text) text) ≡ true → IsCut text (tokens_in text) (behind_all first_place (pieces_or_none (all_pieces (length text) text)))
+pub is_cut : (text : List ℕ) → is_some (all_pieces (length text) text) ≡ true → IsCut text (tokens_in text) (after_all first_place (pieces_or_none (all_pieces (length text) text)))
 is_cut text e = by (all_pieces (length text) text) e
   where
-    by : (o : Option (AllPieces text)) → is_some o ≡ true → IsCut text (tokens_of first_place (pieces_or_none o)) (behind_all first_place (pieces_or_none o))
+    by : (o : Option (AllPieces text)) → is_some o ≡ true → IsCut text (tokens_of first_place (pieces_or_none o)) (after_all first_place (pieces_or_none o))
     by None e = absurd (none_held e)
     by (Some (xs, h)) e = (xs, h, refl, refl)

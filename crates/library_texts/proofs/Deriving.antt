@@ -58,7 +58,7 @@ met true x next again on = again
 met false x [] again on = false
 met false x (e ∷ es) again on = same_closed x e && on e es
 
--- Behind those that were seen, just the next ones stand first in the list, in this order. The seen ones are written
+-- After those that were seen, just the next ones stand first in the list, in this order. The seen ones are written
 -- out at each step, so that the rest of the list is looked at once.
 abbrev pub follow : List Closed → List Closed → List Closed → Bool
 follow seen next [] = none_left next

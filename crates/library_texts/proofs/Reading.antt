@@ -11,7 +11,7 @@ use Rattle.source_report.specs.fip_language.Surface as Surface
 use Rattle.source_report.specs.fip_grammar.Token.{Word, Lower, Upper, Number, Operate, Mark, Token, value_of}
 use Rattle.source_report.specs.fip_grammar.Grammar.{Spells}
 use Rattle.source_report.specs.fip_grammar.Machine.{Machine, machine_step, machine_end, start}
-use Rattle.source_report.specs.fip_grammar.Limits.{is_opening, Seen, nothing_seen, behind, limit, Breaks, IsSpelt}
+use Rattle.source_report.specs.fip_grammar.Limits.{is_opening, Seen, nothing_seen, following, limit, Breaks, IsSpelt}
 use Rattle.source_report.proofs.fip_grammar.Exact.{accepted_is_spelled}
 use Rattle.source_report.proofs.fip_grammar.Least.{Reads, reads_start, reads_next, reads_unended, reads_ended}
 use Rattle.library_texts.proofs.Cutting.{none_held, all_pieces, tokens_in, is_cut}
@@ -56,7 +56,7 @@ abbrev pub reads : Seen → Machine → List Token → Bool
 reads b m [] = true
 reads b m (t ∷ ts) =
     (is_shallow (is_opening t.word) b.open' && is_small b t.word)
-    && if_taken (machine_step m t) (λ n. reads (behind b t.word) n ts)
+    && if_taken (machine_step m t) (λ n. reads (following b t.word) n ts)
 
 drop_none : (n : ℕ) (xs : List Token) → drop n xs ≡ [] → length xs ≤ n
 drop_none zero [] e = omega arith
@@ -87,16 +87,16 @@ read_on all [] i m b e h r =
     let end : i ≡ length all = (let w = h.within in omega (arith, le, w)) in
     (m, b, subst (λ k. Reads all k m b) end h)
 read_on all (t ∷ ts) i m b e h r =
-    let parts = and_parts (is_shallow (is_opening t.word) b.open' && is_small b t.word) (if_taken (machine_step m t) (λ n. reads (behind b t.word) n ts)) r in
+    let parts = and_parts (is_shallow (is_opening t.word) b.open' && is_small b t.word) (if_taken (machine_step m t) (λ n. reads (following b t.word) n ts)) r in
     let both = and_parts (is_shallow (is_opening t.word) b.open') (is_small b t.word) parts.0 in
     let one : suc i ≡ i + 1 = omega arith in
     let rest : drop (i + 1) all ≡ ts = subst (λ k. drop k all ≡ ts) one (rest_dropped i all t ts e) in
-    by (machine_step m t) refl parts.1 (first_dropped i all t ts e) (not_deep (is_opening t.word) b.open' both.0) (not_large b t.word both.1) (λ n k g. read_on all ts (i + 1) n (behind b t.word) rest k g)
+    by (machine_step m t) refl parts.1 (first_dropped i all t ts e) (not_deep (is_opening t.word) b.open' both.0) (not_large b t.word both.1) (λ n k g. read_on all ts (i + 1) n (following b t.word) rest k g)
   where
     by :
-        (o : Option Machine) → machine_step m t ≡ o → if_taken o (λ n. reads (behind b t.word) n ts) ≡ true → slice_get all i ≡ Some t →
+        (o : Option Machine) → machine_step m t ≡ o → if_taken o (λ n. reads (following b t.word) n ts) ≡ true → slice_get all i ≡ Some t →
         (is_opening t.word ≡ true → 100 ≤ b.open' → ⊥) → ((ds : List ℕ) → t.word ≡ Number ds → limit b.is_sign < value_of ds → ⊥) →
-        ((n : Machine) → Reads all (i + 1) n (behind b t.word) → reads (behind b t.word) n ts ≡ true → AllRead all) → AllRead all
+        ((n : Machine) → Reads all (i + 1) n (following b t.word) → reads (following b t.word) n ts ≡ true → AllRead all) → AllRead all
     by None s g at deep large go = absurd (none_held g)
     by (Some n) s g at deep large go = go n (reads_next all i m n b t h at s deep large) g
 

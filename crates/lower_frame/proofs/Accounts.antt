@@ -39,14 +39,14 @@ sized_taken cs n r rest m t =
     let c : Credit = record { size = n; register = r } in
     let a = ap (sized m) t.was in
     let d = ap (sized m) t.left in
-    omega (arith, a, sized_both m t.before (c ∷ t.behind), d, sized_both m t.before t.behind)
+    omega (arith, a, sized_both m t.before (c ∷ t.following), d, sized_both m t.before t.following)
 
 counted_taken : (cs : List Credit) (n r : ℕ) (rest : List Credit) (m q : ℕ) → IsTaken cs n r rest → counted m q cs ≡ one_if ((n == m) && (r == q)) + counted m q rest
 counted_taken cs n r rest m q t =
     let c : Credit = record { size = n; register = r } in
     let a = ap (counted m q) t.was in
     let d = ap (counted m q) t.left in
-    omega (arith, a, counted_both m q t.before (c ∷ t.behind), d, counted_both m q t.before t.behind)
+    omega (arith, a, counted_both m q t.before (c ∷ t.following), d, counted_both m q t.before t.following)
 
 cond_le : (a b : Bool) → one_if (a && b) ≤ one_if a
 cond_le true true = omega arith
@@ -181,8 +181,8 @@ there_within [] i c e = absurd (cc)
 there_within (d ∷ cs) zero c e = omega arith
 there_within (d ∷ cs) (suc i) c e = omega (arith, there_within cs i c e)
 
-none_behind : (k : Known) (n p : ℕ) → Accounted k → NoneBetween p (length k.credits) k.held k.credits n → of_size n (drop p k.credits) ≡ []
-none_behind k n p a none = none_of n (drop p k.credits) (λ i c e f.
+none_after : (k : Known) (n p : ℕ) → Accounted k → NoneBetween p (length k.credits) k.held k.credits n → of_size n (drop p k.credits) ≡ []
+none_after k n p a none = none_of n (drop p k.credits) (λ i c e f.
     let x = drop_get k.credits p i c e in
     let held = credit_held k c.size c.register a (counted_there k.credits x.0 c x.2) in
     absurd (true≢false (sym (held_of k.held k.credits x.0 n c.size c x.2 f held) ∙ none x.0 x.1 (there_within k.credits x.0 c x.2))))
@@ -196,7 +196,7 @@ taken_at : (cs : List Credit) (n p : ℕ) (o : Option Credit) (c : Credit) → s
 taken_at cs n p None c e h g = absurd h
 taken_at cs n p (Some d) c e h g = record {
   before = take p cs;
-  behind = drop (suc p) cs;
+  following = drop (suc p) cs;
   was = at_place cs p d e ∙ ap (λ x. take p cs ++ (x ∷ drop (suc p) cs)) is;
   left = refl;
 }
@@ -211,9 +211,9 @@ last_at : (k : Known) (n p : ℕ) (o : Option Credit) (c : Credit) → Accounted
 last_at k n p None c a none e h g = absurd h
 last_at k n p (Some d) c a none e h g =
     let same : c ≡ d = g ∙ get_or_from_slice_get k.credits p d c e in
-    let behind : of_size n (drop (suc p) k.credits) ≡ [] = none_behind k n (suc p) a none in
-    let one : of_size n (d ∷ drop (suc p) k.credits) ≡ c.register ∷ [] = ap (λ b. if b then d.register ∷ of_size n (drop (suc p) k.credits) else of_size n (drop (suc p) k.credits)) (equal_is d.size n h) ∙ ap (λ xs. d.register ∷ xs) behind ∙ ap (λ (x : Credit). x.register ∷ []) (sym same) in
-    let rest : of_size n (take p k.credits ++ drop (suc p) k.credits) ≡ of_size n (take p k.credits) = size_both n (take p k.credits) (drop (suc p) k.credits) ∙ ap (λ xs. of_size n (take p k.credits) ++ xs) behind ∙ append_none (of_size n (take p k.credits)) in
+    let following : of_size n (drop (suc p) k.credits) ≡ [] = none_after k n (suc p) a none in
+    let one : of_size n (d ∷ drop (suc p) k.credits) ≡ c.register ∷ [] = ap (λ b. if b then d.register ∷ of_size n (drop (suc p) k.credits) else of_size n (drop (suc p) k.credits)) (equal_is d.size n h) ∙ ap (λ xs. d.register ∷ xs) following ∙ ap (λ (x : Credit). x.register ∷ []) (sym same) in
+    let rest : of_size n (take p k.credits ++ drop (suc p) k.credits) ≡ of_size n (take p k.credits) = size_both n (take p k.credits) (drop (suc p) k.credits) ∙ ap (λ xs. of_size n (take p k.credits) ++ xs) following ∙ append_none (of_size n (take p k.credits)) in
     ap (of_size n) (at_place k.credits p d e) ∙ size_both n (take p k.credits) (d ∷ drop (suc p) k.credits) ∙ ap (λ xs. of_size n (take p k.credits) ++ xs) one ∙ ap (λ xs. xs ++ c.register ∷ []) (sym rest)
   where
     append_none : (xs : List ℕ) → xs ++ [] ≡ xs
@@ -243,8 +243,8 @@ pub ruleset taking = (taken_from, held_at)
 pub other_size : (cs : List Credit) (n r m : ℕ) (rest : List Credit) → IsTaken cs n r rest → (n ≡ m → ⊥) → of_size m cs ≡ of_size m rest
 other_size cs n r m rest t ne =
     let c : Credit = record { size = n; register = r } in
-    let past : of_size m (c ∷ t.behind) ≡ of_size m t.behind = ap (λ b. if b then r ∷ of_size m t.behind else of_size m t.behind) (unequal_is n m ne) in
-    ap (of_size m) t.was ∙ size_both m t.before (c ∷ t.behind) ∙ ap (λ xs. of_size m t.before ++ xs) past ∙ sym (ap (of_size m) t.left ∙ size_both m t.before t.behind)
+    let past : of_size m (c ∷ t.following) ≡ of_size m t.following = ap (λ b. if b then r ∷ of_size m t.following else of_size m t.following) (unequal_is n m ne) in
+    ap (of_size m) t.was ∙ size_both m t.before (c ∷ t.following) ∙ ap (λ xs. of_size m t.before ++ xs) past ∙ sym (ap (of_size m) t.left ∙ size_both m t.before t.following)
 
 pub last_same : (cs : List Credit) → LastGone cs cs
 last_same cs = λ n. ([], none_gone (of_size n cs))

@@ -1,4 +1,4 @@
--- The constructors of a type, and what is told of registers.
+-- The constructors of a type, and what is reported of registers.
 use Rattle.std.proofs.Common.{◌≡◌, refl, sym, ap, ◌∙◌, arith, ℕ, zero, suc, ◌+◌, ◌≤◌, ◌<◌, List, [], ◌∷◌, ◌++◌, length}
 use Rattle.cell_code.specs.fip_language.Table.{Table, constructors, shapes}
 use Rattle.lowering_relation.specs.code_rules.Types.{numbers}

@@ -1,4 +1,4 @@
--- Labels that are made, or get their place, and what is told where they stand.
+-- Labels that are made, or get their place, and what is reported where they stand.
 use Rattle.std.proofs.Common.{◌≡◌, ◌⊎◌, inl, inr, refl, sym, ap, ◌∙◌, subst, arith, true≢false, ℕ, zero, suc, ◌≤◌, ◌<◌, ◌-◌, Bool, true, false, List, [], ◌∷◌, ◌++◌, length, length-append, map, take, Option, Some, None, slice_get, slice_set}
 use Rattle.std.specs.Prelude.{option_map, is_some, if◌then◌else◌, ◌==◌}
 use Rattle.std.proofs.lemmas.Bool.{cases_eq, eqb-true, eqb-false}
@@ -55,7 +55,7 @@ few_placed (Some p ∷ ps) = omega (arith, few_placed ps)
 pub placed_few : (ps : List (Option ℕ)) (n : ℕ) → n ≤ placed ps → n ≤ length ps
 placed_few ps n h = omega (arith, few_placed ps, h)
 
--- what is told at places
+-- what is reported at places
 
 last_of : (ls : List Label) → slice_get (map plain_label ls) (length (map plain_label ls) - 1) ≡ option_map plain_label (slice_get ls (length ls - 1))
 last_of ls = ap (λ n. slice_get (map plain_label ls) (n - 1)) (length-map ls plain_label) ∙ slice_get-map plain_label ls (length ls - 1)
@@ -74,25 +74,25 @@ untold_last ls p e =
 untold_none : (ls : List Label) (p : ℕ) → stands_at p (slice_get (map plain_label ls) (length (map plain_label ls) - 1)) ≡ false → map plain_label ls ≡ untold p (map plain_label ls)
 untold_none ls p e = sym (ap (λ x. if x then take (length (map plain_label ls) - 1) (map plain_label ls) else map plain_label ls) e)
 
-pub told_first : (ks : List Kind) (ms : List LabelMap) (p : ℕ) → p ≡ 0 → ms ≡ telling p ks ms
-told_first ks ms zero e = refl
-told_first ks ms (suc p) e = absurd (cc)
+pub reported_first : (ks : List Kind) (ms : List LabelMap) (p : ℕ) → p ≡ 0 → ms ≡ telling p ks ms
+reported_first ks ms zero e = refl
+reported_first ks ms (suc p) e = absurd (cc)
 
-told_later : (ks : List Kind) (ms : List LabelMap) (p : ℕ) → (p ≡ 0 → ⊥) → telling p ks ms ≡ untold p ms ++ record { at = p; kinds = ks } ∷ []
-told_later ks ms zero h = absurd (h refl)
-told_later ks ms (suc p) h = refl
+reported_later : (ks : List Kind) (ms : List LabelMap) (p : ℕ) → (p ≡ 0 → ⊥) → telling p ks ms ≡ untold p ms ++ record { at = p; kinds = ks } ∷ []
+reported_later ks ms zero h = absurd (h refl)
+reported_later ks ms (suc p) h = refl
 
 map_append : (ls : List Label) (l : Label) → map plain_label (ls ++ l ∷ []) ≡ map plain_label ls ++ plain_label l ∷ []
 map_append [] l = refl
 map_append (k ∷ ls) l = ap (λ xs. plain_label k ∷ xs) (map_append ls l)
 
-told_behind : (ls ks : List Label) (l : Label) (p : ℕ) → (p ≡ 0 → ⊥) → map plain_label ks ≡ untold p (map plain_label ls) → l.at ≡ p → map plain_label (ks ++ l ∷ []) ≡ telling p l.kinds.items (map plain_label ls)
-told_behind ls ks l p h e f =
+reported_after : (ls ks : List Label) (l : Label) (p : ℕ) → (p ≡ 0 → ⊥) → map plain_label ks ≡ untold p (map plain_label ls) → l.at ≡ p → map plain_label (ks ++ l ∷ []) ≡ telling p l.kinds.items (map plain_label ls)
+reported_after ls ks l p h e f =
     map_append ks l ∙ ap (λ ms. ms ++ plain_label l ∷ []) e ∙ ap (λ x. untold p (map plain_label ls) ++ record { at = x; kinds = l.kinds.items } ∷ []) f
-    ∙ sym (told_later l.kinds.items (map plain_label ls) p h)
+    ∙ sym (reported_later l.kinds.items (map plain_label ls) p h)
 
-pub told_pushed : (ls ns : List Label) (l : Label) (p : ℕ) (b : Bool) → (p ≡ 0 → ⊥) → b ≡ stands_at p (slice_get (map plain_label ls) (length (map plain_label ls) - 1)) → b ≡ false → ns ≡ ls ++ l ∷ [] → l.at ≡ p → map plain_label ns ≡ telling p l.kinds.items (map plain_label ls)
-told_pushed ls ns l p b h e f g at = ap (map plain_label) g ∙ told_behind ls ls l p h (untold_none ls p (sym e ∙ f)) at
+pub reported_pushed : (ls ns : List Label) (l : Label) (p : ℕ) (b : Bool) → (p ≡ 0 → ⊥) → b ≡ stands_at p (slice_get (map plain_label ls) (length (map plain_label ls) - 1)) → b ≡ false → ns ≡ ls ++ l ∷ [] → l.at ≡ p → map plain_label ns ≡ telling p l.kinds.items (map plain_label ls)
+reported_pushed ls ns l p b h e f g at = ap (map plain_label) g ∙ reported_after ls ls l p h (untold_none ls p (sym e ∙ f)) at
 
 set_last : (ls : List Label) (l : Label) (n : ℕ) → suc n ≡ length ls → slice_set ls n l ≡ take n ls ++ l ∷ []
 set_last [] l n e = absurd (omega (arith, e))
@@ -104,12 +104,12 @@ stands_some : (ls : List Label) (p : ℕ) → stands_at p (slice_get (map plain_
 stands_some [] p e = absurd (true≢false (sym e))
 stands_some (l ∷ ls) p e = omega arith
 
-pub told_again : (ls ns : List Label) (l : Label) (p : ℕ) (b : Bool) → (p ≡ 0 → ⊥) → b ≡ stands_at p (slice_get (map plain_label ls) (length (map plain_label ls) - 1)) → b ≡ true → ns ≡ slice_set ls (length ls - 1) l → l.at ≡ p → map plain_label ns ≡ telling p l.kinds.items (map plain_label ls)
-told_again ls ns l p b h e f g at =
+pub reported_again : (ls ns : List Label) (l : Label) (p : ℕ) (b : Bool) → (p ≡ 0 → ⊥) → b ≡ stands_at p (slice_get (map plain_label ls) (length (map plain_label ls) - 1)) → b ≡ true → ns ≡ slice_set ls (length ls - 1) l → l.at ≡ p → map plain_label ns ≡ telling p l.kinds.items (map plain_label ls)
+reported_again ls ns l p b h e f g at =
     let here = sym e ∙ f in
-    ap (map plain_label) (g ∙ set_last ls l (length ls - 1) (stands_some ls p here)) ∙ told_behind ls (take (length ls - 1) ls) l p h (untold_last ls p here) at
+    ap (map plain_label) (g ∙ set_last ls l (length ls - 1) (stands_some ls p here)) ∙ reported_after ls (take (length ls - 1) ls) l p h (untold_last ls p here) at
 
-pub ruleset telling_on = (last_none, last_some, told_first, told_pushed, told_again)
+pub ruleset telling_on = (last_none, last_some, reported_first, reported_pushed, reported_again)
 
 -- they rise
 
@@ -134,14 +134,14 @@ rising_untold : (n p : ℕ) (ms : List LabelMap) → Rising n 0 ms → Rising n 
 rising_untold n p ms r = rising_if (stands_at p (slice_get ms (length ms - 1))) n 0 (take (length ms - 1) ms) ms (rising_take n 0 (length ms - 1) ms r) r
 
 -- where the last isn't at the end, all are below it
-rising_behind : (n low j : ℕ) (ms : List LabelMap) (ks : List Kind) → suc j ≡ length ms → stands_at n (slice_get ms j) ≡ false → Rising n low ms → Rising n low (ms ++ record { at = n; kinds = ks } ∷ [])
-rising_behind n low j [] ks l e r = absurd (omega (arith, l))
-rising_behind n low zero (m ∷ []) ks l e r = (r.0, r.1, (less m.at r.1 e, omega arith, tt))
+rising_after : (n low j : ℕ) (ms : List LabelMap) (ks : List Kind) → suc j ≡ length ms → stands_at n (slice_get ms j) ≡ false → Rising n low ms → Rising n low (ms ++ record { at = n; kinds = ks } ∷ [])
+rising_after n low j [] ks l e r = absurd (omega (arith, l))
+rising_after n low zero (m ∷ []) ks l e r = (r.0, r.1, (less m.at r.1 e, omega arith, tt))
   where
     less : (a : ℕ) → a ≤ n → (a == n) ≡ false → a < n
     less a le f = let differ : a ≡ n → ⊥ = eqb-false a n f in omega (arith, le, differ)
-rising_behind n low zero (m ∷ k ∷ ms) ks l e r = absurd (omega (arith, l))
-rising_behind n low (suc j) (m ∷ ms) ks l e r = (r.0, r.1, rising_behind n m.at j ms ks (omega (arith, l)) e r.2)
+rising_after n low zero (m ∷ k ∷ ms) ks l e r = absurd (omega (arith, l))
+rising_after n low (suc j) (m ∷ ms) ks l e r = (r.0, r.1, rising_after n m.at j ms ks (omega (arith, l)) e r.2)
 
 -- without it all that is left is below
 rising_less : (n low j : ℕ) (ms : List LabelMap) (ks : List Kind) → suc j ≡ length ms → Rising n low ms → Rising n low (take j ms ++ record { at = n; kinds = ks } ∷ [])
@@ -149,10 +149,10 @@ rising_less n low j [] ks l r = absurd (omega (arith, l))
 rising_less n low zero (m ∷ ms) ks l r = (omega (arith, r.0, r.1), omega arith, tt)
 rising_less n low (suc j) (m ∷ ms) ks l r = (r.0, r.1, rising_less n m.at j ms ks (omega (arith, l)) r.2)
 
-pub rising_told : (n : ℕ) (ks : List Kind) (ms : List LabelMap) → Rising n 0 ms → Rising n 0 (telling n ks ms)
-rising_told zero ks ms r = r
-rising_told (suc n) ks [] r = (omega arith, omega arith, tt)
-rising_told (suc n) ks (m ∷ ms) r = subst (λ j. Rising (suc n) 0 ((if stands_at (suc n) (slice_get (m ∷ ms) j) then take j (m ∷ ms) else m ∷ ms) ++ new ∷ [])) last (by (stands_at (suc n) (slice_get (m ∷ ms) (length ms))) refl)
+pub rising_reported : (n : ℕ) (ks : List Kind) (ms : List LabelMap) → Rising n 0 ms → Rising n 0 (telling n ks ms)
+rising_reported zero ks ms r = r
+rising_reported (suc n) ks [] r = (omega arith, omega arith, tt)
+rising_reported (suc n) ks (m ∷ ms) r = subst (λ j. Rising (suc n) 0 ((if stands_at (suc n) (slice_get (m ∷ ms) j) then take j (m ∷ ms) else m ∷ ms) ++ new ∷ [])) last (by (stands_at (suc n) (slice_get (m ∷ ms) (length ms))) refl)
   where
     new : LabelMap
     new = record { at = suc n; kinds = ks }
@@ -162,12 +162,12 @@ rising_told (suc n) ks (m ∷ ms) r = subst (λ j. Rising (suc n) 0 ((if stands_
 
     by : (b : Bool) → stands_at (suc n) (slice_get (m ∷ ms) (length ms)) ≡ b → Rising (suc n) 0 ((if b then take (length ms) (m ∷ ms) else m ∷ ms) ++ new ∷ [])
     by true e = rising_less (suc n) 0 (length ms) (m ∷ ms) ks (omega arith) r
-    by false e = rising_behind (suc n) 0 (length ms) (m ∷ ms) ks (omega arith) e r
+    by false e = rising_after (suc n) 0 (length ms) (m ∷ ms) ks (omega arith) e r
 
 pub still_rising : (is : List Instr) (p : ℕ) (ks : List Kind) (ls ns : List Label) → p ≡ length is → map plain_label ns ≡ telling p ks (map plain_label ls) → Rising (length is) 0 (map plain_label ls) → Rising (length is) 0 (map plain_label ns)
-still_rising is p ks ls ns e f r = subst (Rising (length is) 0) (sym (f ∙ ap (λ x. telling x ks (map plain_label ls)) e)) (rising_told (length is) ks (map plain_label ls) r)
+still_rising is p ks ls ns e f r = subst (Rising (length is) 0) (sym (f ∙ ap (λ x. telling x ks (map plain_label ls)) e)) (rising_reported (length is) ks (map plain_label ls) r)
 
--- what was told before stays
+-- what was reported before stays
 
 below_append : (ms : List LabelMap) (n p : ℕ) (ks : List Kind) → (n ≡ p → ⊥) → label_at (ms ++ record { at = n; kinds = ks } ∷ []) p ≡ label_at ms p
 below_append [] n p ks ne = ap (λ b. if b then Some ks else None) (unequal_is n p ne)
@@ -190,13 +190,13 @@ below_untold n p (m ∷ ms) ne = subst (λ j. label_at (if stands_at n (slice_ge
     by true e = below_take (length ms) (m ∷ ms) n p (omega arith) e ne
     by false e = refl
 
-told_other : (n p : ℕ) (ks : List Kind) (ms : List LabelMap) → (n ≡ p → ⊥) → label_at (telling n ks ms) p ≡ label_at ms p
-told_other zero p ks ms ne = refl
-told_other (suc n) p ks ms ne = below_append (untold (suc n) ms) (suc n) p ks ne ∙ below_untold (suc n) p ms ne
+reported_other : (n p : ℕ) (ks : List Kind) (ms : List LabelMap) → (n ≡ p → ⊥) → label_at (telling n ks ms) p ≡ label_at ms p
+reported_other zero p ks ms ne = refl
+reported_other (suc n) p ks ms ne = below_append (untold (suc n) ms) (suc n) p ks ne ∙ below_untold (suc n) p ms ne
 
-pub told_extends : (is : List Instr) (ps qs : List (Option ℕ)) (ls ns : List Label) (ks : List Kind) (n here at : ℕ) → slice_get ps n ≡ Some None → qs ≡ slice_set ps n (Some here) → at ≡ length is → map plain_label ns ≡ telling at ks (map plain_label ls) → Extends (record { instrs = is; places = ps; maps = map plain_label ls }) (record { instrs = is; places = qs; maps = map plain_label ns })
-told_extends is ps qs ls ns ks n here at e f g h = put_extends is ps qs (map plain_label ls) (map plain_label ns) n here e f
-    (λ p lt. ap (λ x. label_at x p) h ∙ told_other at p ks (map plain_label ls) (λ x. absurd (omega (arith, lt, g, x))))
+pub reported_extends : (is : List Instr) (ps qs : List (Option ℕ)) (ls ns : List Label) (ks : List Kind) (n here at : ℕ) → slice_get ps n ≡ Some None → qs ≡ slice_set ps n (Some here) → at ≡ length is → map plain_label ns ≡ telling at ks (map plain_label ls) → Extends (record { instrs = is; places = ps; maps = map plain_label ls }) (record { instrs = is; places = qs; maps = map plain_label ns })
+reported_extends is ps qs ls ns ks n here at e f g h = put_extends is ps qs (map plain_label ls) (map plain_label ns) n here e f
+    (λ p lt. ap (λ x. label_at x p) h ∙ reported_other at p ks (map plain_label ls) (λ x. absurd (omega (arith, lt, g, x))))
 
 -- and are not many more
 
@@ -213,12 +213,12 @@ few_if false ms ks n r s = s
 few_untold : (p : ℕ) (ms : List LabelMap) → length (untold p ms) ≤ length ms
 few_untold p ms = few_if (stands_at p (slice_get ms (length ms - 1))) (take (length ms - 1) ms) ms (length ms) (taken_few (length ms - 1) ms) (omega arith)
 
-few_told : (p : ℕ) (ks : List Kind) (ms : List LabelMap) → length (telling p ks ms) ≤ suc (length ms)
-few_told zero ks ms = omega arith
-few_told (suc p) ks ms = omega (arith, few_untold (suc p) ms, length-append (untold (suc p) ms) (record { at = suc p; kinds = ks } ∷ []))
+few_reported : (p : ℕ) (ks : List Kind) (ms : List LabelMap) → length (telling p ks ms) ≤ suc (length ms)
+few_reported zero ks ms = omega arith
+few_reported (suc p) ks ms = omega (arith, few_untold (suc p) ms, length-append (untold (suc p) ms) (record { at = suc p; kinds = ks } ∷ []))
 
 pub few_more : (p : ℕ) (ks : List Kind) (ls ns : List Label) → map plain_label ns ≡ telling p ks (map plain_label ls) → length ns ≤ suc (length ls)
-few_more p ks ls ns e = omega (arith, ap length e, few_told p ks (map plain_label ls), length-map ls plain_label, length-map ns plain_label)
+few_more p ks ls ns e = omega (arith, ap length e, few_reported p ks (map plain_label ls), length-map ls plain_label, length-map ns plain_label)
 
 -- where a label has its place
 
@@ -234,17 +234,17 @@ have_pushed ps qs ms e h = record { by = λ l p f. h.by l p (before ps l p (ap (
     before (o ∷ ps) zero p e = e
     before (o ∷ ps) (suc l) p e = before ps l p e
 
-some_behind : (ms : List LabelMap) (n : ℕ) (ks : List Kind) → is_some (label_at (ms ++ record { at = n; kinds = ks } ∷ []) n) ≡ true
-some_behind [] n ks = ap (λ b. is_some (if b then Some ks else None)) (equal_is n n refl)
-some_behind (m ∷ ms) n ks = by (m.at == n) (some_behind ms n ks)
+some_after : (ms : List LabelMap) (n : ℕ) (ks : List Kind) → is_some (label_at (ms ++ record { at = n; kinds = ks } ∷ []) n) ≡ true
+some_after [] n ks = ap (λ b. is_some (if b then Some ks else None)) (equal_is n n refl)
+some_after (m ∷ ms) n ks = by (m.at == n) (some_after ms n ks)
   where
     by : (b : Bool) → is_some (label_at (ms ++ record { at = n; kinds = ks } ∷ []) n) ≡ true → is_some (if b then Some m.kinds else label_at (ms ++ record { at = n; kinds = ks } ∷ []) n) ≡ true
     by true rest = refl
     by false rest = rest
 
-told_here : (n : ℕ) (ks : List Kind) (ms : List LabelMap) → 0 < n → is_some (label_at (telling n ks ms) n) ≡ true
-told_here zero ks ms h = absurd (omega (arith, h))
-told_here (suc n) ks ms h = some_behind (untold (suc n) ms) (suc n) ks
+reported_here : (n : ℕ) (ks : List Kind) (ms : List LabelMap) → 0 < n → is_some (label_at (telling n ks ms) n) ≡ true
+reported_here zero ks ms h = absurd (omega (arith, h))
+reported_here (suc n) ks ms h = some_after (untold (suc n) ms) (suc n) ks
 
 set_at : (ps : List (Option ℕ)) (n here l p : ℕ) → joined (slice_get (slice_set ps n (Some here)) l) ≡ Some p → (here ≡ p) ⊎ (joined (slice_get ps l) ≡ Some p)
 set_at [] n here l p e = absurd (cc)
@@ -253,14 +253,14 @@ set_at (o ∷ ps) zero here (suc l) p e = inr e
 set_at (o ∷ ps) (suc n) here zero p e = inr e
 set_at (o ∷ ps) (suc n) here (suc l) p e = set_at ps n here l p e
 
-pub have_told : (ps qs : List (Option ℕ)) (ls ns : List Label) (ks : List Kind) (n here : ℕ) → qs ≡ slice_set ps n (Some here) → map plain_label ns ≡ telling here ks (map plain_label ls) → HaveMaps ps (map plain_label ls) → HaveMaps qs (map plain_label ns)
-have_told ps qs ls ns ks n here e f h = record { by = λ l p at more. ap (λ ms. is_some (label_at ms p)) f ∙ by l p more (set_at ps n here l p (ap (λ x. joined (slice_get x l)) (sym e) ∙ at)) }
+pub have_reported : (ps qs : List (Option ℕ)) (ls ns : List Label) (ks : List Kind) (n here : ℕ) → qs ≡ slice_set ps n (Some here) → map plain_label ns ≡ telling here ks (map plain_label ls) → HaveMaps ps (map plain_label ls) → HaveMaps qs (map plain_label ns)
+have_reported ps qs ls ns ks n here e f h = record { by = λ l p at more. ap (λ ms. is_some (label_at ms p)) f ∙ by l p more (set_at ps n here l p (ap (λ x. joined (slice_get x l)) (sym e) ∙ at)) }
   where
     by : (l p : ℕ) → 0 < p → (here ≡ p) ⊎ (joined (slice_get ps l) ≡ Some p) → is_some (label_at (telling here ks (map plain_label ls)) p) ≡ true
-    by l p more (inl same) = subst (λ q. is_some (label_at (telling here ks (map plain_label ls)) q) ≡ true) same (told_here here ks (map plain_label ls) (omega (arith, more, same)))
+    by l p more (inl same) = subst (λ q. is_some (label_at (telling here ks (map plain_label ls)) q) ≡ true) same (reported_here here ks (map plain_label ls) (omega (arith, more, same)))
     by l p more (inr old) = elim (cases_eq here p) [
-      | inl same ↦ subst (λ q. is_some (label_at (telling here ks (map plain_label ls)) q) ≡ true) same (told_here here ks (map plain_label ls) (omega (arith, more, same)))
-      | inr ne ↦ ap is_some (told_other here p ks (map plain_label ls) ne) ∙ h.by l p old more
+      | inl same ↦ subst (λ q. is_some (label_at (telling here ks (map plain_label ls)) q) ≡ true) same (reported_here here ks (map plain_label ls) (omega (arith, more, same)))
+      | inr ne ↦ ap is_some (reported_other here p ks (map plain_label ls) ne) ∙ h.by l p old more
     ]
 
 -- each tree may have some constructor
@@ -275,17 +275,17 @@ opens_first zero (m ∷ ms) h = tt
 opens_first (suc n) [] h = tt
 opens_first (suc n) (m ∷ ms) h = (h.0, opens_first n ms h.1)
 
-opens_behind : (ms : List LabelMap) (m : LabelMap) → are_open m.kinds ≡ true → AreOpen ms → AreOpen (ms ++ m ∷ [])
-opens_behind [] m k h = (k, tt)
-opens_behind (n ∷ ms) m k h = (h.0, opens_behind ms m k h.1)
+opens_after : (ms : List LabelMap) (m : LabelMap) → are_open m.kinds ≡ true → AreOpen ms → AreOpen (ms ++ m ∷ [])
+opens_after [] m k h = (k, tt)
+opens_after (n ∷ ms) m k h = (h.0, opens_after ms m k h.1)
 
 opens_telling : (p : ℕ) (ks : List Kind) (ms : List LabelMap) → are_open ks ≡ true → AreOpen ms → AreOpen (telling p ks ms)
 opens_telling zero ks ms k h = h
 opens_telling (suc p) ks ms k h =
-    opens_behind (untold (suc p) ms) (record { at = suc p; kinds = ks }) k
+    opens_after (untold (suc p) ms) (record { at = suc p; kinds = ks }) k
     (opens_if (stands_at (suc p) (slice_get ms (length ms - 1))) (take (length ms - 1) ms) ms (opens_first (length ms - 1) ms h) h)
 
-pub opens_told : (p : ℕ) (ks : List Kind) (ls ns : List Label) → map plain_label ns ≡ telling p ks (map plain_label ls) → are_open ks ≡ true → AreOpen (map plain_label ls) → AreOpen (map plain_label ns)
-opens_told p ks ls ns e k h = subst AreOpen (sym e) (opens_telling p ks (map plain_label ls) k h)
+pub opens_reported : (p : ℕ) (ks : List Kind) (ls ns : List Label) → map plain_label ns ≡ telling p ks (map plain_label ls) → are_open ks ≡ true → AreOpen (map plain_label ls) → AreOpen (map plain_label ns)
+opens_reported p ks ls ns e k h = subst AreOpen (sym e) (opens_telling p ks (map plain_label ls) k h)
 
-pub ruleset placing = (rising_pushed, still_rising, few_more, label_extends, same_extends, added_to_extends, one_label, as_many, placed_pushed, placed_more, have_none, have_pushed, have_told, opens_told)
+pub ruleset placing = (rising_pushed, still_rising, few_more, label_extends, same_extends, added_to_extends, one_label, as_many, placed_pushed, placed_more, have_none, have_pushed, have_reported, opens_reported)

@@ -24,7 +24,7 @@ use Rattle.fip_base.proofs.fip_language.Facts.{length_set, same_some}
 there : (o : Option (List ℕ)) (t : List ℕ) → o ≡ Some t → IsSpelt o
 there o t e = ap is_some e
 
--- one text behind another
+-- one text after another
 joined : (a b : Option (List ℕ)) → IsSpelt a → IsSpelt b → IsSpelt (a +++ b)
 unfolding ◌+++◌
 joined None b h k = absurd (cc)
@@ -234,8 +234,8 @@ instrs_set is i x y e h s = record { few = omega (arith, s.few, length_set is i 
 abbrev KindsHaveTexts : LabelMap → Type 0
 KindsHaveTexts m = AreKindsSpelt m.kinds
 
-pub none_told : AreMapsSpelt []
-none_told = record { by = λ i m e. absurd (cc) }
+pub none_reported : AreMapsSpelt []
+none_reported = record { by = λ i m e. absurd (cc) }
 
 maps_if : (b : Bool) (ms ks : List LabelMap) → AreMapsSpelt ms → AreMapsSpelt ks → AreMapsSpelt (if b then ms else ks)
 maps_if true ms ks h k = h
@@ -248,10 +248,10 @@ telling_spelt : (p : ℕ) (ks : List Kind) (ms : List LabelMap) → AreKindsSpel
 telling_spelt zero ks ms k h = h
 telling_spelt (suc p) ks ms k h = record { by = all_of_more KindsHaveTexts (untold (suc p) ms) (record { at = suc p; kinds = ks }) (untold_spelt (suc p) ms h).by k }
 
-pub maps_told : (p : ℕ) (ks : List Kind) (ls ns : List Label) → map plain_label ns ≡ telling p ks (map plain_label ls) → AreKindsSpelt ks → AreMapsSpelt (map plain_label ls) → AreMapsSpelt (map plain_label ns)
-maps_told p ks ls ns e k h = subst AreMapsSpelt (sym e) (telling_spelt p ks (map plain_label ls) k h)
+pub maps_reported : (p : ℕ) (ks : List Kind) (ls ns : List Label) → map plain_label ns ≡ telling p ks (map plain_label ls) → AreKindsSpelt ks → AreMapsSpelt (map plain_label ls) → AreMapsSpelt (map plain_label ns)
+maps_reported p ks ls ns e k h = subst AreMapsSpelt (sym e) (telling_spelt p ks (map plain_label ls) k h)
 
-pub ruleset spelling = (none_written, none_told, instrs_pushed, maps_told)
+pub ruleset spelling = (none_written, none_reported, instrs_pushed, maps_reported)
 
 -- in the end: they rise, so there are no more of them than instructions
 
@@ -273,7 +273,7 @@ labels_spelt is ls s r h = record {
   each = λ i l e. (omega (arith, s.few, rising_at (length is) 0 (map plain_label ls) r i (plain_label l) (map_there ls i l e)), h.by i (plain_label l) (map_there ls i l e));
 }
 
--- functions, one behind another
+-- functions, one after another
 
 pub no_function_spelt : AreSpelt []
 no_function_spelt i f e = absurd (cc)

@@ -1,5 +1,5 @@
 -- It serves the proofs on lowered code: what is known after a credit, or a constructor that was matched, is taken, what
--- is known at both of two places, and what a verifier is told of the registers.
+-- is known at both of two places, and what a verifier is reported of the registers.
 use Rattle.std.specs.Prelude.{◌≡◌, ◌⊎◌, ℕ, List, [], ◌∷◌, ◌++◌, Option, Some, None, map, slice_get, slice_set}
 use Rattle.cell_code.specs.fip_language.Table.{Table}
 use Rattle.cell_code.specs.declared.kind.Kind.{Kind}
@@ -43,8 +43,8 @@ pub record NamedByBoth (ns ms both : List (Option ℕ)) : Type 0 where
   pub by : (x : ℕ) → IsBoth None (joined (slice_get ns x)) (joined (slice_get ms x)) (joined (slice_get both x))
 
 -- the kind of a register that holds this, where its tree may have each constructor of its type
-abbrev pub kind_told : Table → Held → Kind
-kind_told w h = kind_of w (widened h)
+abbrev pub kind_reported : Table → Held → Kind
+kind_reported w h = kind_of w (widened h)
 
-abbrev pub kinds_told : Table → List Held → List Kind
-kinds_told w hs = map (kind_told w) hs
+abbrev pub kinds_reported : Table → List Held → List Kind
+kinds_reported w hs = map (kind_reported w) hs

@@ -1,7 +1,7 @@
 -- It serves the proofs on lowered code: the labels of a code that is being written. A label is a number that gets its
--- place once. What is known of the registers is told at places that rise, in the place of what was told there before;
--- at the first instruction of a function nothing is told, since no other goes there.
--- Where maps stand at 3 and 5, a map that is told at 5 takes the place of the second, and one at 7 stands behind both.
+-- place once. What is known of the registers is reported at places that rise, in the place of what was reported there before;
+-- at the first instruction of a function nothing is reported, since no other goes there.
+-- Where maps stand at 3 and 5, a map that is reported at 5 takes the place of the second, and one at 7 stands after both.
 use Rattle.std.specs.Prelude.{◌≡◌, ◌≤◌, ◌<◌, ◌-◌, ◌==◌, ℕ, zero, suc, Bool, true, false, List, [], ◌∷◌, ◌++◌}
 use Rattle.std.specs.Prelude.{Option, Some, None, is_some, length, take, slice_get, if◌then◌else◌}
 use Rattle.cell_code.specs.declared.kind.Kind.{Kind}
@@ -27,7 +27,7 @@ stands_at p (Some m) = m.at == p
 abbrev pub untold : ℕ → List LabelMap → List LabelMap
 untold p ms = if stands_at p (slice_get ms (length ms - 1)) then take (length ms - 1) ms else ms
 
--- these kinds are told at p
+-- these kinds are reported at p
 abbrev pub telling : ℕ → List Kind → List LabelMap → List LabelMap
 telling zero ks ms = ms
 telling (suc p) ks ms = untold (suc p) ms ++ record { at = suc p; kinds = ks } ∷ []

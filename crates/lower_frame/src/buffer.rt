@@ -16,7 +16,7 @@ use std::marker::Model;
 
 /// Instructions, whose jumps and tests go to labels; the places of labels, where they are known; and what is known of
 /// the registers at some places, which rise and have a label each. A file spells all of it. Where a label has its place,
-/// it is told what is known, but at the first instruction; each tree may have some constructor.
+/// it is reported what is known, but at the first instruction; each tree may have some constructor.
 #[derive(Drop)]
 pub struct Buffer {
     instrs: Vec<Instr>,
@@ -87,15 +87,15 @@ impl Buffer {
     }
 
     /// The place of a label is that of the next instruction, and these kinds are known there, in the place of narrower
-    /// ones that were told; an error where the label has a place, where no file spells one of the kinds, or where a tree
-    /// has no constructor. Behind an error all is as it was.
+    /// ones that were reported; an error where the label has a place, where no file spells one of the kinds, or where a tree
+    /// has no constructor. After an error all is as it was.
     #[tactic(auto, using(crate::proofs::Labels::placing, crate::proofs::Spelt::spelling))]
     pub fn put_label(&mut self, label: u32, kinds: Vec<Kind>) -> Result<(), NoMemory>
         ensures extends { OnOk result (Extends self.old self.new) }
         ensures instrs { OnOk result (self.new.instrs ≡ self.old.instrs) }
         ensures placed { OnOk result (IsAt self.new label (size self.old)) }
         ensures same { OnOk result (labels self.new ≡ labels self.old) }
-        ensures told { OnOk result (self.new.maps ≡ telling (size self.old) kinds.items self.old.maps) }
+        ensures reported { OnOk result (self.new.maps ≡ telling (size self.old) kinds.items self.old.maps) }
         ensures failed { OnErr result (self.new ≡ self.old) }
     {
         if !are_spelt(kinds.as_slice()) || !are_open(kinds.as_slice()) {
@@ -105,7 +105,7 @@ impl Buffer {
             return Err(NoMemory);
         }
         let here = self.here();
-        tell(&mut self.labels, here, kinds)?;
+        report(&mut self.labels, here, kinds)?;
         place(&mut self.places, label, here);
         Ok(())
     }
@@ -150,11 +150,11 @@ fn place(places: &mut Vec<Option<u32>>, label: u32, here: u32)
     }
 }
 
-// At the next instruction these kinds are known, in the place of those that were told there. The first instruction of a
+// At the next instruction these kinds are known, in the place of those that were reported there. The first instruction of a
 // function needs none, since no other goes there.
 #[tactic(auto, using(crate::proofs::Labels::telling_on))]
-fn tell(labels: &mut Vec<Label>, at: u32, kinds: Vec<Kind>) -> Result<(), NoMemory>
-    ensures told { OnOk result (map plain_label labels.new.items
+fn report(labels: &mut Vec<Label>, at: u32, kinds: Vec<Kind>) -> Result<(), NoMemory>
+    ensures reported { OnOk result (map plain_label labels.new.items
         ≡ telling at kinds.items (map plain_label labels.old.items)) }
     ensures failed { OnErr result (map plain_label labels.new.items ≡ map plain_label labels.old.items) }
 {
@@ -181,7 +181,7 @@ fn set_last(labels: &mut Vec<Label>, label: Label)
     }
 }
 
-// Whether the last of what was told was told here.
+// Whether the last of what was reported was reported here.
 #[tactic(auto, using(crate::proofs::Labels::telling_on))]
 fn is_last_at(labels: &[Label], at: u32) -> bool
     ensures is { result ≡ stands_at at (slice_get (map plain_label labels.now)

@@ -15,8 +15,8 @@ ghost use Rattle.lowering_relation.specs.Matches.{wide, widened};
 ghost use Rattle.lowering_relation.specs.code_rules.Types as Y;
 ghost use Rattle.lower_frame.specs.Credits.{NoneBetween, is_credit, is_held_of, sized};
 ghost use Rattle.lower_frame.specs.Credits as C;
-ghost use Rattle.lower_frame.specs.Frames.{HasSize, Takes, TakesBare, IsBoth, HeldByBoth, NamedByBoth, kind_told};
-ghost use Rattle.lower_frame.specs.Frames.{kinds_told};
+ghost use Rattle.lower_frame.specs.Frames.{HasSize, Takes, TakesBare, IsBoth, HeldByBoth, NamedByBoth, kind_reported};
+ghost use Rattle.lower_frame.specs.Frames.{kinds_reported};
 ghost use Rattle.lower_frame.specs.Positions.{reaching};
 ghost use Rattle.lower_frame.specs.Registers.{HasRoom, IsFull, IsHeld, holds, registers};
 
@@ -264,8 +264,8 @@ impl Frame {
         ensures none { IfNone result (NoneBetween 0 (length self.now.credits) self.now.held self.now.credits size) }
     {
         let count = self.credits.len();
-        for behind in 0..count {
-            let place = count - 1 - behind;
+        for following in 0..count {
+            let place = count - 1 - following;
             if self.is_held_of(place, size) {
                 return Some(place);
             }
@@ -332,9 +332,9 @@ impl Frame {
         })
     }
 
-    /// What a verifier is told of each register, which may have each constructor of its type.
+    /// What a verifier is reported of each register, which may have each constructor of its type.
     pub fn kinds(&self, alloc: Global, types: &TypeTable) -> Result<Vec<Kind>, NoMemory>
-        ensures told { IfOk result (λ v. v.items ≡ kinds_told types.now self.now.held) }
+        ensures reported { IfOk result (λ v. v.items ≡ kinds_reported types.now self.now.held) }
     {
         kinds_of(alloc, types, self.held.as_slice())
     }
@@ -545,7 +545,7 @@ pub fn as_value(held: Held) -> Held
 }
 
 fn kinds_of(alloc: Global, types: &TypeTable, helds: &[Held]) -> Result<Vec<Kind>, NoMemory>
-    ensures told { IfOk result (λ v. v.items ≡ kinds_told types.now helds.now) }
+    ensures reported { IfOk result (λ v. v.items ≡ kinds_reported types.now helds.now) }
 {
     let mut kinds = Vec::new(alloc);
     for held in helds {
@@ -554,9 +554,9 @@ fn kinds_of(alloc: Global, types: &TypeTable, helds: &[Held]) -> Result<Vec<Kind
     Ok(kinds)
 }
 
-// What a verifier is told of a register, which may have each constructor of its type.
+// What a verifier is reported of a register, which may have each constructor of its type.
 fn kind_of(alloc: Global, types: &TypeTable, held: Held) -> Result<Kind, NoMemory>
-    ensures told { IfOk result (λ k. k ≡ kind_told types.now held) }
+    ensures reported { IfOk result (λ k. k ≡ kind_reported types.now held) }
 {
     match held {
         Held::Nothing => Ok(Kind::Gone),

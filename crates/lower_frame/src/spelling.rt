@@ -1,6 +1,6 @@
 // Whether a code file spells what is lowered. All that it doesn't spell is answered here: no program that keeps the
 // rules has any of it, since no constructor has more than 16 fields, no function more than 4,096 registers or 8
-// results, no program more than 4,096 types, and none of the types that are told of where instructions meet more than
+// results, no program more than 4,096 types, and none of the types that are reported of where instructions meet more than
 // 65,535 constructors.
 ghost use Rattle.std.specs.Prelude.{◌≡◌, true};
 ghost use Rattle.cell_code.specs.declared.code.Instr.TheVariants as I;
@@ -187,7 +187,7 @@ fn is_type(ty: u32) -> bool
     ty <= u16::MAX as u32
 }
 
-// One byte tells how many registers there are.
+// One byte reports how many registers there are.
 fn list(registers: &[u16]) -> bool
     ensures spelt { result ≡ true → IsSpelt (list_text registers.now) }
 {

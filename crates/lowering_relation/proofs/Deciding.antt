@@ -1,4 +1,4 @@
--- The function of `digit` is laid out as its body asks: its clauses meet behind the second one.
+-- The function of `digit` is laid out as its body asks: its clauses meet after the second one.
 use Rattle.std.proofs.Common.{◌≡◌, ◌⊎◌, inl, inr, ℕ, zero, suc, ◌<◌, true, false, true≢false, List, [], ◌∷◌, Some, None, refl, sym, ap, ◌∙◌, subst, arith, slice_get}
 use Rattle.std.specs.Prelude.{codes}
 use Rattle.std.proofs.lemmas.Option.{same_Some}
@@ -23,7 +23,7 @@ use Rattle.lowering_relation.specs.LoweredBodies.{moved}
 use Rattle.lowering_relation.specs.LoweredFunctions.{known_at_start}
 use Rattle.lowering_relation.specs.LoweredExample.{lists_setting}
 use Rattle.lowering_relation.specs.Describing.{held_at, kind_of}
-use Rattle.lowering_relation.specs.Labels.{Takes, Tells, Shows, told, Quiet}
+use Rattle.lowering_relation.specs.Labels.{Takes, Reports, Shows, reported, Quiet}
 use Rattle.lowering_relation.specs.Sights.{Sight}
 use Rattle.lowering_relation.specs.Tests.{Choice, BeginsBody, ChunkLaid, SideLaid}
 use Rattle.lowering_relation.specs.Matches.{BuiltRight, MatchBegins, MatchLaid, entered, wide_at}
@@ -83,54 +83,54 @@ not_no = side false is_no (Open [])
 
 -- ---- labels
 
-begun_takes : (k : Known) → ((r : ℕ) → fits (at begun_kinds r) (told lists_code k r) ≡ true) → Takes 4 begun_kinds (told lists_code k)
+begun_takes : (k : Known) → ((r : ℕ) → fits (at begun_kinds r) (reported lists_code k r) ≡ true) → Takes 4 begun_kinds (reported lists_code k)
 begun_takes k each = record { wide = refl; each = each }
 
-fits_no : (r : ℕ) → fits (at begun_kinds r) (told lists_code at_no r) ≡ true
+fits_no : (r : ℕ) → fits (at begun_kinds r) (reported lists_code at_no r) ≡ true
 fits_no zero = refl
 fits_no (suc zero) = refl
 fits_no (suc (suc zero)) = refl
 fits_no (suc (suc (suc zero))) = refl
 fits_no (suc (suc (suc (suc r)))) = refl
 
-fits_yes : (r : ℕ) → fits (at begun_kinds r) (told lists_code at_yes r) ≡ true
+fits_yes : (r : ℕ) → fits (at begun_kinds r) (reported lists_code at_yes r) ≡ true
 fits_yes zero = refl
 fits_yes (suc zero) = refl
 fits_yes (suc (suc zero)) = refl
 fits_yes (suc (suc (suc zero))) = refl
 fits_yes (suc (suc (suc (suc r)))) = refl
 
-fits_met : (r : ℕ) → fits (at met_kinds r) (told lists_code after r) ≡ true
+fits_met : (r : ℕ) → fits (at met_kinds r) (reported lists_code after r) ≡ true
 fits_met zero = refl
 fits_met (suc zero) = refl
 fits_met (suc (suc zero)) = refl
 fits_met (suc (suc (suc zero))) = refl
 fits_met (suc (suc (suc (suc r)))) = refl
 
-tells_no : Tells 4 begun_kinds (told lists_code at_no)
-tells_no = record { wide = refl; each = each }
+reports_no : Reports 4 begun_kinds (reported lists_code at_no)
+reports_no = record { wide = refl; each = each }
   where
-    each : (r : ℕ) → at begun_kinds r ≡ told lists_code at_no r
+    each : (r : ℕ) → at begun_kinds r ≡ reported lists_code at_no r
     each zero = refl
     each (suc zero) = refl
     each (suc (suc zero)) = refl
     each (suc (suc (suc zero))) = refl
     each (suc (suc (suc (suc r)))) = refl
 
-tells_yes : Tells 4 begun_kinds (told lists_code at_yes)
-tells_yes = record { wide = refl; each = each }
+reports_yes : Reports 4 begun_kinds (reported lists_code at_yes)
+reports_yes = record { wide = refl; each = each }
   where
-    each : (r : ℕ) → at begun_kinds r ≡ told lists_code at_yes r
+    each : (r : ℕ) → at begun_kinds r ≡ reported lists_code at_yes r
     each zero = refl
     each (suc zero) = refl
     each (suc (suc zero)) = refl
     each (suc (suc (suc zero))) = refl
     each (suc (suc (suc (suc r)))) = refl
 
-tells_met : Tells 4 met_kinds (told lists_code after)
-tells_met = record { wide = refl; each = each }
+reports_met : Reports 4 met_kinds (reported lists_code after)
+reports_met = record { wide = refl; each = each }
   where
-    each : (r : ℕ) → at met_kinds r ≡ told lists_code after r
+    each : (r : ℕ) → at met_kinds r ≡ reported lists_code after r
     each zero = refl
     each (suc zero) = refl
     each (suc (suc zero)) = refl
@@ -163,17 +163,17 @@ failed_sight = record { root = refl; parts = λ z a. absurd a; others = others }
 
 -- ---- where labels stand
 
-abbrev shown : (p : ℕ) (map : List Kind) (m : ℕ → Kind) → label_at choosing_digit.labels p ≡ Some map → Tells 4 map m → Shows choosing_digit p m
-shown p map m there tells other e = subst (λ map. Tells 4 map m) (same_Some map other (sym there ∙ e)) tells
+abbrev shown : (p : ℕ) (map : List Kind) (m : ℕ → Kind) → label_at choosing_digit.labels p ≡ Some map → Reports 4 map m → Shows choosing_digit p m
+shown p map m there reports other e = subst (λ map. Reports 4 map m) (same_Some map other (sym there ∙ e)) reports
 
-quiet_start : Quiet choosing_digit 0 1 (told lists_code at_tests)
+quiet_start : Quiet choosing_digit 0 1 (reported lists_code at_tests)
 quiet_start = record {
   first = λ less map e. absurd (cc);
   others = λ p low high. absurd (let z : ⊥ = omega (arith, low, high) in z);
 }
 
-quiet_no : Quiet choosing_digit 1 3 (told lists_code at_no)
-quiet_no = record { first = λ less. shown 1 begun_kinds (told lists_code at_no) refl tells_no; others = others }
+quiet_no : Quiet choosing_digit 1 3 (reported lists_code at_no)
+quiet_no = record { first = λ less. shown 1 begun_kinds (reported lists_code at_no) refl reports_no; others = others }
   where
     others : (p : ℕ) → 1 < p → p < 3 → label_at choosing_digit.labels p ≡ None
     others zero low high = absurd (let z : ⊥ = omega (arith, low) in z)
@@ -181,7 +181,7 @@ quiet_no = record { first = λ less. shown 1 begun_kinds (told lists_code at_no)
     others (suc (suc zero)) low high = refl
     others (suc (suc (suc p))) low high = absurd (let z : ⊥ = omega (arith, high) in z)
 
-quiet_jump : Quiet choosing_digit 3 4 (told lists_code left_no)
+quiet_jump : Quiet choosing_digit 3 4 (reported lists_code left_no)
 quiet_jump = record {
   first = λ less map e. absurd (cc);
   others = λ p low high. absurd (let z : ⊥ = omega (arith, low, high) in z);
@@ -193,8 +193,8 @@ quiet_failed = record {
   others = λ p low high. absurd (let z : ⊥ = omega (arith, low, high) in z);
 }
 
-quiet_yes : Quiet choosing_digit 4 6 (told lists_code at_yes)
-quiet_yes = record { first = λ less. shown 4 begun_kinds (told lists_code at_yes) refl tells_yes; others = others }
+quiet_yes : Quiet choosing_digit 4 6 (reported lists_code at_yes)
+quiet_yes = record { first = λ less. shown 4 begun_kinds (reported lists_code at_yes) refl reports_yes; others = others }
   where
     others : (p : ℕ) → 4 < p → p < 6 → label_at choosing_digit.labels p ≡ None
     others zero low high = absurd (let z : ⊥ = omega (arith, low) in z)
@@ -205,21 +205,21 @@ quiet_yes = record { first = λ less. shown 4 begun_kinds (told lists_code at_ye
     others (suc (suc (suc (suc (suc zero))))) low high = refl
     others (suc (suc (suc (suc (suc (suc p)))))) low high = absurd (let z : ⊥ = omega (arith, high) in z)
 
-quiet_end : Quiet choosing_digit 6 6 (told lists_code left_yes)
+quiet_end : Quiet choosing_digit 6 6 (reported lists_code left_yes)
 quiet_end = record {
   first = λ less. absurd (let z : ⊥ = omega (arith, less) in z);
   others = λ p low high. absurd (let z : ⊥ = omega (arith, low, high) in z);
 }
 
-quiet_after : (m : ℕ → Kind) → Tells 4 met_kinds m → Quiet choosing_digit 6 7 m
-quiet_after m tells = record {
-  first = λ less. shown 6 met_kinds m refl tells;
+quiet_after : (m : ℕ → Kind) → Reports 4 met_kinds m → Quiet choosing_digit 6 7 m
+quiet_after m reports = record {
+  first = λ less. shown 6 met_kinds m refl reports;
   others = λ p low high. absurd (let z : ⊥ = omega (arith, low, high) in z);
 }
 
 -- ---- the tests
 
-first_chunk : ChunkLaid lists_code choosing_digit (held_at at_tests.held) choice 0 (Open []) [] (told lists_code at_tests) 1
+first_chunk : ChunkLaid lists_code choosing_digit (held_at at_tests.held) choice 0 (Open []) [] (reported lists_code at_tests) 1
 first_chunk = record {
   steps = 1;
   clause = 0;
@@ -256,7 +256,7 @@ failed_side = record {
   later = omega arith;
   known = not_no;
   read = [];
-  told = at begun_kinds;
+  reported = at begun_kinds;
   sight = failed_sight;
   chunk = record {
     steps = 1;
@@ -502,7 +502,7 @@ digit_is_laid = record {
         written = refl;
         one = refl;
       };
-      quiet = quiet_after (told lists_code after) tells_met;
+      quiet = quiet_after (reported lists_code after) reports_met;
     },
   );
 }

@@ -86,7 +86,7 @@ module _ (f : PlainFunction) where
   -- ---- tests
 
   module _ (c : PlainCode) (g : Holding) (ch : Choice) where
-    -- behind a test there is an instruction more
+    -- after a test there is an instruction more
     test_end : (at : ℕ) (p : M.Pattern) (k : Known) (read : List ℕ) (next : ℕ) (more : List ℕ) → TestLaid c f g ch at p k read next more → suc at ≤ next
     test_end at p k read next more h =
         let a = reads_end at p k ch.root read h.mid more h.reads in

@@ -24,7 +24,7 @@ use Rattle.lowering_relation.specs.Values.{IsVariable, with_put}
 use Rattle.lowering_relation.specs.LoweredBodies.{handed}
 use Rattle.lowering_relation.specs.LoweredExample.{lists_setting, at_start}
 use Rattle.lowering_relation.specs.Describing.{Holding, held_at}
-use Rattle.lowering_relation.specs.Labels.{Takes, Catches, Tells, Shows, told, Quiet}
+use Rattle.lowering_relation.specs.Labels.{Takes, Catches, Reports, Shows, reported, Quiet}
 use Rattle.lowering_relation.specs.Sights.{Sight}
 use Rattle.lowering_relation.specs.Credits.{of_size}
 use Rattle.lowering_relation.specs.GivenUp.{AllGivenUp}
@@ -62,10 +62,10 @@ with_cons = with_put at_cons [] 2 1 0 (2 ∷ 1 ∷ [])
 
 -- ---- labels
 
-nil_takes : Takes 7 nil_kinds (told lists_code at_nil)
+nil_takes : Takes 7 nil_kinds (reported lists_code at_nil)
 nil_takes = record { wide = refl; each = each }
   where
-    each : (r : ℕ) → fits (at nil_kinds r) (told lists_code at_nil r) ≡ true
+    each : (r : ℕ) → fits (at nil_kinds r) (reported lists_code at_nil r) ≡ true
     each zero = refl
     each (suc zero) = refl
     each (suc (suc zero)) = refl
@@ -75,10 +75,10 @@ nil_takes = record { wide = refl; each = each }
     each (suc (suc (suc (suc (suc (suc zero)))))) = refl
     each (suc (suc (suc (suc (suc (suc (suc r))))))) = refl
 
-nil_tells : Tells 7 nil_kinds (told lists_code at_nil)
-nil_tells = record { wide = refl; each = each }
+nil_reports : Reports 7 nil_kinds (reported lists_code at_nil)
+nil_reports = record { wide = refl; each = each }
   where
-    each : (r : ℕ) → at nil_kinds r ≡ told lists_code at_nil r
+    each : (r : ℕ) → at nil_kinds r ≡ reported lists_code at_nil r
     each zero = refl
     each (suc zero) = refl
     each (suc (suc zero)) = refl
@@ -88,10 +88,10 @@ nil_tells = record { wide = refl; each = each }
     each (suc (suc (suc (suc (suc (suc zero)))))) = refl
     each (suc (suc (suc (suc (suc (suc (suc r))))))) = refl
 
-cons_takes : Takes 7 cons_kinds (told lists_code at_cons)
+cons_takes : Takes 7 cons_kinds (reported lists_code at_cons)
 cons_takes = record { wide = refl; each = each }
   where
-    each : (r : ℕ) → fits (at cons_kinds r) (told lists_code at_cons r) ≡ true
+    each : (r : ℕ) → fits (at cons_kinds r) (reported lists_code at_cons r) ≡ true
     each zero = refl
     each (suc zero) = refl
     each (suc (suc zero)) = refl
@@ -101,10 +101,10 @@ cons_takes = record { wide = refl; each = each }
     each (suc (suc (suc (suc (suc (suc zero)))))) = refl
     each (suc (suc (suc (suc (suc (suc (suc r))))))) = refl
 
-cons_tells : Tells 7 cons_kinds (told lists_code at_cons)
-cons_tells = record { wide = refl; each = each }
+cons_reports : Reports 7 cons_kinds (reported lists_code at_cons)
+cons_reports = record { wide = refl; each = each }
   where
-    each : (r : ℕ) → at cons_kinds r ≡ told lists_code at_cons r
+    each : (r : ℕ) → at cons_kinds r ≡ reported lists_code at_cons r
     each zero = refl
     each (suc zero) = refl
     each (suc (suc zero)) = refl
@@ -157,17 +157,17 @@ failed_sight = record { root = refl; parts = unread; others = others }
     others (suc (suc (suc (suc (suc (suc (suc r))))))) ne away = refl
 
 -- no label stands at 0, 2 and 5
-abbrev shown : (p : ℕ) (map : List Kind) (m : ℕ → Kind) → label_at reversing.labels p ≡ Some map → Tells 7 map m → Shows reversing p m
-shown p map m there tells other e = subst (λ map. Tells 7 map m) (same_Some map other (sym there ∙ e)) tells
+abbrev shown : (p : ℕ) (map : List Kind) (m : ℕ → Kind) → label_at reversing.labels p ≡ Some map → Reports 7 map m → Shows reversing p m
+shown p map m there reports other e = subst (λ map. Reports 7 map m) (same_Some map other (sym there ∙ e)) reports
 
-quiet_start : Quiet reversing 0 1 (told lists_code at_tests)
+quiet_start : Quiet reversing 0 1 (reported lists_code at_tests)
 quiet_start = record {
   first = λ less map e. absurd (cc);
   others = λ p low high. absurd (let z : ⊥ = omega (arith, low, high) in z);
 }
 
-quiet_nil : Quiet reversing 1 3 (told lists_code at_nil)
-quiet_nil = record { first = λ less. shown 1 nil_kinds (told lists_code at_nil) refl nil_tells; others = others }
+quiet_nil : Quiet reversing 1 3 (reported lists_code at_nil)
+quiet_nil = record { first = λ less. shown 1 nil_kinds (reported lists_code at_nil) refl nil_reports; others = others }
   where
     others : (p : ℕ) → 1 < p → p < 3 → label_at reversing.labels p ≡ None
     others zero low high = absurd (let z : ⊥ = omega (arith, low) in z)
@@ -181,8 +181,8 @@ quiet_failed = record {
   others = λ p low high. absurd (let z : ⊥ = omega (arith, low, high) in z);
 }
 
-quiet_cons : Quiet reversing 4 6 (told lists_code at_cons)
-quiet_cons = record { first = λ less. shown 4 cons_kinds (told lists_code at_cons) refl cons_tells; others = others }
+quiet_cons : Quiet reversing 4 6 (reported lists_code at_cons)
+quiet_cons = record { first = λ less. shown 4 cons_kinds (reported lists_code at_cons) refl cons_reports; others = others }
   where
     others : (p : ℕ) → 4 < p → p < 6 → label_at reversing.labels p ≡ None
     others zero low high = absurd (let z : ⊥ = omega (arith, low) in z)
@@ -195,7 +195,7 @@ quiet_cons = record { first = λ less. shown 4 cons_kinds (told lists_code at_co
 
 -- ---- the tests
 
-first_chunk : ChunkLaid lists_code reversing (held_at at_tests.held) choice 0 (Open []) [] (told lists_code at_tests) 1
+first_chunk : ChunkLaid lists_code reversing (held_at at_tests.held) choice 0 (Open []) [] (reported lists_code at_tests) 1
 first_chunk = record {
   steps = 1;
   clause = 0;
@@ -232,7 +232,7 @@ failed_side = record {
   later = omega arith;
   known = not_nil;
   read = [];
-  told = at failed_kinds;
+  reported = at failed_kinds;
   sight = failed_sight;
   chunk = record {
     steps = 1;
@@ -412,7 +412,7 @@ rev_is_laid = record {
                 4,
                 at_cons,
                 (4, at_cons, variable_at 4 at_cons (Some 2) 2 refl, (4, at_cons, variable_at 4 at_cons (Some 1) 1 refl, (refl, refl))),
-                record { credits = []; taken = record { before = []; behind = []; was = refl; left = refl }; written = refl; one = refl; known = refl },
+                record { credits = []; taken = record { before = []; following = []; was = refl; left = refl }; written = refl; one = refl; known = refl },
               ),
               (refl, refl),
             ),

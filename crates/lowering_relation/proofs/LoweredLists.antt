@@ -57,19 +57,19 @@ pub taken_fewer : (cs : List Credit) (n r : ℕ) (rest : List Credit) → IsTake
 taken_fewer cs n r rest t =
     let c : Credit = record { size = n; register = r } in
     record {
-      keeps = λ q h. subst (NotIn q) (sym t.left) (not_in_drop q t.before c t.behind (subst (NotIn q) t.was h)).0;
-      once = λ h. subst Once (sym t.left) (once_drop t.before c t.behind (subst Once t.was h)).0;
-      below = λ m h. subst (Below m) (sym t.left) (below_drop m t.before c t.behind (subst (Below m) t.was h)).0;
+      keeps = λ q h. subst (NotIn q) (sym t.left) (not_in_drop q t.before c t.following (subst (NotIn q) t.was h)).0;
+      once = λ h. subst Once (sym t.left) (once_drop t.before c t.following (subst Once t.was h)).0;
+      below = λ m h. subst (Below m) (sym t.left) (below_drop m t.before c t.following (subst (Below m) t.was h)).0;
     }
 
 pub taken_other : (cs : List Credit) (n r : ℕ) (rest : List Credit) (q : ℕ) → IsTaken cs n r rest → NotIn q cs → q ≡ r → ⊥
-taken_other cs n r rest q t h = (not_in_drop q t.before (record { size = n; register = r }) t.behind (subst (NotIn q) t.was h)).1
+taken_other cs n r rest q t h = (not_in_drop q t.before (record { size = n; register = r }) t.following (subst (NotIn q) t.was h)).1
 
 pub taken_once : (cs : List Credit) (n r : ℕ) (rest : List Credit) → IsTaken cs n r rest → Once cs → NotIn r rest
-taken_once cs n r rest t h = subst (NotIn r) (sym t.left) (once_drop t.before (record { size = n; register = r }) t.behind (subst Once t.was h)).1
+taken_once cs n r rest t h = subst (NotIn r) (sym t.left) (once_drop t.before (record { size = n; register = r }) t.following (subst Once t.was h)).1
 
 pub taken_below : (cs : List Credit) (n r : ℕ) (rest : List Credit) (m : ℕ) → IsTaken cs n r rest → Below m cs → r < m
-taken_below cs n r rest m t h = (below_drop m t.before (record { size = n; register = r }) t.behind (subst (Below m) t.was h)).1
+taken_below cs n r rest m t h = (below_drop m t.before (record { size = n; register = r }) t.following (subst (Below m) t.was h)).1
 
 -- constructors that were matched
 

@@ -209,7 +209,7 @@ rev_is_lowered = record {
                 4,
                 at_cons.known,
                 (4, at_cons.known, variable_at 4 at_cons.known (Some 2) 2 refl, (4, at_cons.known, variable_at 4 at_cons.known (Some 1) 1 refl, (refl, refl))),
-                record { credits = []; taken = record { before = []; behind = []; was = refl; left = refl }; written = refl; one = refl; known = refl },
+                record { credits = []; taken = record { before = []; following = []; was = refl; left = refl }; written = refl; one = refl; known = refl },
               ),
               (refl, refl),
             ),

@@ -23,7 +23,7 @@ use Rattle.lowering_relation.specs.LoweredBodies.{moved}
 use Rattle.lowering_relation.specs.LoweredFunctions.{known_at_start}
 use Rattle.lowering_relation.specs.LoweredExample.{lists_setting}
 use Rattle.lowering_relation.specs.Describing.{held_at, kind_of, is_tree}
-use Rattle.lowering_relation.specs.Labels.{Takes, Catches, Tells, Shows, told, Quiet}
+use Rattle.lowering_relation.specs.Labels.{Takes, Catches, Reports, Shows, reported, Quiet}
 use Rattle.lowering_relation.specs.Sights.{Sight}
 use Rattle.lowering_relation.specs.Tests.{Choice, ChunkLaid, SideLaid}
 use Rattle.lowering_relation.specs.Matches.{BuiltRight, MatchBegins, MatchLaid, entered, wide_at}
@@ -95,54 +95,54 @@ not_no = side false is_no (Open [])
 
 -- ---- labels
 
-picked_takes : (k : Known) → ((r : ℕ) → fits (at picked_kinds r) (told lists_code k r) ≡ true) → Takes 4 picked_kinds (told lists_code k)
+picked_takes : (k : Known) → ((r : ℕ) → fits (at picked_kinds r) (reported lists_code k r) ≡ true) → Takes 4 picked_kinds (reported lists_code k)
 picked_takes k each = record { wide = refl; each = each }
 
-fits_no : (r : ℕ) → fits (at picked_kinds r) (told lists_code at_no r) ≡ true
+fits_no : (r : ℕ) → fits (at picked_kinds r) (reported lists_code at_no r) ≡ true
 fits_no zero = refl
 fits_no (suc zero) = refl
 fits_no (suc (suc zero)) = refl
 fits_no (suc (suc (suc zero))) = refl
 fits_no (suc (suc (suc (suc r)))) = refl
 
-fits_yes : (r : ℕ) → fits (at picked_kinds r) (told lists_code at_yes r) ≡ true
+fits_yes : (r : ℕ) → fits (at picked_kinds r) (reported lists_code at_yes r) ≡ true
 fits_yes zero = refl
 fits_yes (suc zero) = refl
 fits_yes (suc (suc zero)) = refl
 fits_yes (suc (suc (suc zero))) = refl
 fits_yes (suc (suc (suc (suc r)))) = refl
 
-fits_met : (r : ℕ) → fits (at picked_met r) (told lists_code after r) ≡ true
+fits_met : (r : ℕ) → fits (at picked_met r) (reported lists_code after r) ≡ true
 fits_met zero = refl
 fits_met (suc zero) = refl
 fits_met (suc (suc zero)) = refl
 fits_met (suc (suc (suc zero))) = refl
 fits_met (suc (suc (suc (suc r)))) = refl
 
-tells_no : Tells 4 picked_kinds (told lists_code at_no)
-tells_no = record { wide = refl; each = each }
+reports_no : Reports 4 picked_kinds (reported lists_code at_no)
+reports_no = record { wide = refl; each = each }
   where
-    each : (r : ℕ) → at picked_kinds r ≡ told lists_code at_no r
+    each : (r : ℕ) → at picked_kinds r ≡ reported lists_code at_no r
     each zero = refl
     each (suc zero) = refl
     each (suc (suc zero)) = refl
     each (suc (suc (suc zero))) = refl
     each (suc (suc (suc (suc r)))) = refl
 
-tells_yes : Tells 4 picked_kinds (told lists_code at_yes)
-tells_yes = record { wide = refl; each = each }
+reports_yes : Reports 4 picked_kinds (reported lists_code at_yes)
+reports_yes = record { wide = refl; each = each }
   where
-    each : (r : ℕ) → at picked_kinds r ≡ told lists_code at_yes r
+    each : (r : ℕ) → at picked_kinds r ≡ reported lists_code at_yes r
     each zero = refl
     each (suc zero) = refl
     each (suc (suc zero)) = refl
     each (suc (suc (suc zero))) = refl
     each (suc (suc (suc (suc r)))) = refl
 
-tells_met : Tells 4 picked_met (told lists_code after)
-tells_met = record { wide = refl; each = each }
+reports_met : Reports 4 picked_met (reported lists_code after)
+reports_met = record { wide = refl; each = each }
   where
-    each : (r : ℕ) → at picked_met r ≡ told lists_code after r
+    each : (r : ℕ) → at picked_met r ≡ reported lists_code after r
     each zero = refl
     each (suc zero) = refl
     each (suc (suc zero)) = refl
@@ -175,22 +175,22 @@ failed_sight = record { root = refl; parts = λ z a. absurd a; others = others }
 
 -- ---- where labels stand
 
-abbrev shown : (p : ℕ) (map : List Kind) (m : ℕ → Kind) → label_at picking.labels p ≡ Some map → Tells 4 map m → Shows picking p m
-shown p map m there tells other e = subst (λ map. Tells 4 map m) (same_Some map other (sym there ∙ e)) tells
+abbrev shown : (p : ℕ) (map : List Kind) (m : ℕ → Kind) → label_at picking.labels p ≡ Some map → Reports 4 map m → Shows picking p m
+shown p map m there reports other e = subst (λ map. Reports 4 map m) (same_Some map other (sym there ∙ e)) reports
 
-quiet_start : Quiet picking 0 1 (told lists_code at_tests)
+quiet_start : Quiet picking 0 1 (reported lists_code at_tests)
 quiet_start = record {
   first = λ less map e. absurd (cc);
   others = λ p low high. absurd (let z : ⊥ = omega (arith, low, high) in z);
 }
 
-quiet_no : Quiet picking 1 2 (told lists_code at_no)
+quiet_no : Quiet picking 1 2 (reported lists_code at_no)
 quiet_no = record {
-  first = λ less. shown 1 picked_kinds (told lists_code at_no) refl tells_no;
+  first = λ less. shown 1 picked_kinds (reported lists_code at_no) refl reports_no;
   others = λ p low high. absurd (let z : ⊥ = omega (arith, low, high) in z);
 }
 
-quiet_jump : Quiet picking 2 4 (told lists_code moved_no)
+quiet_jump : Quiet picking 2 4 (reported lists_code moved_no)
 quiet_jump = record { first = λ less map e. absurd (cc); others = others }
   where
     others : (p : ℕ) → 2 < p → p < 4 → label_at picking.labels p ≡ None
@@ -206,27 +206,27 @@ quiet_failed = record {
   others = λ p low high. absurd (let z : ⊥ = omega (arith, low, high) in z);
 }
 
-quiet_yes : Quiet picking 4 5 (told lists_code at_yes)
+quiet_yes : Quiet picking 4 5 (reported lists_code at_yes)
 quiet_yes = record {
-  first = λ less. shown 4 picked_kinds (told lists_code at_yes) refl tells_yes;
+  first = λ less. shown 4 picked_kinds (reported lists_code at_yes) refl reports_yes;
   others = λ p low high. absurd (let z : ⊥ = omega (arith, low, high) in z);
 }
 
-quiet_end : Quiet picking 5 6 (told lists_code moved_yes)
+quiet_end : Quiet picking 5 6 (reported lists_code moved_yes)
 quiet_end = record {
   first = λ less map e. absurd (cc);
   others = λ p low high. absurd (let z : ⊥ = omega (arith, low, high) in z);
 }
 
-quiet_after : (m : ℕ → Kind) → Tells 4 picked_met m → Quiet picking 6 7 m
-quiet_after m tells = record {
-  first = λ less. shown 6 picked_met m refl tells;
+quiet_after : (m : ℕ → Kind) → Reports 4 picked_met m → Quiet picking 6 7 m
+quiet_after m reports = record {
+  first = λ less. shown 6 picked_met m refl reports;
   others = λ p low high. absurd (let z : ⊥ = omega (arith, low, high) in z);
 }
 
 -- ---- the tests
 
-first_chunk : ChunkLaid lists_code picking (held_at at_tests.held) choice 0 (Open []) [] (told lists_code at_tests) 1
+first_chunk : ChunkLaid lists_code picking (held_at at_tests.held) choice 0 (Open []) [] (reported lists_code at_tests) 1
 first_chunk = record {
   steps = 1;
   clause = 0;
@@ -263,7 +263,7 @@ failed_side = record {
   later = omega arith;
   known = not_no;
   read = [];
-  told = at picked_kinds;
+  reported = at picked_kinds;
   sight = failed_sight;
   chunk = record {
     steps = 1;
@@ -570,7 +570,7 @@ pick_is_laid = record {
         written = refl;
         one = refl;
       };
-      quiet = quiet_after (told lists_code after) tells_met;
+      quiet = quiet_after (reported lists_code after) reports_met;
     },
   );
 }

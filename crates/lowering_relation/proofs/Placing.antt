@@ -12,14 +12,14 @@ use Rattle.lowering_relation.specs.Written.{Written, size, settled, IsAt, Extend
 use Rattle.match_knowledge.proofs.fip_base.fip_language.Facts.{get_more as kept_by, same_some}
 
 pub same_extends : (v : Written) → Extends v v
-same_extends v = record { grows = omega arith; same = λ p i h. h; placed = λ l p h. h; told = λ p h. refl }
+same_extends v = record { grows = omega arith; same = λ p i h. h; placed = λ l p h. h; reported = λ p h. refl }
 
 pub extends_on : (v w z : Written) → Extends v w → Extends w z → Extends v z
 extends_on v w z a b = record {
   grows = let p = a.grows in let q = b.grows in omega (arith, p, q);
   same = λ p i h. b.same p i (a.same p i h);
   placed = λ l p h. b.placed l p (a.placed l p h);
-  told = λ p h. b.told p (let g = a.grows in omega (arith, g, h)) ∙ a.told p h;
+  reported = λ p h. b.reported p (let g = a.grows in omega (arith, g, h)) ∙ a.reported p h;
 }
 
 stands_last : (xs : List Instr) (i : Instr) → slice_get (xs ++ i ∷ []) (length xs) ≡ Some i
@@ -30,7 +30,7 @@ pub one_longer : (v : Written) (i : Instr) → size (added v i) ≡ suc (size v)
 one_longer v i = omega (arith, length-append v.instrs (i ∷ []))
 
 pub added_extends : (v : Written) (i : Instr) → Extends v (added v i)
-added_extends v i = record { grows = omega (arith, one_longer v i); same = kept_by v.instrs (i ∷ []); placed = λ l p h. h; told = λ p h. refl }
+added_extends v i = record { grows = omega (arith, one_longer v i); same = kept_by v.instrs (i ∷ []); placed = λ l p h. h; reported = λ p h. refl }
 
 pub added_to_extends : (v w : Written) (i : Instr) → w ≡ added v i → Extends v w
 added_to_extends v w i e = subst (Extends v) (sym e) (added_extends v i)
@@ -53,7 +53,7 @@ get_pushed (q ∷ ps) o zero p h = h
 get_pushed (q ∷ ps) o (suc l) p h = get_pushed ps o l p h
 
 pub label_extends : (is : List Instr) (ps qs : List (Option ℕ)) (ms : List LabelMap) → qs ≡ ps ++ None ∷ [] → Extends (record { instrs = is; places = ps; maps = ms }) (record { instrs = is; places = qs; maps = ms })
-label_extends is ps qs ms e = record { grows = omega arith; same = λ p i h. h; placed = λ l p h. ap (λ x. joined (slice_get x l)) e ∙ get_pushed ps None l p h; told = λ p h. refl }
+label_extends is ps qs ms e = record { grows = omega arith; same = λ p i h. h; placed = λ l p h. ap (λ x. joined (slice_get x l)) e ∙ get_pushed ps None l p h; reported = λ p h. refl }
 
 set_keeps : (ps : List (Option ℕ)) (n here l p : ℕ) → slice_get ps n ≡ Some None → joined (slice_get ps l) ≡ Some p → joined (slice_get (slice_set ps n (Some here)) l) ≡ Some p
 set_keeps [] n here l p e h = absurd (cc)
@@ -71,7 +71,7 @@ set_there (q ∷ ps) zero here o e = refl
 set_there (q ∷ ps) (suc n) here o e = set_there ps n here o e
 
 pub put_extends : (is : List Instr) (ps qs : List (Option ℕ)) (ms ns : List LabelMap) (n here : ℕ) → slice_get ps n ≡ Some None → qs ≡ slice_set ps n (Some here) → ((p : ℕ) → p < length is → label_at ns p ≡ label_at ms p) → Extends (record { instrs = is; places = ps; maps = ms }) (record { instrs = is; places = qs; maps = ns })
-put_extends is ps qs ms ns n here e f t = record { grows = omega arith; same = λ p i h. h; placed = λ l p h. ap (λ x. joined (slice_get x l)) f ∙ set_keeps ps n here l p e h; told = t }
+put_extends is ps qs ms ns n here e f t = record { grows = omega arith; same = λ p i h. h; placed = λ l p h. ap (λ x. joined (slice_get x l)) f ∙ set_keeps ps n here l p e h; reported = t }
 
 pub put_there : (is : List Instr) (ps qs : List (Option ℕ)) (ms : List LabelMap) (n here p : ℕ) → slice_get ps n ≡ Some None → qs ≡ slice_set ps n (Some here) → here ≡ p → IsAt (record { instrs = is; places = qs; maps = ms }) n p
 put_there is ps qs ms n here p e f g = ap (λ x. joined (slice_get x n)) f ∙ set_there ps n here None e ∙ ap Some g

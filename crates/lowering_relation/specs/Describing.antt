@@ -1,6 +1,6 @@
--- It serves the proof that lowered code is sound: what lowering knows of the registers, and the kinds that are told of
+-- It serves the proof that lowered code is sound: what lowering knows of the registers, and the kinds that are reported of
 -- them. A register that holds nothing that is used any more is Gone.
--- Where register 0 holds Owned 2 None and register 1 nothing, the kinds Owned 2 (0 ∷ 1 ∷ []) and Gone are told.
+-- Where register 0 holds Owned 2 None and register 1 nothing, the kinds Owned 2 (0 ∷ 1 ∷ []) and Gone are reported.
 use Rattle.std.specs.Prelude.{ℕ, zero, suc, Bool, true, false, List, [], ◌∷◌, Option, Some, None}
 use Rattle.std.specs.Prelude.{if◌then◌else◌, ◌==◌}
 use Rattle.tree_semantics.specs.fip_language.Table.{Table}

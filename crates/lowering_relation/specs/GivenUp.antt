@@ -1,5 +1,5 @@
 -- It serves the proof that lowered code is sound: what gives up what is left, instruction by instruction, and what is
--- known behind each. In fip only constructors without fields that were matched are; in fbip trees are dropped and
+-- known after each. In fip only constructors without fields that were matched are; in fbip trees are dropped and
 -- credits freed. Where register 0 holds a Nil that was matched and register 1 a list, Take 0 []; Drop 1 gives both up.
 use Rattle.std.specs.Prelude.{◌≡◌, ◌⊎◌, ℕ, zero, suc, Bool, true, false, List, [], ◌∷◌, Some, slice_get, slice_set}
 use Rattle.code_rules.specs.cell_code.declared.code.Instr.TheVariants as I

@@ -1,9 +1,9 @@
 -- It serves the proof that lowered code is sound: how the clauses of a match that is bound by a let meet. Where the
 -- body of a clause ends, constructors that were matched are used up, and in fbip what it leaves over is given up. All
--- clauses but the last one jump to the place where they meet, which stands behind the last one's. What is known there
+-- clauses but the last one jump to the place where they meet, which stands after the last one's. What is known there
 -- is what is known at the ends of all.
 -- In  let y = match! xs { Nil -> a; Cons(x, t) -> b };  the code of the first clause ends in a move to the register of
--- y, which is Move 3 1, and a Jump behind that of the second one. Where register 1 owns a list at the end of the first
+-- y, which is Move 3 1, and a Jump after that of the second one. Where register 1 owns a list at the end of the first
 -- and not at that of the second, nothing is known of it where they meet.
 use Rattle.std.specs.Prelude.{◌≡◌, ◌⊎◌, ◌<◌, ◌≤◌, ℕ, suc, Bool, true, false, List, [], ◌∷◌, Some, None, length}
 use Rattle.std.specs.Prelude.{slice_get, if◌then◌else◌}
@@ -17,7 +17,7 @@ use Rattle.lowering_relation.specs.declared.held.Held.TheVariants as H
 use Rattle.lowering_relation.specs.Known.{Known, register_of}
 use Rattle.lowering_relation.specs.Values.{Setting}
 use Rattle.lowering_relation.specs.Describing.{held_at}
-use Rattle.lowering_relation.specs.Labels.{told, Quiet}
+use Rattle.lowering_relation.specs.Labels.{reported, Quiet}
 use Rattle.lowering_relation.specs.GivenUp.{GivesUp}
 use Rattle.lowering_relation.specs.Leftover.{LeavesOver}
 use Rattle.lowering_relation.specs.Matches.{BuiltRight, wide}
@@ -28,7 +28,7 @@ pub record BaresEnd (c : PlainCode) (f : PlainFunction) (at : ℕ) (k : Known) (
   pub gives : GivesUp true f steps at k end l
   pub none : (r t d : ℕ) → held_at l.held r ≡ H.Bare t d → ⊥
 
--- where the code goes behind a clause: behind the last one it goes on
+-- where the code goes after a clause: after the last one it goes on
 abbrev pub GoesOn : PlainFunction → Clauses → ℕ → ℕ → ℕ → Type 0
 GoesOn f NoClauses stop target next = (target ≡ stop) × (next ≡ stop)
 GoesOn f (MoreClauses q b cs) stop target next =
@@ -48,7 +48,7 @@ pub record ClauseEnds (c : PlainCode) (st : Setting) (fip : Bool) (f : PlainFunc
   pub built : (r : ℕ) → BuiltRight c.types (held_at left.held r)
   pub known : l ≡ wide left
   pub goes : GoesOn f cs stop target next
-  pub quiet : Quiet f at next (told c k)
+  pub quiet : Quiet f at next (reported c k)
 
 abbrev pub holds_credit : Held → Bool
 holds_credit H.Nothing = false
@@ -81,8 +81,8 @@ pub record Met (k l m : Known) : Type 0 where
   pub credits : m.credits ≡ still_held m.held k.credits
   pub next : m.next ≡ k.next
 
--- Where the clauses meet a label stands, and more registers may be used already. The label takes what is told where
--- other code stands there; where other clauses meet at the same place, it takes what is told of these.
+-- Where the clauses meet a label stands, and more registers may be used already. The label takes what is reported where
+-- other code stands there; where other clauses meet at the same place, it takes what is reported of these.
 pub record Meets (f : PlainFunction) (met : Known) (end : ℕ) (after : Known) : Type 0 where
   pub next : ℕ
   pub more : met.next ≤ next

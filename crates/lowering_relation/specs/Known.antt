@@ -82,6 +82,6 @@ used_all hs (r ∷ rs) = used_all (used hs r) rs
 -- one of the credits, of size n and in register r, is taken
 pub record IsTaken (cs : List Credit) (n r : ℕ) (rest : List Credit) : Type 0 where
   pub before : List Credit
-  pub behind : List Credit
-  pub was : cs ≡ before ++ (record { size = n; register = r } ∷ behind)
-  pub left : rest ≡ before ++ behind
+  pub following : List Credit
+  pub was : cs ≡ before ++ (record { size = n; register = r } ∷ following)
+  pub left : rest ≡ before ++ following

@@ -9,10 +9,10 @@ use Rattle.lowering_relation.specs.Known.{Known}
 use Rattle.lowering_relation.specs.Describing.{held_at, kinds_of}
 
 -- the narrowest kinds where this is known
-abbrev pub told : PlainCode → Known → ℕ → Kind
-told c k = kinds_of c.types (held_at k.held)
+abbrev pub reported : PlainCode → Known → ℕ → Kind
+reported c k = kinds_of c.types (held_at k.held)
 
--- a map takes what is told
+-- a map takes what is reported
 pub record Takes (n : ℕ) (map : List Kind) (m : ℕ → Kind) : Type 0 where
   pub wide : length map ≡ n
   pub each : (r : ℕ) → fits (at map r) (m r) ≡ true
@@ -23,16 +23,16 @@ pub record Catches (f : PlainFunction) (p : ℕ) (m : ℕ → Kind) : Type 0 whe
   pub there : label_at f.labels p ≡ Some map
   pub takes : Takes f.registers map m
 
--- a map tells just these kinds
-pub record Tells (n : ℕ) (map : List Kind) (m : ℕ → Kind) : Type 0 where
+-- a map reports just these kinds
+pub record Reports (n : ℕ) (map : List Kind) (m : ℕ → Kind) : Type 0 where
   pub wide : length map ≡ n
   pub each : (r : ℕ) → at map r ≡ m r
 
--- a label at p tells just these kinds
+-- a label at p reports just these kinds
 abbrev pub Shows : PlainFunction → ℕ → (ℕ → Kind) → Type 0
-Shows f p m = (map : List Kind) → label_at f.labels p ≡ Some map → Tells f.registers map m
+Shows f p m = (map : List Kind) → label_at f.labels p ≡ Some map → Reports f.registers map m
 
--- From a up to b no label stands behind a, and one at a tells just these kinds.
+-- From a up to b no label stands after a, and one at a reports just these kinds.
 pub record Quiet (f : PlainFunction) (a b : ℕ) (m : ℕ → Kind) : Type 0 where
   pub first : a < b → Shows f a m
   pub others : (p : ℕ) → a < p → p < b → label_at f.labels p ≡ None

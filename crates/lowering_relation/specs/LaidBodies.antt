@@ -1,7 +1,7 @@
 -- It serves the proof that lowered code is sound: which instructions compute an expression or a block, with the labels
 -- and the instructions that give up what is left. The bodies of a match's clauses stand in the order of the text, each
--- behind the tests that choose it; where a let binds the match, they give its value to the let's registers and meet
--- behind the last one.
+-- after the tests that choose it; where a let binds the match, they give its value to the let's registers and meet
+-- after the last one.
 use Rattle.std.specs.Prelude.{◌≡◌, ◌⊎◌, ◌≤◌, ℕ, suc, Bool, List, [], ◌∷◌}
 use Rattle.tree_semantics.specs.fip_language.declared.Place.{Place}
 use Rattle.tree_semantics.specs.fip_language.declared.Operator.{Operator}
@@ -12,7 +12,7 @@ use Rattle.lowering_relation.specs.Known.{Known}
 use Rattle.lowering_relation.specs.Values.{Setting, ArgumentsAt}
 use Rattle.lowering_relation.specs.LoweredBodies.{Target, Into, Return, registers_for, reserved, with_names}
 use Rattle.lowering_relation.specs.Describing.{held_at}
-use Rattle.lowering_relation.specs.Labels.{told, Quiet}
+use Rattle.lowering_relation.specs.Labels.{reported, Quiet}
 use Rattle.lowering_relation.specs.Tests.{Choice, SidesLaid}
 use Rattle.lowering_relation.specs.Matches.{wide_at, entered, EntryLaid, MatchLaid}
 use Rattle.lowering_relation.specs.Credits.{LastGone}
@@ -34,7 +34,7 @@ pub record GiveLaid (c : PlainCode) (st : Setting) (fip : Bool) (f : PlainFuncti
   pub m : Known
   pub values : ValuesLaid c st f at k as' registers mid m
   pub given : GivenLaid fip f mid m registers target end after
-  pub quiet : Quiet f at end (told c k)
+  pub quiet : Quiet f at end (reported c k)
 
 -- an operator of two values
 pub record OperatorLaid (c : PlainCode) (st : Setting) (fip : Bool) (f : PlainFunction) (at : ℕ) (k : Known)
@@ -46,7 +46,7 @@ pub record OperatorLaid (c : PlainCode) (st : Setting) (fip : Bool) (f : PlainFu
   pub values : ValuesLaid c st f at k (MoreArguments a (MoreArguments b NoArguments)) (left ∷ right ∷ []) mid m
   pub operation : OperationLaid fip f mid m o p left right target end after
   pub one_more : operation.holds.next ≤ f.registers
-  pub quiet : Quiet f at end (told c k)
+  pub quiet : Quiet f at end (reported c k)
 
 -- a call of instance g
 pub record CalledLaid (c : PlainCode) (st : Setting) (fip : Bool) (f : PlainFunction) (at : ℕ) (k : Known)
@@ -56,13 +56,13 @@ pub record CalledLaid (c : PlainCode) (st : Setting) (fip : Bool) (f : PlainFunc
   pub m : Known
   pub values : ValuesLaid c st f at k as' registers mid m
   pub call : CallLaid st fip f mid m g registers target end after
-  pub quiet : Quiet f at end (told c k)
+  pub quiet : Quiet f at end (reported c k)
 
 -- values that only get names
 pub record BoundLaid (c : PlainCode) (st : Setting) (f : PlainFunction) (at : ℕ) (k : Known) (as' : Arguments)
     (rs : List ℕ) (mid : ℕ) (m : Known) : Type 0 where
   pub values : ValuesLaid c st f at k as' rs mid m
-  pub quiet : Quiet f at mid (told c k)
+  pub quiet : Quiet f at mid (reported c k)
 
 abbrev pub NamedLaid :
     PlainCode → Setting → PlainFunction → ℕ → Known → Expression → List ℕ → ℕ → Known → Type 0
@@ -87,7 +87,7 @@ abbrev mutual
   ExpressionLaid c st fip f at k (Match ds t p a q b cs) (Into rs) end after =
       (begin : ℕ) × (k0 : Known) × (ch : Choice) × (l : Known) × (e : ℕ) × (n : ℕ) × (mid : ℕ) × (m : Known)
       × (next : ℕ) × (left : Known) × (met : Known) × BaresEnd c f at k begin k0
-      × Quiet f at begin (told c k) × MatchLaid c st f begin k0 ds t a q cs ch l e × EntryLaid c st f ch l 0 q e n
+      × Quiet f at begin (reported c k) × MatchLaid c st f begin k0 ds t a q cs ch l e × EntryLaid c st f ch l 0 q e n
       × BlockLaid c st fip f e (entered st ch q l n) b (Into rs) mid m
       × ClauseEnds c st fip f l (Match ds t p a q b cs) rs cs mid m end next left
       × ClausesMeet c st fip f ch l (Match ds t p a q b cs) 1 cs rs end left next met × Meets f met end after

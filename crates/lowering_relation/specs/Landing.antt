@@ -100,7 +100,7 @@ AllGood s to code start ds = Every (SideGood s to code start) ds
 abbrev pub LeadsTo : Scene → (ℕ → ℕ) → List Instr → ℕ → ℕ → Type 0
 LeadsTo s to code p i = (ds : Contents) → Reaches code (place p ds) (place (to (entry s i)) ds)
 
--- Tests were written: what is behind w leads to clause i, and other tests are still to be written. Where these lead to
+-- Tests were written: what is after w leads to clause i, and other tests are still to be written. Where these lead to
 -- the right clauses, so do those that were to be written before.
 pub record Continues (s : Scene) (start i : ℕ) (v : Written) (before : List Side) (w : Written) (sides : List Side) :
     Type 0 where

@@ -1,7 +1,7 @@
 -- It serves the proof that lowered code is sound: how a match begins, and what is known at the entries of its clauses.
 -- Its scrutinee is a variable. A tree that was just built has one constructor; tests ask for others too, so a label
 -- that takes all of them stands before. Each position below the scrutinee has a register of its own that wasn't used
--- before. A label stands at the entry of each clause's body, but at the start of a function, and takes what is told
+-- before. A label stands at the entry of each clause's body, but at the start of a function, and takes what is reported
 -- there.
 use Rattle.std.specs.Prelude.{◌≡◌, ◌⊎◌, ℕ, ◌<◌, ◌≤◌, Bool, ◌&&◌, not, List, [], ◌∷◌, Option, Some, None, map, slice_get}
 use Rattle.tree_semantics.specs.fip_language.Table.{Table}
@@ -20,7 +20,7 @@ use Rattle.lowering_relation.specs.Rows.{row_of}
 use Rattle.lowering_relation.specs.Opening.{Roomy}
 use Rattle.lowering_relation.specs.Entering.{entering_root}
 use Rattle.lowering_relation.specs.Describing.{Holding, held_at}
-use Rattle.lowering_relation.specs.Labels.{Catches, told}
+use Rattle.lowering_relation.specs.Labels.{Catches, reported}
 use Rattle.lowering_relation.specs.Tests.{Choice, ChunkLaid, SidesLaid}
 
 -- which constructor was built isn't known
@@ -51,7 +51,7 @@ clause_patterns (MoreClauses q b cs) = q ∷ clause_patterns cs
 -- where the scrutinee in register r was just built, this is forgotten
 abbrev pub Forgets : PlainCode → PlainFunction → ℕ → Known → ℕ → Known → Type 0
 Forgets c f at k r l =
-    ((l ≡ k) × ((t d : ℕ) → held_at k.held r ≡ H.Owned t (Some d) → ⊥)) ⊎ ((l ≡ wide k) × Catches f at (told c l))
+    ((l ≡ k) × ((t d : ℕ) → held_at k.held r ≡ H.Owned t (Some d) → ⊥)) ⊎ ((l ≡ wide k) × Catches f at (reported c l))
 
 -- constructors that were built are of their types
 pub record BuiltRight (w : Table) (h : Held) : Type 0 where
@@ -84,8 +84,8 @@ pub record EntryLaid (c : PlainCode) (st : Setting) (f : PlainFunction) (ch : Ch
     (at n : ℕ) : Type 0 where
   pub place : slice_get ch.entries i ≡ Some at
   pub more : k.next ≤ n
-  pub enters : ((0 < at) × Catches f at (told c (entered st ch q k n)))
-      ⊎ ((at ≡ 0) × ((r : ℕ) → told c k r ≡ told c (entered st ch q k n) r))
+  pub enters : ((0 < at) × Catches f at (reported c (entered st ch q k n)))
+      ⊎ ((at ≡ 0) × ((r : ℕ) → reported c k r ≡ reported c (entered st ch q k n) r))
 
 -- The match of a scrutinee of type t, by clauses with these patterns: the tests that choose its first clause are from
 -- `at` to `end`, where the body of that clause begins.
@@ -98,5 +98,5 @@ pub record MatchLaid (c : PlainCode) (st : Setting) (f : PlainFunction) (at : �
   pub patterns : ch.patterns ≡ q ∷ clause_patterns cs
   pub mid : ℕ
   pub more : ℕ
-  pub first : ChunkLaid c f (held_at l.held) ch at (Open []) [] (told c l) mid
+  pub first : ChunkLaid c f (held_at l.held) ch at (Open []) [] (reported c l) mid
   pub sides : SidesLaid c f (wide_at (held_at l.held)) ch more mid end

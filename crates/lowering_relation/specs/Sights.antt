@@ -1,6 +1,6 @@
--- It serves the proof that lowered code is sound: what is told of the registers of a match while its clause is chosen.
+-- It serves the proof that lowered code is sound: what is reported of the registers of a match while its clause is chosen.
 -- A position whose value was read has the kind of its field, with the constructors that it may still have; one that
--- wasn't is Gone. Other registers have the kinds that are told before the match.
+-- wasn't is Gone. Other registers have the kinds that are reported before the match.
 -- In match xs { Cons(x, Cons(y, t)) -> .. } with xs owned in register 0, where the test of the first Cons holds and its
 -- fields are in 1 and 2: 0 is Owned 2 (1 ∷ []), and where the second position was read 2 is
 -- Lent 2 (0 ∷ 1 ∷ []) (Some 0) with a from of register 0 and field 1.

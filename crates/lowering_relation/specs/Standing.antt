@@ -1,4 +1,4 @@
--- It serves the proof that lowered code is sound: where the label maps of a function stand, and that none of them tells
+-- It serves the proof that lowered code is sound: where the label maps of a function stand, and that none of them reports
 -- of a tree that it has no constructor.
 -- In a function of seven instructions maps may stand at 3 and 5, and none at 0 or at 7.
 use Rattle.std.specs.Prelude.{◌≡◌, ℕ, ◌<◌, ◌==◌, Bool, true, ◌&&◌, not, List, [], ◌∷◌, length}
@@ -23,12 +23,12 @@ abbrev pub are_open : List Kind → Bool
 are_open [] = true
 are_open (k ∷ ks) = is_open k && are_open ks
 
--- no map tells of a tree that it has no constructor
+-- no map reports of a tree that it has no constructor
 abbrev pub AreOpen : List LabelMap → Type 0
 AreOpen [] = Unit {0}
 AreOpen (m ∷ ms) = (are_open m.kinds ≡ true) × AreOpen ms
 
--- the maps of f stand behind its first instruction, in order, and tell of each tree some constructor
+-- the maps of f stand after its first instruction, in order, and tell of each tree some constructor
 pub record MapsStand (f : PlainFunction) : Type 0 where
   pub rising : AreRising (length f.instrs) 0 f.labels
   pub opens : AreOpen f.labels

@@ -125,12 +125,12 @@ pub record BeginsBody (c : PlainCode) (f : PlainFunction) (ch : Choice) (at : �
   pub chosen : ChosenAtOnce c f ch steps at k read clause
   pub entry : slice_get ch.entries clause ≡ Some at
 
--- A label takes what is told where this is known, or a body begins there: its own label takes it then.
+-- A label takes what is reported where this is known, or a body begins there: its own label takes it then.
 abbrev pub TakenAt : PlainCode → PlainFunction → Holding → Choice → ℕ → Known → List ℕ → Type 0
 TakenAt c f g ch at k read =
     ((m : ℕ → Kind) → Sight c.types g ch.type ch.root k read m → Catches f at m) ⊎ BeginsBody c f ch at k read
 
--- the test of what a pattern asks for first; a label stands where what fails it goes, and takes what is told there
+-- the test of what a pattern asks for first; a label stands where what fails it goes, and takes what is reported there
 pub record TestLaid (c : PlainCode) (f : PlainFunction) (g : Holding) (ch : Choice) (at : ℕ) (p : M.Pattern)
     (k : Known) (read : List ℕ) (next : ℕ) (more : List ℕ) : Type 0 where
   pub mid : ℕ
@@ -172,9 +172,9 @@ pub record SideLaid (c : PlainCode) (f : PlainFunction) (g : Holding) (ch : Choi
   pub later : 0 < at
   pub known : Known
   pub read : List ℕ
-  pub told : ℕ → Kind
-  pub sight : Sight c.types g ch.type ch.root known read told
-  pub chunk : ChunkLaid c f g ch at known read told next
+  pub reported : ℕ → Kind
+  pub sight : Sight c.types g ch.type ch.root known read reported
+  pub chunk : ChunkLaid c f g ch at known read reported next
 
 -- so many such chunks
 abbrev pub SidesLaid : PlainCode → PlainFunction → Holding → Choice → ℕ → ℕ → ℕ → Type 0

@@ -10,7 +10,7 @@ use Rattle.code_rules.specs.Codes.{LabelMap, label_at}
 use Rattle.lowering_relation.specs.Known.{joined}
 use Rattle.lowering_relation.specs.LoweredBodies as B
 
--- the instructions, the places of the labels that have one, and what is told of the registers at some places
+-- the instructions, the places of the labels that have one, and what is reported of the registers at some places
 pub record Written : Type 0 where
   pub instrs : List Instr
   pub places : List (Option ℕ)
@@ -46,14 +46,14 @@ pub record Extends (v w : Written) : Type 0 where
   pub grows : size v ≤ size w
   pub same : (p : ℕ) (i : Instr) → slice_get v.instrs p ≡ Some i → slice_get w.instrs p ≡ Some i
   pub placed : (label p : ℕ) → IsAt v label p → IsAt w label p
-  pub told : (p : ℕ) → p < size v → label_at w.maps p ≡ label_at v.maps p
+  pub reported : (p : ℕ) → p < size v → label_at w.maps p ≡ label_at v.maps p
 
 -- a code has what was written from n on, where labels are at these places
 pub record HasFrom (n : ℕ) (w : Written) (to : ℕ → ℕ) (code : List Instr) : Type 0 where
   pub by : (p : ℕ) (i : Instr) → n ≤ p → slice_get w.instrs p ≡ Some i → slice_get code p ≡ Some (settled to i)
   pub at : (label p : ℕ) → IsAt w label p → to label ≡ p
 
--- this is so in each code that has what is written in w behind v
+-- this is so in each code that has what is written in w after v
 abbrev pub InCode : Written → Written → (List Instr → Type 0) → Type 0
 InCode v w P = (to : ℕ → ℕ) (code : List Instr) → HasFrom (size v) w to code → P code
 
@@ -65,7 +65,7 @@ abbrev pub or_zero : Option ℕ → ℕ
 or_zero None = 0
 or_zero (Some p) = p
 
--- the places of labels, as the table tells them
+-- the places of labels, as the table reports them
 abbrev pub place_of : List (Option ℕ) → ℕ → ℕ
 place_of places label = or_zero (joined (slice_get places label))
 

@@ -15,5 +15,5 @@ pub use layout_theorems::{
 };
 pub use match_theorems::{
     a_chosen_clause_gets_its_cells, a_chosen_clause_gets_its_values,
-    a_test_leads_where_its_sides_do, entries_tell_what_is_so,
+    a_test_leads_where_its_sides_do, entries_report_what_is_so,
 };

@@ -6,7 +6,7 @@ use Rattle.tree_refinement.specs.fip_language.Values.{Value, Int, Node, Values, 
 use Rattle.tree_refinement.specs.fip_language.Every.{Every, Among}
 use Rattle.tree_refinement.specs.fip_language.Arithmetic.{Operated, Is, Fails, operate}
 use Rattle.tree_refinement.specs.fip_language.Meaning.{Answer, Gives, Trap, Out, Peak, no_peak, higher, above, Environment, operated, operation, counted, in_frame, ends, with_value, with_values, go_on, bind_matched, if_matches, Run as Evaluation}
-use Rattle.tree_refinement.specs.fip_language.Laws.{AtMost}
+use Rattle.tree_refinement.specs.fip_language.Theorems.{AtMost}
 use Rattle.lowering_relation.specs.fip_trees.declared.program.Binder.{Binder}
 use Rattle.lowering_relation.specs.fip_trees.Tree.{Expression, Give, Tuple, Operation, Call, Match, Nested, Block, Last, Let, Program, Pattern, Clauses, NoClauses, MoreClauses}
 use Rattle.tree_refinement.specs.cell_code.declared.code.Instr.{Instr}
@@ -35,7 +35,7 @@ use Rattle.lowering_simulation.specs.Guarded.{Takes, GuardedExpression, GuardedB
 use Rattle.lowering_simulation.proofs.Matching.{matched_numbers, unmatched_same}
 use Rattle.lowering_simulation.proofs.Choosing.{world_entered, world_met, case_runs, reaches_run, jumps}
 use Rattle.lowering_simulation.specs.RunEnds.{words_of_all}
-use Rattle.lowering_simulation.proofs.Leads.{Coming, At, Ends, Behind, LeadsTo, and_on, to_stuck, same_peak, raised, below, level, as_high, behind_own, coming, run_coming, does, steps, next_is, enters_callee, enters_out, deep_out, too_deep, answers_on, answers_to, with_one, with_all}
+use Rattle.lowering_simulation.proofs.Leads.{Coming, At, Ends, After, LeadsTo, and_on, to_stuck, same_peak, raised, below, level, as_high, after_own, coming, run_coming, does, steps, next_is, enters_callee, enters_out, deep_out, too_deep, answers_on, answers_to, with_one, with_all}
 use Rattle.lowering_relation.proofs.LoweredLists.{among_left, among_right}
 use Rattle.lowering_simulation.proofs.Statics.{argument_step, argument_fixed, argument_elsewhere, arguments_elsewhere, Step, arguments_step, unknown_on}
 use Rattle.lowering_simulation.proofs.Arguments.{Kept, World, world_on, state, here, argument_runs, arguments_runs}
@@ -159,8 +159,8 @@ module _ (code : PlainCode) (width : ℕ → ℕ) (program : Program) (setting :
   level_joins p q = same_peak (higher (Lv p) (Lv q)) (Lv (higher p q)) (omega arith) (omega arith)
 
   -- what is evaluated without a call
-  at_once : (c d : Coming) → LeadsTo code width c (Behind Own d) → LeadsTo code width c (Behind (Lv no_peak) d)
-  at_once c d h = and_on code width c (Behind Own d) (Behind (Lv no_peak) d) h (as_high code width Own (Lv no_peak) d level_none)
+  at_once : (c d : Coming) → LeadsTo code width c (After Own d) → LeadsTo code width c (After (Lv no_peak) d)
+  at_once c d h = and_on code width c (After Own d) (After (Lv no_peak) d) h (as_high code width Own (Lv no_peak) d level_none)
 
   -- an operator
 
@@ -169,9 +169,9 @@ module _ (code : PlainCode) (width : ℕ → ℕ) (program : Program) (setting :
       let ds = put cs h.destination u in
       let two = fine u in
       let same = put_same cs h.destination u h.destination refl in
-      and_on code width (The at cs left) (The (suc at) ds left) (Behind (Lv no_peak) (go (More u End) left))
+      and_on code width (The at cs left) (The (suc at) ds left) (After (Lv no_peak) (go (More u End) left))
       (steps code width (Running at cs) (Running (suc at) ds) left refl e)
-      (subst (λ vs. LeadsTo code width (The (suc at) ds left) (Behind (Lv no_peak) (go vs left))) (ap (λ v. More v End) same)
+      (subst (λ vs. LeadsTo code width (The (suc at) ds left) (After (Lv no_peak) (go vs left))) (ap (λ v. More v End) same)
       (at_once (The (suc at) ds left) _ (given_runs code width f is has waiting free (suc at) h.holds (h.destination ∷ []) target end after env ds left m a go h.given two.0 two.1 le (ev ∙ ap (λ v. Gives (More v End) left) (sym same)) goes)))
   calculated_runs o p x y at l target end after env cs left a go (Fails kind) h e fine le ev goes =
       at_once (The at cs left) (Ends (Trap kind p.line p.col)) (does code width (Running at cs) left (calculated (Running at cs) h.destination p.line p.col (Fails kind)) e)
@@ -262,13 +262,13 @@ module _ (code : PlainCode) (width : ℕ → ℕ) (program : Program) (setting :
   values_run (Give a) [] at k end l env cs left to h w go = absurd h
   values_run (Give a) (r ∷ []) at k end l env cs left to h w go =
       with_one code width Lv (The at cs left) (argument_value env a) _ to
-      (λ v e. at_once (The at cs left) (to (More v End) left) (behind_own code width (Running at cs) left (to (More v End) left)
+      (λ v e. at_once (The at cs left) (to (More v End) left) (after_own code width (Running at cs) left (to (More v End) left)
       (argument_runs code width f is has waiting free setting at k a r end l env cs left v (to (More v End) left) h w e
       (λ ds kept same. go (More v End) ds (ap (λ o. (with_value o (λ u. ends (Gives (More u End) left))).answer) e) kept (ap (λ x. More x End) same)))))
   values_run (Give a) (r ∷ q ∷ rs) at k end l env cs left to h w go = absurd h
   values_run (Tuple p as') rs at k end l env cs left to h w go =
       with_all code width Lv (The at cs left) (argument_values env as') _ to
-      (λ vs e. at_once (The at cs left) (to vs left) (behind_own code width (Running at cs) left (to vs left)
+      (λ vs e. at_once (The at cs left) (to vs left) (after_own code width (Running at cs) left (to vs left)
       (arguments_runs code width f is has waiting free setting at k as' rs end l env cs left vs (to vs left) h w e
       (λ ds kept same. go vs ds (ap (λ o. (with_values o (λ us. ends (Gives us left))).answer) e) kept same))))
   values_run (Operation o p a b) rs at k end l env cs left to h w go = absurd h
@@ -281,7 +281,7 @@ module _ (code : PlainCode) (width : ℕ → ℕ) (program : Program) (setting :
   on_inner Return l env more end a b go wider e goes = goes
   on_inner (Into ds) l env more end a b go wider e goes = λ vs n es f less w held. goes vs n es (e ∙ f) less (world_less l env more es wider w) held
 
-  -- behind a match what is known is tidy
+  -- after a match what is known is tidy
   abbrev TidyFor : Target → Known → Type 0
   TidyFor Return l = Unit {0}
   TidyFor (Into ds) l = Tidy l
@@ -325,8 +325,8 @@ module _ (code : PlainCode) (width : ℕ → ℕ) (program : Program) (setting :
     expression_runs (Give a) target at k end l env cs left go h dis clear guard w aims le goes =
         let s = argument_step setting is at k a h.0 h.1 h.2 h.3 in
         with_one code width Lv (The at cs left) (argument_value env a) _ go
-        (λ v e. argument_runs code width f is has waiting free setting at k a h.0 h.1 h.2 env cs left v (Behind (Lv no_peak) (go (More v End) left)) h.3 w e
-        (λ ds kept same. subst (λ x. LeadsTo code width (The h.1 ds left) (Behind (Lv no_peak) (go x left))) (ap (λ x. More x End) same)
+        (λ v e. argument_runs code width f is has waiting free setting at k a h.0 h.1 h.2 env cs left v (After (Lv no_peak) (go (More v End) left)) h.3 w e
+        (λ ds kept same. subst (λ x. LeadsTo code width (The h.1 ds left) (After (Lv no_peak) (go x left))) (ap (λ x. More x End) same)
         (at_once (The h.1 ds left) _ (given_runs code width f is has waiting free h.1 h.2 (h.0 ∷ []) target end l env ds left m _ go h.4
         (clean_target k (h.0 ∷ []) target (one_elsewhere k h.0 (λ d u. argument_elsewhere setting is at k a h.0 h.1 h.2 d u h.3)) aims)
         (ready_of target k h.2 env ds s (world_on k h.2 env cs ds s kept w) aims) le
@@ -334,8 +334,8 @@ module _ (code : PlainCode) (width : ℕ → ℕ) (program : Program) (setting :
     expression_runs (Tuple p as') target at k end l env cs left go h dis clear guard w aims le goes =
         let s = arguments_step setting is at k as' h.0 h.1 h.2 h.3 in
         with_all code width Lv (The at cs left) (argument_values env as') _ go
-        (λ vs e. arguments_runs code width f is has waiting free setting at k as' h.0 h.1 h.2 env cs left vs (Behind (Lv no_peak) (go vs left)) h.3 w e
-        (λ ds kept same. subst (λ x. LeadsTo code width (The h.1 ds left) (Behind (Lv no_peak) (go x left))) same
+        (λ vs e. arguments_runs code width f is has waiting free setting at k as' h.0 h.1 h.2 env cs left vs (After (Lv no_peak) (go vs left)) h.3 w e
+        (λ ds kept same. subst (λ x. LeadsTo code width (The h.1 ds left) (After (Lv no_peak) (go x left))) same
         (at_once (The h.1 ds left) _ (given_runs code width f is has waiting free h.1 h.2 h.0 target end l env ds left m _ go h.4
         (clean_target k h.0 target (λ d u. arguments_elsewhere setting is at k as' h.0 h.1 h.2 d u h.3) aims)
         (ready_of target k h.2 env ds s (world_on k h.2 env cs ds s kept w) aims) le

@@ -15,7 +15,7 @@ use Rattle.lowering_relation.specs.Known.{Known, register_of}
 use Rattle.lowering_relation.specs.LoweredBodies.{Target, Return, Into, GivesUp, GiveUp, IsMove, IsThere, MovedAt, GivenAt}
 use Rattle.lowering_simulation.specs.Distinct.{Differ}
 use Rattle.lowering_simulation.specs.RunEnds.{words_of_all}
-use Rattle.lowering_simulation.proofs.Leads.{Coming, Behind, LeadsTo, and_on, behind, behind_own, coming, does, next_is}
+use Rattle.lowering_simulation.proofs.Leads.{Coming, After, LeadsTo, and_on, following, after_own, coming, does, next_is}
 use Rattle.lowering_simulation.proofs.Statics.{Step, tidy_on, unknown_on}
 use Rattle.lowering_simulation.proofs.Naming.{Holds}
 use Rattle.lowering_simulation.proofs.Later.{moved_step}
@@ -146,13 +146,13 @@ module _ (code : PlainCode) (width : ℕ → ℕ) (f : ℕ) (is : List Instr) (h
   abbrev pub own : Peak
   own = record { frames = length waiting; words = width f + words_of_all width waiting }
 
-  pub given_runs : (at : ℕ) (k : Known) (rs : List ℕ) (target : Target) (end : ℕ) (l : Known) (env : Environment) (cs : Contents) (left m : ℕ) (a : Answer) (go : Values → ℕ → Coming) → GivenAt is at k rs target end l → CleanTarget rs target → Ready target k env cs → left ≤ m → a ≡ Gives (read_all cs rs) left → Goes target l env end m a go → LeadsTo code width (There at cs left) (Behind own (go (read_all cs rs) left))
+  pub given_runs : (at : ℕ) (k : Known) (rs : List ℕ) (target : Target) (end : ℕ) (l : Known) (env : Environment) (cs : Contents) (left m : ℕ) (a : Answer) (go : Values → ℕ → Coming) → GivenAt is at k rs target end l → CleanTarget rs target → Ready target k env cs → left ≤ m → a ≡ Gives (read_all cs rs) left → Goes target l env end m a go → LeadsTo code width (There at cs left) (After own (go (read_all cs rs) left))
   given_runs at k rs Return end l env cs left m a go h c ready le e goes =
-      gives_up h.given_up at cs left (Behind own (go (read_all cs rs) left)) h.give_up
-      (and_on code width (There (at + h.given_up) cs left) (Behind own (coming left (returned code waiting free (read_all cs rs)))) (Behind own (go (read_all cs rs) left))
+      gives_up h.given_up at cs left (After own (go (read_all cs rs) left)) h.give_up
+      (and_on code width (There (at + h.given_up) cs left) (After own (coming left (returned code waiting free (read_all cs rs)))) (After own (go (read_all cs rs) left))
       (does code width (state code width f is has waiting free (at + h.given_up) cs) left (returned code waiting free (read_all cs rs)) (next_is code width (state code width f is has waiting free (at + h.given_up) cs) (I.Ret rs) (has (at + h.given_up) (I.Ret rs) h.written)))
-      (behind code width own (coming left (returned code waiting free (read_all cs rs))) (go (read_all cs rs) left) (goes (read_all cs rs) left)))
+      (following code width own (coming left (returned code waiting free (read_all cs rs))) (go (read_all cs rs) left) (goes (read_all cs rs) left)))
   given_runs at k rs (Into ds) end l env cs left m a go h c ready le e goes =
-      behind_own code width (state code width f is has waiting free at cs) left (go (read_all cs rs) left)
+      after_own code width (state code width f is has waiting free at cs) left (go (read_all cs rs) left)
       (moves_run at k rs ds end l cs left (go (read_all cs rs) left) h c.0 c.1
       (λ es same held. goes (read_all cs rs) left es e le (world_but k l ds env cs es (moved_step is at k rs ds end l h) (λ r fixed no. same r no) ready.1 ready.0) held))

@@ -37,11 +37,11 @@ below width fs = record { frames = length fs; words = words_of_all width fs }
 abbrev pub level : Peak → Peak → Peak → Peak
 level b h p = higher h (raised b p)
 
--- a state with the calls that are left, or an answer; or what is behind states that were so high
+-- a state with the calls that are left, or an answer; or what is after states that were so high
 pub data Coming : Type 0 where
   At : (s : State) (left : ℕ) → Coming
   Ends : (a : Answer) → Coming
-  Behind : (p : Peak) (c : Coming) → Coming
+  After : (p : Peak) (c : Coming) → Coming
 
 -- how it ends; nothing is said where a meaning is stuck
 abbrev pub ComesTo : PlainCode → (ℕ → ℕ) → Coming → Evaluation → Type 0
@@ -51,7 +51,7 @@ ComesTo code width (Ends (Trap kind line col)) e = e ≡ ends (Trap kind line co
 ComesTo code width (Ends Out) e = e ≡ ends Out
 ComesTo code width (Ends Deep) e = e ≡ ends Deep
 ComesTo code width (Ends Stuck) e = ⊥
-ComesTo code width (Behind p c) e = (r : Evaluation) × ComesTo code width c r × (after p r ≡ e)
+ComesTo code width (After p c) e = (r : Evaluation) × ComesTo code width c r × (after p r ≡ e)
 
 pub record LeadsTo (code : PlainCode) (width : ℕ → ℕ) (c d : Coming) : Type 0 where
   pub by : (e : Evaluation) → ComesTo code width d e → ComesTo code width c e
@@ -66,7 +66,7 @@ answer_coming Stuck go = Ends Stuck
 
 -- what an evaluation asks of it, whose peak stands above others so
 abbrev pub run_coming : (Peak → Peak) → Evaluation → (Values → ℕ → Coming) → Coming
-run_coming up r go = Behind (up r.peak) (answer_coming r.answer go)
+run_coming up r go = After (up r.peak) (answer_coming r.answer go)
 
 -- what a next state is
 abbrev pub coming : ℕ → Next → Coming
@@ -84,17 +84,17 @@ module _ (code : PlainCode) (width : ℕ → ℕ) where
   pub and_on : (a b c : Coming) → LeadsTo code width a b → LeadsTo code width b c → LeadsTo code width a c
   and_on a b c p q = record { by = λ e h. p.by e (q.by e h) }
 
-  pub to_stuck : (c : Coming) (p : Peak) → LeadsTo code width c (Behind p (Ends Stuck))
+  pub to_stuck : (c : Coming) (p : Peak) → LeadsTo code width c (After p (Ends Stuck))
   to_stuck c p = record { by = λ e h. absurd h.1 }
 
-  pub behind : (p : Peak) (c d : Coming) → LeadsTo code width c d → LeadsTo code width (Behind p c) (Behind p d)
-  behind p c d h = record { by = λ e x. (x.0, h.by x.0 x.1, x.2) }
+  pub following : (p : Peak) (c d : Coming) → LeadsTo code width c d → LeadsTo code width (After p c) (After p d)
+  following p c d h = record { by = λ e x. (x.0, h.by x.0 x.1, x.2) }
 
-  pub behind_both : (p q : Peak) (c : Coming) → LeadsTo code width (Behind p (Behind q c)) (Behind (higher p q) c)
-  behind_both p q c = record { by = λ e x. (after q x.0, (x.0, x.1, refl), ap (λ y. record { answer = (x.0).answer; peak = y }) (sym (higher_in p q (x.0).peak)) ∙ x.2) }
+  pub after_both : (p q : Peak) (c : Coming) → LeadsTo code width (After p (After q c)) (After (higher p q) c)
+  after_both p q c = record { by = λ e x. (after q x.0, (x.0, x.1, refl), ap (λ y. record { answer = (x.0).answer; peak = y }) (sym (higher_in p q (x.0).peak)) ∙ x.2) }
 
-  pub as_high : (p q : Peak) (c : Coming) → p ≡ q → LeadsTo code width (Behind p c) (Behind q c)
-  as_high p q c e = subst (λ x. LeadsTo code width (Behind p c) (Behind x c)) e (stays (Behind p c))
+  pub as_high : (p q : Peak) (c : Coming) → p ≡ q → LeadsTo code width (After p c) (After q c)
+  as_high p q c e = subst (λ x. LeadsTo code width (After p c) (After x c)) e (stays (After p c))
 
   -- ---- states
 
@@ -110,8 +110,8 @@ module _ (code : PlainCode) (width : ℕ → ℕ) where
       let r = h 0 in
       ap (λ y. record { answer = e.answer; peak = y }) (ap (higher (height width s)) (sym r.peak) ∙ highest_has r.enough s left 0 ∙ r.peak)
 
-  pub behind_own : (s : State) (left : ℕ) (c : Coming) → LeadsTo code width (At s left) c → LeadsTo code width (At s left) (Behind (height width s) c)
-  behind_own s left c h = record { by = λ e x. let one = h.by x.0 x.1 in subst (ComesTo code width (At s left)) (sym (own_height s left x.0 one) ∙ x.2) one }
+  pub after_own : (s : State) (left : ℕ) (c : Coming) → LeadsTo code width (At s left) c → LeadsTo code width (At s left) (After (height width s) c)
+  after_own s left c h = record { by = λ e x. let one = h.by x.0 x.1 in subst (ComesTo code width (At s left)) (sym (own_height s left x.0 one) ∙ x.2) one }
 
   -- one step later
   sooner : (s : State) (left n : ℕ) (x : Next) (e : Evaluation) → next code s ≡ x → RunsTo code width (comes s left (suc n) x) e → RunsTo code width (Going s left n) (after (height width s) e)
@@ -134,7 +134,7 @@ module _ (code : PlainCode) (width : ℕ → ℕ) where
       (sooner s left n x (record { answer = a; peak = height width s }) is (subst (λ r. RunsTo code width r (record { answer = a; peak = height width s })) (sym end) (over a s rest (suc n))))
 
   -- an instruction that is no call
-  pub does : (s : State) (left : ℕ) (x : Next) → next code s ≡ x → LeadsTo code width (At s left) (Behind (height width s) (coming left x))
+  pub does : (s : State) (left : ℕ) (x : Next) → next code s ≡ x → LeadsTo code width (At s left) (After (height width s) (coming left x))
   does s left (Went t) is = record { by = λ e h n. subst (RunsTo code width (Going s left n)) h.2 (sooner s left n (Went t) h.0 is (h.1 (suc n))) }
   does s left (Entered t) is = to_stuck _ _
   does s left (Gave vs) is = record { by = λ e h n. last_step (Gives vs left) s left left n (Gave vs) e is refl (ap (after (height width s)) (sym h.1) ∙ h.2) }
@@ -147,16 +147,16 @@ module _ (code : PlainCode) (width : ℕ → ℕ) where
   steps s t left same is = record { by = λ e h n. subst (RunsTo code width (Going s left n)) (ap (λ p. after p e) same ∙ own_height t left e h) (sooner s left n (Went t) e is (h (suc n))) }
 
   -- a call, which costs one
-  pub enters : (s t : State) (left : ℕ) → next code s ≡ Entered t → LeadsTo code width (At s (suc left)) (Behind (height width s) (At t left))
+  pub enters : (s t : State) (left : ℕ) → next code s ≡ Entered t → LeadsTo code width (At s (suc left)) (After (height width s) (At t left))
   enters s t left is = record { by = λ e h n. subst (RunsTo code width (Going s (suc left) n)) h.2 (sooner s (suc left) n (Entered t) h.0 is (h.1 (suc n))) }
 
-  pub enters_out : (s t : State) → next code s ≡ Entered t → LeadsTo code width (At s zero) (Behind (height width s) (Ends Out))
+  pub enters_out : (s t : State) → next code s ≡ Entered t → LeadsTo code width (At s zero) (After (height width s) (Ends Out))
   enters_out s t is = record { by = λ e h n. last_step Out s zero zero n (Entered t) e is refl (ap (after (height width s)) (sym h.1) ∙ h.2) }
 
-  pub deep_out : (s : State) → next code s ≡ TooDeep → LeadsTo code width (At s zero) (Behind (height width s) (Ends Out))
+  pub deep_out : (s : State) → next code s ≡ TooDeep → LeadsTo code width (At s zero) (After (height width s) (Ends Out))
   deep_out s is = record { by = λ e h n. last_step Out s zero zero n TooDeep e is refl (ap (after (height width s)) (sym h.1) ∙ h.2) }
 
-  pub too_deep : (s : State) (left : ℕ) → next code s ≡ TooDeep → LeadsTo code width (At s (suc left)) (Behind (height width s) (Ends Deep))
+  pub too_deep : (s : State) (left : ℕ) → next code s ≡ TooDeep → LeadsTo code width (At s (suc left)) (After (height width s) (Ends Deep))
   too_deep s left is = record { by = λ e h n. last_step Deep s (suc left) left n TooDeep e is refl (ap (after (height width s)) (sym h.1) ∙ h.2) }
 
   -- the instruction that stands there
@@ -177,15 +177,15 @@ module _ (code : PlainCode) (width : ℕ → ℕ) where
   pub answers_on : (up : Peak → Peak) → ((p q : Peak) → higher (up p) (up q) ≡ up (higher p q)) → (r : Evaluation) (go : Values → ℕ → Evaluation) (to : Values → ℕ → Coming) → LeadsTo code width (run_coming up r (λ vs k. run_coming up (go vs k) to)) (run_coming up (then_with r go) to)
   answers_on up joins r go to = by_answer r.answer
     where
-      ended : (a : Answer) → LeadsTo code width (Behind (up r.peak) (Ends a)) (Behind (up (higher r.peak no_peak)) (Ends a))
+      ended : (a : Answer) → LeadsTo code width (After (up r.peak) (Ends a)) (After (up (higher r.peak no_peak)) (Ends a))
       ended a = as_high (up r.peak) (up (higher r.peak no_peak)) (Ends a) (ap up (sym (higher_none r.peak)))
 
-      by_answer : (a : Answer) → LeadsTo code width (Behind (up r.peak) (answer_coming a (λ vs k. run_coming up (go vs k) to))) (run_coming up (after r.peak (go_on a go)) to)
+      by_answer : (a : Answer) → LeadsTo code width (After (up r.peak) (answer_coming a (λ vs k. run_coming up (go vs k) to))) (run_coming up (after r.peak (go_on a go)) to)
       by_answer (Gives vs k) =
           let q = (go vs k).peak in
           let c = answer_coming (go vs k).answer to in
-          and_on (Behind (up r.peak) (Behind (up q) c)) (Behind (higher (up r.peak) (up q)) c) (Behind (up (higher r.peak q)) c)
-          (behind_both (up r.peak) (up q) c) (as_high (higher (up r.peak) (up q)) (up (higher r.peak q)) c (joins r.peak q))
+          and_on (After (up r.peak) (After (up q) c)) (After (higher (up r.peak) (up q)) c) (After (up (higher r.peak q)) c)
+          (after_both (up r.peak) (up q) c) (as_high (higher (up r.peak) (up q)) (up (higher r.peak q)) c (joins r.peak q))
       by_answer (Trap kind line col) = ended (Trap kind line col)
       by_answer Out = ended Out
       by_answer Deep = ended Deep
@@ -200,11 +200,11 @@ module _ (code : PlainCode) (width : ℕ → ℕ) where
   with_all up c (Some vs) go to h = h vs refl
 
   -- a call whose callee's run is known, and where its values go on
-  pub enters_callee : (s t : State) (left : ℕ) (a : Answer) (p q : Peak) (back go : Values → ℕ → Coming) → next code s ≡ Entered t → LeadsTo code width (At t left) (Behind p (answer_coming a back)) → higher (height width s) p ≡ q → LeadsTo code width (answer_coming a back) (answer_coming a go) → LeadsTo code width (At s (suc left)) (Behind q (answer_coming a go))
+  pub enters_callee : (s t : State) (left : ℕ) (a : Answer) (p q : Peak) (back go : Values → ℕ → Coming) → next code s ≡ Entered t → LeadsTo code width (At t left) (After p (answer_coming a back)) → higher (height width s) p ≡ q → LeadsTo code width (answer_coming a back) (answer_coming a go) → LeadsTo code width (At s (suc left)) (After q (answer_coming a go))
   enters_callee s t left a p q back go is run same on =
       let h = height width s in
-      and_on (At s (suc left)) (Behind h (At t left)) (Behind q (answer_coming a go)) (enters s t left is)
-      (and_on (Behind h (At t left)) (Behind h (Behind p (answer_coming a go))) (Behind q (answer_coming a go))
-      (behind h (At t left) (Behind p (answer_coming a go)) (and_on (At t left) (Behind p (answer_coming a back)) (Behind p (answer_coming a go)) run (behind p (answer_coming a back) (answer_coming a go) on)))
-      (and_on (Behind h (Behind p (answer_coming a go))) (Behind (higher h p) (answer_coming a go)) (Behind q (answer_coming a go))
-      (behind_both h p (answer_coming a go)) (as_high (higher h p) q (answer_coming a go) same)))
+      and_on (At s (suc left)) (After h (At t left)) (After q (answer_coming a go)) (enters s t left is)
+      (and_on (After h (At t left)) (After h (After p (answer_coming a go))) (After q (answer_coming a go))
+      (following h (At t left) (After p (answer_coming a go)) (and_on (At t left) (After p (answer_coming a back)) (After p (answer_coming a go)) run (following p (answer_coming a back) (answer_coming a go) on)))
+      (and_on (After h (After p (answer_coming a go))) (After (higher h p) (answer_coming a go)) (After q (answer_coming a go))
+      (after_both h p (answer_coming a go)) (as_high (higher h p) q (answer_coming a go) same)))

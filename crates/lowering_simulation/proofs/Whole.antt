@@ -23,7 +23,7 @@ use Rattle.lowering_simulation.specs.Guarded.{Takes, IsGuarded}
 use Rattle.lowering_simulation.specs.RunEnds.{EndsIn, RunsTo, words_of_all}
 use Rattle.lowering_simulation.specs.Wide.{AreWide}
 use Rattle.lowering_simulation.specs.Lowered.{instrs_of, all_instrs}
-use Rattle.lowering_simulation.proofs.Leads.{Coming, At, Ends, Behind, ComesTo, LeadsTo, stays, and_on, as_high, same_peak, raised, below, coming, answer_coming, run_coming}
+use Rattle.lowering_simulation.proofs.Leads.{Coming, At, Ends, After, ComesTo, LeadsTo, stays, and_on, as_high, same_peak, raised, below, coming, answer_coming, run_coming}
 use Rattle.lowering_relation.proofs.LoweredLists.{same_some}
 use Rattle.lowering_simulation.proofs.Bodies.{Begins, begin, Defined, CallsRun, block_runs, clear_bound}
 use Rattle.lowering_simulation.proofs.Starts.{starts}
@@ -74,7 +74,7 @@ module _ (code : PlainCode) (width : ℕ → ℕ) (program : Program) (lowered :
       let back : Values → ℕ → Coming = λ ws l. coming l (returned code waiting free ws) in
       let r = eval_block (calls_of program m) (frame_words d) d.body true free (bind_binders nothing_bound d.binders vs) left in
       let high : Peak = record { frames = length waiting; words = width f + words_of_all width waiting } in
-      and_on code width (At (begin f cs waiting free) left) (Behind (higher high (raised (below width waiting) r.peak)) (answer_coming r.answer back)) (run_coming (raised (below width waiting)) (body_run (calls_of program m) free (Some d) vs left) back)
+      and_on code width (At (begin f cs waiting free) left) (After (higher high (raised (below width waiting) r.peak)) (answer_coming r.answer back)) (run_coming (raised (below width waiting)) (body_run (calls_of program m) free (Some d) vs left) back)
       (block_runs code width program lowered.setting lowered.so defined m run (frame_words d) f own is
       (λ p i e. ap (λ o. instr_in o p) here ∙ ap (λ xs. slice_get xs p) same ∙ e) waiting free
       d.body Return 0 (known_at_start lowered.setting n d) fun.end fun.after (bind_binders nothing_bound d.binders vs) cs left back fun.body

@@ -1,4 +1,4 @@
-// The law on what lowered code does to cells. It is the contract of a function that does nothing.
+// The theorem on what lowered code does to cells. It is the contract of a function that does nothing.
 ghost use Rattle.std.specs.Prelude.{◌≡◌, ◌≢◌, ℕ, List};
 ghost use Rattle.tree_refinement.specs.fip_language.Meaning.{Answer, Stuck};
 ghost use Rattle.tree_refinement.specs.fip_language.Values.{Values};
@@ -21,7 +21,7 @@ ghost use Rattle.lowering_simulation.specs.CellEnds.{EndsAs, IsFunctionOf};
 /// that stand for the arguments: with words that stand for the same values and the same calls left, in the same trap,
 /// or out of calls or frames. For who runs code in place of its program.
 pub fn code_on_cells_means_its_program()
-    ensures law { (c : PlainCode) (before waits : Kinds) (program : Program) →
+    ensures theorem { (c : PlainCode) (before waits : Kinds) (program : Program) →
         AreLowered program (all_instrs (run_code c)) → IsFormed program → IsFilled program → AreDistinct program →
         (g f : ℕ) (arguments : Values) (kept : List ℕ) (s : State) (calls : ℕ) (answer : Answer) →
         IsFunctionOf program g c f → IsStart c before waits f kept s → BeginsWith c f s arguments →

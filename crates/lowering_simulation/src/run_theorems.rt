@@ -1,4 +1,4 @@
-// The laws on runs of lowered code. Each is the contract of a function that does nothing.
+// The theorems on runs of lowered code. Each is the contract of a function that does nothing.
 ghost use Rattle.std.specs.Prelude.{◌≡◌, ◌≢◌, ℕ, suc, Some};
 ghost use Rattle.tree_refinement.specs.fip_language.Meaning.{Answer, Stuck};
 ghost use Rattle.tree_refinement.specs.fip_language.Values.{Values};
@@ -18,7 +18,7 @@ ghost use Rattle.lowering_simulation.specs.Wide.{AreWide};
 /// and calls left, in the same trap, or out of calls or frames. For who runs code in place of its program. It is said
 /// of programs that keep their types.
 pub fn lowered_code_means_its_program()
-    ensures law { (code : PlainCode) (program : Program) → AreLowered program (all_instrs code) →
+    ensures theorem { (code : PlainCode) (program : Program) → AreLowered program (all_instrs code) →
         IsGuarded program → AreDistinct program → (g f : ℕ) (arguments : Values) (calls frames : ℕ)
         (answer : Answer) → function_of program.instances g ≡ Some f → Takes program g arguments →
         (flat_meaning program g arguments calls frames).answer ≡ answer → answer ≢ Stuck →
@@ -27,9 +27,9 @@ pub fn lowered_code_means_its_program()
 
 /// A run on trees of lowered code, with one call at least, has the peak of its evaluation: over all its states the most
 /// frames beside the entry's, and the most words of all frames, where the frame of each function has the words of its
-/// instance's. For who tells how high the stack of a run was, or asks whether two codes of one program differ in this.
+/// instance's. For who reports how high the stack of a run was, or asks whether two codes of one program differ in this.
 pub fn lowered_code_has_the_peak_of_its_program()
-    ensures law { (code : PlainCode) (width : ℕ → ℕ) (program : Program) → AreLowered program (all_instrs code) →
+    ensures theorem { (code : PlainCode) (width : ℕ → ℕ) (program : Program) → AreLowered program (all_instrs code) →
         IsGuarded program → AreDistinct program → AreWide program width → (g f : ℕ) (arguments : Values)
         (calls frames : ℕ) → function_of program.instances g ≡ Some f → Takes program g arguments →
         (flat_meaning program g arguments (suc calls) frames).answer ≢ Stuck →
@@ -39,5 +39,5 @@ pub fn lowered_code_has_the_peak_of_its_program()
 
 /// A run ends in one answer at most. For who asks whether it can end otherwise than its program means.
 pub fn a_tree_run_has_one_end()
-    ensures law { (code : PlainCode) (r : Run) (a b : Answer) → EndsIn code r a → EndsIn code r b → a ≡ b }
+    ensures theorem { (code : PlainCode) (r : Run) (a b : Answer) → EndsIn code r a → EndsIn code r b → a ≡ b }
 {}

@@ -21,7 +21,7 @@ use Rattle.lowering_relation.specs.Known.{Known, register_of}
 use Rattle.lowering_relation.specs.Values.{Setting, is_scalar, BuiltAt, ArgumentAt, ArgumentsAt}
 use Rattle.lowering_relation.specs.Describing.{held_at}
 use Rattle.lowering_soundness.specs.Ties.{owners, own, AllHold, owed, owe, Ties}
-use Rattle.lowering_relation.specs.Labels.{told, Quiet}
+use Rattle.lowering_relation.specs.Labels.{reported, Quiet}
 use Rattle.lowering_soundness.specs.Laid.{Shares, Scoped}
 use Rattle.lowering_soundness.specs.Computed.{Computed}
 use Rattle.lowering_soundness.proofs.Parts.{no_row}
@@ -72,7 +72,7 @@ module _ (c : PlainCode) (f : PlainFunction) (st : Setting) (wd : W.World) (fip 
 
   -- ---- a constructor is built
 
-  built_value : (X : Item → ℕ) (e : ℕ → ℕ) (at : ℕ) (k : Known) (t d : ℕ) (rs : List ℕ) (r end : ℕ) (l : Known) → BuiltAt st f.instrs at k t d rs r end l → is_scalar st t ≡ is_scalar_type c.types t → Ties fip c.types s B K (λ i. paid (length rs) i + X i) (λ q. owed c.types rs (fields c.types t d) q + e q) k → AllHold c.types (held_at k.held) rs (fields c.types t d) → ((z y : ℕ) → K z (Own y) ≤ X (Own y)) → Quiet f at end (told c k) → l.next ≤ length k.held → length k.held ≡ f.registers → Comes X e at k r t end l
+  built_value : (X : Item → ℕ) (e : ℕ → ℕ) (at : ℕ) (k : Known) (t d : ℕ) (rs : List ℕ) (r end : ℕ) (l : Known) → BuiltAt st f.instrs at k t d rs r end l → is_scalar st t ≡ is_scalar_type c.types t → Ties fip c.types s B K (λ i. paid (length rs) i + X i) (λ q. owed c.types rs (fields c.types t d) q + e q) k → AllHold c.types (held_at k.held) rs (fields c.types t d) → ((z y : ℕ) → K z (Own y) ≤ X (Own y)) → Quiet f at end (reported c k) → l.next ≤ length k.held → length k.held ≡ f.registers → Comes X e at k r t end l
   built_value X e at k t d [] r end l (inl h) same ties hold kept quiet room wide =
       atom_reused c f fip s B K X e at k t d r end l h
       (ties_owe fip c.types s B K X (λ q. 0 + e q) e k (λ q. omega arith) (ties_worth fip c.types s B K (λ i. 0 + X i) X (λ q. 0 + e q) k (λ i. omega arith) ties)) kept
@@ -120,7 +120,7 @@ module _ (c : PlainCode) (f : PlainFunction) (st : Setting) (wd : W.World) (fip 
   no_values P X e at k none ties = record {
     grows = omega arith;
     still = λ z q. refl;
-    part = no_row c f at (told c k) (told c k) (λ q. refl);
+    part = no_row c f at (reported c k) (reported c k) (λ q. refl);
     names = refl;
     next = omega arith;
     width = refl;
@@ -147,7 +147,7 @@ module _ (c : PlainCode) (f : PlainFunction) (st : Setting) (wd : W.World) (fip 
       (ties_fits fip c.types s B K (λ i. P i + X i) (λ i. (Q i + R i) + X i) e k ties (λ i. fits_sum fip (P i + X i) (P i) (X i) (Q i + R i) (X i) (fits_same fip (P i + X i)) (split i) (fits_same fip (X i))))
 
   mutual
-    pub argument_value : (P X : Item → ℕ) (e : ℕ → ℕ) (at : ℕ) (k : Known) (a : Argument) (r end : ℕ) (l : Known) (b : Bool) (t : ℕ) → ArgumentAt st f.instrs at k a r end l → HasType true wd s b a t → DerivesValue fip P (value sc ms a) → ((z y : ℕ) → K z (Own y) ≤ X (Own y)) → Ties fip c.types s B K (λ i. P i + X i) e k → Quiet f at end (told c k) → l.next ≤ length k.held → length k.held ≡ f.registers → Comes X e at k r t end l
+    pub argument_value : (P X : Item → ℕ) (e : ℕ → ℕ) (at : ℕ) (k : Known) (a : Argument) (r end : ℕ) (l : Known) (b : Bool) (t : ℕ) → ArgumentAt st f.instrs at k a r end l → HasType true wd s b a t → DerivesValue fip P (value sc ms a) → ((z y : ℕ) → K z (Own y) ≤ X (Own y)) → Ties fip c.types s B K (λ i. P i + X i) e k → Quiet f at end (reported c k) → l.next ≤ length k.held → length k.held ≡ f.registers → Comes X e at k r t end l
     argument_value P X e at k (Variable None n p) r end l b t h typed d kept ties quiet room wide = absurd (none-some (Some t) typed)
     argument_value P X e at k (Variable (Some x) n p) r end l b t h typed d kept ties quiet room wide =
         lists_there X e at k (r ∷ []) (t ∷ []) at end k l (sym h.nothing) (sym h.known)
@@ -164,13 +164,13 @@ module _ (c : PlainCode) (f : PlainFunction) (st : Setting) (wd : W.World) (fip 
         let fields_typed : HaveTypes true wd s true as' (fields c.types t' n) = subst (λ ts. HaveTypes true wd s true as' ts) (ap (λ t. W.fields_of wd t n) (sym typed.0) ∙ field_types t' n) typed.2 in
         let split : Ties fip c.types s B K (λ i. d.0 i + (paid (length rs) i + X i)) e k =
         worth_split P d.0 (paid (length rs)) X e k (λ i. subst (Fits fip (P i)) (swap (paid (length rs) i) (d.0 i)) (subst (λ z. Fits fip (P i) (paid z i + d.0 i)) size (d.1 i))) ties in
-        let parts = arguments_value d.0 (λ i. paid (length rs) i + X i) e at k as' rs mid mk true (fields c.types t' n) h.3 fields_typed d.2 (λ u y. let z = kept u y in omega (arith, z)) split (quiet_front f at mid end (told c k) built.place quiet) (let z = built.next in omega (arith, z, room)) wide in
+        let parts = arguments_value d.0 (λ i. paid (length rs) i + X i) e at k as' rs mid mk true (fields c.types t' n) h.3 fields_typed d.2 (λ u y. let z = kept u y in omega (arith, z)) split (quiet_front f at mid end (reported c k) built.place quiet) (let z = built.next in omega (arith, z, room)) wide in
         let whole = built_value X e mid mk t' n rs r end l h.4 (shares.scalars t' (subst (λ t. Rattle.separation.specs.code_rules.Types.is_type c.types t ≡ true) (sym typed.0) (shares.made b u t typed.1))) parts.ties parts.hold kept
-        (quiet_back f at mid end (told c k) (told c mk) parts.grows quiet parts.still) (let z = parts.width in omega (arith, z, room)) (parts.width ∙ wide) in
+        (quiet_back f at mid end (reported c k) (reported c mk) parts.grows quiet parts.still) (let z = parts.width in omega (arith, z, room)) (parts.width ∙ wide) in
         subst (λ t. Comes X e at k r t end l) typed.0
         (computed_then c f fip s B K (λ i. paid (length rs) i + X i) X e at k rs (fields c.types t' n) mid mk (r ∷ []) (t' ∷ []) end l (λ y. omega arith) parts whole)
 
-    pub arguments_value : (P X : Item → ℕ) (e : ℕ → ℕ) (at : ℕ) (k : Known) (as' : Arguments) (rs : List ℕ) (end : ℕ) (l : Known) (b : Bool) (ts : List ℕ) → ArgumentsAt st f.instrs at k as' rs end l → HaveTypes true wd s b as' ts → DerivesValues fip P (values sc ms as') → ((z y : ℕ) → K z (Own y) ≤ X (Own y)) → Ties fip c.types s B K (λ i. P i + X i) e k → Quiet f at end (told c k) → l.next ≤ length k.held → length k.held ≡ f.registers → Computed c f fip s B K X e at k rs ts end l
+    pub arguments_value : (P X : Item → ℕ) (e : ℕ → ℕ) (at : ℕ) (k : Known) (as' : Arguments) (rs : List ℕ) (end : ℕ) (l : Known) (b : Bool) (ts : List ℕ) → ArgumentsAt st f.instrs at k as' rs end l → HaveTypes true wd s b as' ts → DerivesValues fip P (values sc ms as') → ((z y : ℕ) → K z (Own y) ≤ X (Own y)) → Ties fip c.types s B K (λ i. P i + X i) e k → Quiet f at end (reported c k) → l.next ≤ length k.held → length k.held ≡ f.registers → Computed c f fip s B K X e at k rs ts end l
     arguments_value P X e at k NoArguments [] end l b [] h typed d kept ties quiet room wide =
         lists_there X e at k [] [] at end k l (sym h.0) (sym h.1) (no_values P X e at k d ties)
     arguments_value P X e at k NoArguments [] end l b (t ∷ ts) h typed d kept ties quiet room wide = absurd typed
@@ -181,8 +181,8 @@ module _ (c : PlainCode) (f : PlainFunction) (st : Setting) (wd : W.World) (fip 
         let mid = h.0 in
         let mk = h.1 in
         let later = arguments_grows mid mk as' rs end l h.3 in
-        let first = argument_value d.0 (λ i. d.1 i + X i) e at k a r mid mk b t h.2 typed.0 d.3 (λ u y. let z = kept u y in omega (arith, z)) (worth_split P d.0 d.1 X e k d.2 ties) (quiet_front f at mid end (told c k) later.place quiet) (let z = later.next in omega (arith, z, room)) wide in
+        let first = argument_value d.0 (λ i. d.1 i + X i) e at k a r mid mk b t h.2 typed.0 d.3 (λ u y. let z = kept u y in omega (arith, z)) (worth_split P d.0 d.1 X e k d.2 ties) (quiet_front f at mid end (reported c k) later.place quiet) (let z = later.next in omega (arith, z, room)) wide in
         let rest = arguments_value d.1 X (λ q. owe c.types t r q + e q) mid mk as' rs end l b ts h.3 typed.1 d.4 kept
         (ties_owe fip c.types s B K (λ i. d.1 i + X i) (λ q. owed c.types (r ∷ []) (t ∷ []) q + e q) (λ q. owe c.types t r q + e q) mk (λ q. omega arith) first.ties)
-        (quiet_back f at mid end (told c k) (told c mk) first.grows quiet first.still) (let z = first.width in omega (arith, z, room)) (first.width ∙ wide) in
+        (quiet_back f at mid end (reported c k) (reported c mk) first.grows quiet first.still) (let z = first.width in omega (arith, z, room)) (first.width ∙ wide) in
         computed_both c f fip s B K (λ i. d.1 i + X i) X e at k r t mid mk rs ts end l (λ y. omega arith) first rest

@@ -1,4 +1,4 @@
--- Arguments are computed: each instruction is as asked, and behind them what is known goes with the variables that are
+-- Arguments are computed: each instruction is as asked, and after them what is known goes with the variables that are
 -- still owned and with the registers of the arguments.
 use Rattle.std.proofs.Common.{◌≡◌, ◌⊎◌, inl, inr, ℕ, zero, suc, ◌+◌, ◌<◌, ◌≤◌, Bool, true, false, List, [], ◌∷◌, length, Some, refl, sym, ap, ◌∙◌, subst, true≢false, arith, slice_get, if◌then◌else◌, ◌==◌}
 use Rattle.std.proofs.lemmas.Option.{none-some}
@@ -15,7 +15,7 @@ use Rattle.lowering_relation.specs.Known.{Known}
 use Rattle.lowering_relation.specs.Values.{built_if}
 use Rattle.lowering_relation.specs.Describing.{Holding, held_at}
 use Rattle.lowering_soundness.specs.Giving.{is_owned_of, atom_held}
-use Rattle.lowering_relation.specs.Labels.{Tells, Shows, told, Quiet}
+use Rattle.lowering_relation.specs.Labels.{Reports, Shows, reported, Quiet}
 use Rattle.lowering_soundness.specs.Ties.{one_if, owners, own, HoldsValue, AllHold, owe, owed, Stays, Ties}
 use Rattle.lowering_soundness.specs.Computed.{Computed}
 use Rattle.lowering_soundness.proofs.Giving.{owned_tree}
@@ -41,12 +41,12 @@ quiet_back f a b d m l le q same = record {
     at_most = grind (arith, le)
 
     first : b < d → Shows f b l
-    first h map there = elim at_most as (λ v. Tells f.registers map l) [
+    first h map there = elim at_most as (λ v. Reports f.registers map l) [
       | inl e ↦ here e (q.first (let z = e in omega (arith, h, z)) map (subst (λ p. label_at f.labels p ≡ Some map) (sym e) there))
       | inr less ↦ absurd (none-some map (sym (q.others b less h) ∙ there))
     ]
       where
-        here : a ≡ b → Tells f.registers map m → Tells f.registers map l
+        here : a ≡ b → Reports f.registers map m → Reports f.registers map l
         here e t = record { wide = t.wide; each = λ r. t.each r ∙ same e r }
 
 -- ---- types
@@ -125,7 +125,7 @@ module _ (c : PlainCode) (f : PlainFunction) (fip : Bool) (s : Scope) (B : ℕ �
       record {
         grows = omega (arith, low, high);
         still = λ z r. (let p : at ≡ mid = omega (arith, low, high, z) in let q : mid ≡ end = omega (arith, low, high, z) in a.still p r ∙ b.still q r);
-        part = both_parts c f at mid end (told c k) (told c m) (told c l) a.part b.part;
+        part = both_parts c f at mid end (reported c k) (reported c m) (reported c l) a.part b.part;
         names = b.names ∙ a.names;
         next = (let x = a.next in let y = b.next in omega (arith, x, y));
         width = b.width ∙ a.width;
@@ -145,7 +145,7 @@ module _ (c : PlainCode) (f : PlainFunction) (fip : Bool) (s : Scope) (B : ℕ �
       record {
         grows = omega (arith, low, high);
         still = λ z r. (let p : at ≡ mid = omega (arith, low, high, z) in let q : mid ≡ end = omega (arith, low, high, z) in x.still p r ∙ y.still q r);
-        part = both_parts c f at mid end (told c k) (told c m) (told c l) x.part y.part;
+        part = both_parts c f at mid end (reported c k) (reported c m) (reported c l) x.part y.part;
         names = y.names ∙ x.names;
         next = (let p = x.next in let q = y.next in omega (arith, p, q));
         width = y.width ∙ x.width;

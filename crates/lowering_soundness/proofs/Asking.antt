@@ -12,7 +12,7 @@ use Rattle.lowering_relation.specs.fip_trees.Tree.{Expression, Give, Tuple, Oper
 use Rattle.derivation_making.specs.fip_rules.Marks.{Mark}
 use Rattle.derivation_making.specs.fip_rules.World as R
 use Rattle.derivation_making.specs.fip_rules.World.{lends, lends_to, lends_parameter}
-use Rattle.derivation_making.specs.fip_rules.Shapes.{Names, behind, shape, binders, takes}
+use Rattle.derivation_making.specs.fip_rules.Shapes.{Names, following, shape, binders, takes}
 use Rattle.derivation_making.specs.type_check.Binders.{all_annotated, entries}
 use Rattle.derivation_making.specs.type_check.Scope.{Scope, of_binder}
 use Rattle.derivation_making.specs.type_check.World as W
@@ -25,7 +25,7 @@ use Rattle.derivation_making.specs.ownership_agreement.Bodies.{Scalars, variable
 use Rattle.derivation_making.proofs.ownership_agreement.Basics.{not_owned}
 use Rattle.derivation_making.proofs.ownership_agreement.Amounts.{max_greater, header_given, gives, gives_given, asks_of, asks_last, asks_more}
 use Rattle.derivation_making.proofs.Linking.{next_inside}
-use Rattle.derivation_making.proofs.Reading.{next_behind, next_past}
+use Rattle.derivation_making.proofs.Reading.{next_after, next_past}
 use Rattle.separation.specs.code_rules.Codes.{PlainCode}
 use Rattle.separation.specs.code_rules.Types.{is_type, is_scalar_type}
 use Rattle.separation.proofs.separation_kinds.Basics.{refused, or_not, equal, itself}
@@ -101,11 +101,11 @@ module _ (c : PlainCode) (st : Setting) (wd : W.World) (w : R.World) (shares : S
       ap (λ es. of_binder (z ++ es) (Some x)) (bound_is c st wd w shares callees q t pattern ∙ sym (entries_slots (binders q)))
       ∙ scope_later z n.next (binders q) (slots (binders q)) x order low
 
-  pub later : (n : Names) (e : Expression) → n.next ≤ (behind n (shape w n e)).next
-  later n e = let z = next_behind w n e in omega (arith, z)
+  pub later : (n : Names) (e : Expression) → n.next ≤ (following n (shape w n e)).next
+  later n e = let z = next_after w n e in omega (arith, z)
 
-  behind_placed : (s : Scope) (sc : Scalars) (n : Names) (e : Expression) → Placed c s sc n → Placed c s sc (behind n (shape w n e))
-  behind_placed s sc n e p = record {
+  after_placed : (s : Scope) (sc : Scalars) (n : Names) (e : Expression) → Placed c s sc n → Placed c s sc (following n (shape w n e))
+  after_placed s sc n e p = record {
     seen = p.seen;
     scalar = p.scalar;
     before = λ x t h. (let z = p.before x t h in let more = later n e in omega (arith, z, more));
@@ -120,15 +120,15 @@ module _ (c : PlainCode) (st : Setting) (wd : W.World) (w : R.World) (shares : S
     typed = p.typed;
   }
 
-  let_placed : (z : Scope) (sc : Scalars) (n : Names) (e : Expression) (bs : List Binder) (us : List ℕ) → Placed c z sc n → InOrder (behind n (shape w n e)).next bs → Bind true bs us → AreTypes c us → Placed c (z ++ entries bs (map Some us)) (entering w (behind n (shape w n e)).next sc bs) (inside w true (behind n (shape w n e)) bs)
+  let_placed : (z : Scope) (sc : Scalars) (n : Names) (e : Expression) (bs : List Binder) (us : List ℕ) → Placed c z sc n → InOrder (following n (shape w n e)).next bs → Bind true bs us → AreTypes c us → Placed c (z ++ entries bs (map Some us)) (entering w (following n (shape w n e)).next sc bs) (inside w true (following n (shape w n e)) bs)
   let_placed z sc n e bs us placed order bind types =
-      subst (λ es. Placed c (z ++ es) (entering w (behind n (shape w n e)).next sc bs) (inside w true (behind n (shape w n e)) bs)) (sym (entries_same bs us bind))
-      (some_placed c w callees.scalars true z sc (behind n (shape w n e)) bs us (behind_placed z sc n e placed) order (bind_slots c bs us bind types))
+      subst (λ es. Placed c (z ++ es) (entering w (following n (shape w n e)).next sc bs) (inside w true (following n (shape w n e)) bs)) (sym (entries_same bs us bind))
+      (some_placed c w callees.scalars true z sc (following n (shape w n e)) bs us (after_placed z sc n e placed) order (bind_slots c bs us bind types))
 
-  pub let_scope : (z : Scope) (n : Names) (e : Expression) (bs : List Binder) (us : List ℕ) (x : ℕ) → InOrder (behind n (shape w n e)).next bs → Bind true bs us → x < (behind n (shape w n e)).next → of_binder (z ++ entries bs (map Some us)) (Some x) ≡ of_binder z (Some x)
+  pub let_scope : (z : Scope) (n : Names) (e : Expression) (bs : List Binder) (us : List ℕ) (x : ℕ) → InOrder (following n (shape w n e)).next bs → Bind true bs us → x < (following n (shape w n e)).next → of_binder (z ++ entries bs (map Some us)) (Some x) ≡ of_binder z (Some x)
   let_scope z n e bs us x order bind low =
       ap (λ es. of_binder (z ++ es) (Some x)) (entries_same bs us bind)
-      ∙ scope_later z (behind n (shape w n e)).next bs us x order low
+      ∙ scope_later z (following n (shape w n e)).next bs us x order low
 
   -- ---- variables
 
@@ -281,7 +281,7 @@ module _ (c : PlainCode) (st : Setting) (wd : W.World) (w : R.World) (shares : S
     block_asks z sc n N placed b (Let bs e rest) ts x low typed num used = elim (either (used_in st.instances x e) (used_in_block st.instances x rest) used) as (λ v. Asked z x (asks (Own x) (term_block w sc n (Let bs e rest)))) [
       | inl y ↦ more_asked z x (asks (Own x) (term w sc n e)) (asks (Own x) (term_block w sc n (Let bs e rest))) (omega arith) (used_asks z sc n N placed (all_annotated bs) e typed.0 x low typed.1 num.2 y)
       | inr y ↦
-          (let n1 = behind n (shape w n e) in
+          (let n1 = following n (shape w n e) in
           let more = later n e in
           let types = expression_types c st wd w shares callees z (all_annotated bs) e typed.0 placed.typed typed.1 in
           let inner = term_block w (entering w n1.next sc bs) (inside w true n1 bs) rest in
@@ -353,7 +353,7 @@ module _ (c : PlainCode) (st : Setting) (wd : W.World) (w : R.World) (shares : S
     block_needs : (k : ℕ) → 0 < k → (z : Scope) (sc : Scalars) (n : Names) (N : ℕ) → Placed c z sc n → (b : Bool) (d : Block) (ts : List ℕ) → TypesBlock true wd z b d ts → NumberedBlock w N n d → need_block st k d ≤ asks (Credit k) (term_block w sc n d)
     block_needs k h z sc n N placed b (Last e) ts typed num = needs_asks k h z sc n N placed b e ts typed num
     block_needs k h z sc n N placed b (Let bs e rest) ts typed num =
-        let n1 = behind n (shape w n e) in
+        let n1 = following n (shape w n e) in
         let types = expression_types c st wd w shares callees z (all_annotated bs) e typed.0 placed.typed typed.1 in
         let first = needs_asks k h z sc n N placed (all_annotated bs) e typed.0 typed.1 num.2 in
         let last = block_needs k h (z ++ entries bs (map Some typed.0)) (entering w n1.next sc bs) (inside w true n1 bs) N (let_placed z sc n e bs typed.0 placed num.0 typed.2 types) b rest ts typed.3 num.3 in

@@ -9,7 +9,7 @@ use Rattle.lowering_relation.specs.declared.held.Held.{Held}
 use Rattle.lowering_relation.specs.declared.held.Held.TheVariants as H
 use Rattle.lowering_relation.specs.Known.{Known, holding}
 use Rattle.lowering_relation.specs.Describing.{Holding, held_at, kinds_of, setting, is_tree}
-use Rattle.lowering_relation.specs.Labels.{told, Quiet}
+use Rattle.lowering_relation.specs.Labels.{reported, Quiet}
 use Rattle.lowering_relation.specs.GivenUp.{EndsBare, GivesUp}
 use Rattle.lowering_relation.specs.Matches.{widened}
 use Rattle.lowering_soundness.specs.Giving.{is_credit_of}
@@ -91,8 +91,8 @@ barely_hold w g h (r ∷ rs) (t ∷ ts) x all = (by (x r), barely_hold w g h rs 
 module _ (c : PlainCode) (f : PlainFunction) (fip : Bool) (s : Scope) (B : ℕ → Bool) (K : ℕ → Item → ℕ) (T : Item → ℕ) (e : ℕ → ℕ) (kept : Kept K T) where
   pub record Bared (at : ℕ) (k : Known) (end : ℕ) (l : Known) : Type 0 where
     pub grows : at ≤ end
-    pub still : at ≡ end → (r : ℕ) → told c k r ≡ told c l r
-    pub part : Part c f at (told c k) end (told c l)
+    pub still : at ≡ end → (r : ℕ) → reported c k r ≡ reported c l r
+    pub part : Part c f at (reported c k) end (reported c l)
     pub names : l.names ≡ k.names
     pub credits : l.credits ≡ k.credits
     pub next : l.next ≡ k.next
@@ -100,12 +100,12 @@ module _ (c : PlainCode) (f : PlainFunction) (fip : Bool) (s : Scope) (B : ℕ �
     pub ties : Ties fip c.types s B K T e l
     pub each : Barely (held_at k.held) (held_at l.held)
 
-  pub bared_one : (at : ℕ) (k l : Known) → EndsBare f at k l → Ties fip c.types s B K T e k → Quiet f at (suc at) (told c k) → Bared at k (suc at) l
+  pub bared_one : (at : ℕ) (k l : Known) → EndsBare f at k l → Ties fip c.types s B K T e k → Quiet f at (suc at) (reported c k) → Bared at k (suc at) l
   bared_one at k l h ties quiet = subst (Bared at k (suc at)) (sym h.known) (record {
     grows = omega arith;
     still = λ z q. absurd (let y : ⊥ = omega (arith, z) in y);
-    part = subst (λ x. Part c f at (told c k) (suc at) (kinds_of c.types x)) (sym held)
-        (one_row c f at (told c k) (kinds_of c.types (setting g r H.Nothing)) (I.Take r []) h.written refl (bare_row c f g r h.type h.constructor h.held (ties.bares r h.type h.constructor h.held).1 (lends_nothing g r ties.rooted none)) (quiet.first (omega arith)));
+    part = subst (λ x. Part c f at (reported c k) (suc at) (kinds_of c.types x)) (sym held)
+        (one_row c f at (reported c k) (kinds_of c.types (setting g r H.Nothing)) (I.Take r []) h.written refl (bare_row c f g r h.type h.constructor h.held (ties.bares r h.type h.constructor h.held).1 (lends_nothing g r ties.rooted none)) (quiet.first (omega arith)));
     names = refl;
     credits = refl;
     next = refl;
@@ -153,7 +153,7 @@ module _ (c : PlainCode) (f : PlainFunction) (fip : Bool) (s : Scope) (B : ℕ �
       record {
         grows = omega (arith, a, b);
         still = λ z r. (let p : at ≡ mid = omega (arith, a, b, z) in let q : mid ≡ end = omega (arith, a, b, z) in x.still p r ∙ y.still q r);
-        part = both_parts c f at mid end (told c k) (told c m) (told c l) x.part y.part;
+        part = both_parts c f at mid end (reported c k) (reported c m) (reported c l) x.part y.part;
         names = y.names ∙ x.names;
         credits = y.credits ∙ x.credits;
         next = y.next ∙ x.next;
@@ -162,11 +162,11 @@ module _ (c : PlainCode) (f : PlainFunction) (fip : Bool) (s : Scope) (B : ℕ �
         each = barely_on (held_at k.held) (held_at m.held) (held_at l.held) x.each y.each;
       }
 
-  pub bared : (n at : ℕ) (k : Known) (end : ℕ) (l : Known) → GivesUp true f n at k end l → Ties fip c.types s B K T e k → Quiet f at end (told c k) → Bared at k end l
+  pub bared : (n at : ℕ) (k : Known) (end : ℕ) (l : Known) → GivesUp true f n at k end l → Ties fip c.types s B K T e k → Quiet f at end (reported c k) → Bared at k end l
   bared zero at k end l h ties quiet = subst₂ (Bared at k) (sym h.0) (sym h.1) (record {
     grows = omega arith;
     still = λ z q. refl;
-    part = no_row c f at (told c k) (told c k) (λ q. refl);
+    part = no_row c f at (reported c k) (reported c k) (λ q. refl);
     names = refl;
     credits = refl;
     next = refl;
@@ -176,6 +176,6 @@ module _ (c : PlainCode) (f : PlainFunction) (fip : Bool) (s : Scope) (B : ℕ �
   })
   bared (suc n) at k end l (m, inl one, rest) ties quiet =
       let grows = gives_grow f true n (suc at) m end l rest in
-      let first = bared_one at k m one ties (quiet_front f at (suc at) end (told c k) grows quiet) in
-      bared_on at k (suc at) m end l first (bared n (suc at) m end l rest first.ties (quiet_back f at (suc at) end (told c k) (told c m) first.grows quiet first.still))
+      let first = bared_one at k m one ties (quiet_front f at (suc at) end (reported c k) grows quiet) in
+      bared_on at k (suc at) m end l first (bared n (suc at) m end l rest first.ties (quiet_back f at (suc at) end (reported c k) (reported c m) first.grows quiet first.still))
   bared (suc n) at k end l (m, inr one, rest) ties quiet = absurd (true≢false one.0)

@@ -1,4 +1,4 @@
--- Expressions and blocks: their instructions keep the rules, and what is known behind them goes with the variables.
+-- Expressions and blocks: their instructions keep the rules, and what is known after them goes with the variables.
 use Rattle.std.proofs.Common.{◌≡◌, inl, inr, ℕ, suc, ◌+◌, ◌-◌, ◌<◌, ◌≤◌, Bool, true, false, ◌||◌, ◌&&◌, not, true≢false, slice_get, List, [], ◌∷◌, ◌++◌, length, map, Option, Some, refl, sym, ap, ◌∙◌, subst, arith, if◌then◌else◌}
 use Rattle.separation.specs.fip_language.Every.{Among}
 use Rattle.lowering_relation.specs.fip_trees.declared.program.Binder.{Binder}
@@ -6,7 +6,7 @@ use Rattle.lowering_relation.specs.fip_trees.Tree.{Argument, Variable, Literal, 
 use Rattle.separation.specs.cell_code.declared.kind.Kind.{Kind}
 use Rattle.lowering_relation.specs.fip_trees.Tree.{Expression, Give, Tuple, Operation, Call, Match, Nested, Block, Last, Let}
 use Rattle.derivation_making.specs.fip_rules.World as R
-use Rattle.derivation_making.specs.fip_rules.Shapes.{Names, behind, shape, binders, takes}
+use Rattle.derivation_making.specs.fip_rules.Shapes.{Names, following, shape, binders, takes}
 use Rattle.derivation_making.specs.type_check.Binders.{all_annotated, entries}
 use Rattle.derivation_making.specs.type_check.Scope.{Scope, of_binder}
 use Rattle.derivation_making.specs.type_check.World as W
@@ -22,7 +22,7 @@ use Rattle.derivation_making.proofs.ownership_calculus.Fit.{fits_le, fits_same, 
 use Rattle.derivation_making.specs.ownership_agreement.Bodies.{Scalars, variables, entering, inside, term, term_block, clauses, nodes, past_clause}
 use Rattle.derivation_making.proofs.ownership_agreement.Basics.{not_owned}
 use Rattle.derivation_making.proofs.Linking.{next_inside}
-use Rattle.derivation_making.proofs.Reading.{next_behind, next_past}
+use Rattle.derivation_making.proofs.Reading.{next_after, next_past}
 use Rattle.separation.specs.code_rules.Codes.{PlainCode, PlainFunction}
 use Rattle.separation.specs.code_rules.Types.{is_type, is_scalar_type}
 use Rattle.separation.proofs.separation_kinds.Basics.{refused, or_not, less_or_not}
@@ -38,7 +38,7 @@ use Rattle.lowering_relation.specs.Describing.{held_at, is_tree}
 use Rattle.lowering_soundness.specs.Parts.{Part, LastPart}
 use Rattle.lowering_relation.specs.Joins.{Meets}
 use Rattle.lowering_soundness.specs.Ties.{one_if, owners, own, sized, AllHold, owed, Ties}
-use Rattle.lowering_relation.specs.Labels.{told}
+use Rattle.lowering_relation.specs.Labels.{reported}
 use Rattle.lowering_relation.specs.Credits.{of_size, LastGone}
 use Rattle.lowering_relation.specs.Uses.{is_number, uses, used_in, used_in_block, used_in_clauses, gives_credits, need, need_block, need_clauses}
 use Rattle.lowering_relation.specs.Leftover.{IsUnused}
@@ -113,7 +113,7 @@ waiting_among k (d ∷ ds) r w (inl e) = (ap (held_at k.held) e ∙ w.0, (let z 
 waiting_among k (d ∷ ds) r w (inr m) = waiting_among k ds r w.3 m
 
 module _ (c : PlainCode) (f : PlainFunction) (st : Setting) (wd : W.World) (w : R.World) (fip : Bool) (shares : Shares c st wd) (callees : Callees c st wd w) (N : ℕ) where
-  -- ---- what a let binds is behind, and its variables come into scope
+  -- ---- what a let binds is after, and its variables come into scope
 
   pub record Entered (s : Scope) (sc : Scalars) (n : Names) (bs : List Binder) (us : List ℕ) (B : ℕ → Bool) (K : ℕ → Item → ℕ) (Q X : Item → ℕ) (l : Known) : Type 0 where
     pub placed : Placed c (s ++ entries bs (map Some us)) (entering w n.next sc bs) (inside w true n bs)
@@ -145,7 +145,7 @@ module _ (c : PlainCode) (f : PlainFunction) (st : Setting) (wd : W.World) (w : 
       unchanged : (x u : ℕ) → of_binder s (Some x) ≡ Some (Some u) → O.setting (variables w n.next bs) false B x ≡ B x
       unchanged x u h = refused (has (variables w n.next bs) x) false (B x) (not_owned w n.next x bs (placed.before x u h))
 
-      -- behind the binders' numbers nothing is owned
+      -- after the binders' numbers nothing is owned
       beyond : (y m : ℕ) (ds : List Binder) → m + length ds ≤ y → has (variables w m ds) y ≡ false
       beyond y m [] low = refl
       beyond y m (d ∷ ds) low = one (w.scalar d.ty) (beyond y (suc m) ds (omega (arith, low)))
@@ -157,20 +157,20 @@ module _ (c : PlainCode) (f : PlainFunction) (st : Setting) (wd : W.World) (w : 
       fewer : (y : ℕ) → n.next + length bs ≤ y → NoneFrom n.next R → Q (Own y) ≡ 0
       fewer y low none = (let a = fits_le fip (R (Own y)) (Q (Own y)) (opens.others y (beyond y n.next bs low)) in let b = none y (omega (arith, low)) in omega (arith, a, b))
 
-  -- ---- names behind a part
+  -- ---- names after a part
 
-  pub behind_placed : (s : Scope) (sc : Scalars) (n : Names) (e : Expression) → n.next ≤ (behind n (shape w n e)).next → Placed c s sc n → Placed c s sc (behind n (shape w n e))
-  behind_placed s sc n e more p = record {
+  pub after_placed : (s : Scope) (sc : Scalars) (n : Names) (e : Expression) → n.next ≤ (following n (shape w n e)).next → Placed c s sc n → Placed c s sc (following n (shape w n e))
+  after_placed s sc n e more p = record {
     seen = p.seen;
     scalar = p.scalar;
     before = λ x t h. (let z = p.before x t h in omega (arith, z, more));
     typed = p.typed;
   }
 
-  pub later : (n : Names) (e : Expression) → n.next ≤ (behind n (shape w n e)).next
-  later n e = let z = next_behind w n e in omega (arith, z)
+  pub later : (n : Names) (e : Expression) → n.next ≤ (following n (shape w n e)).next
+  later n e = let z = next_after w n e in omega (arith, z)
 
-  pub none_later : (n : Names) (e : Expression) (T : Item → ℕ) → NoneFrom n.next T → NoneFrom (behind n (shape w n e)).next T
+  pub none_later : (n : Names) (e : Expression) (T : Item → ℕ) → NoneFrom n.next T → NoneFrom (following n (shape w n e)).next T
   none_later n e T h y low = h y (let z = later n e in omega (arith, z, low))
 
   -- what is owned in three parts
@@ -200,7 +200,7 @@ module _ (c : PlainCode) (f : PlainFunction) (st : Setting) (wd : W.World) (w : 
       ties_within fip c.types s s (lending B R) B (lent_in B K R) K T e k t (λ x u h. h)
       (λ x u h b. (ap (λ b. b || Rattle.std.specs.Prelude.nat_lt 0 (R (Own x))) b, sym (Rattle.separation.proofs.separation_kinds.Basics.chosen (B x) (K x) R b)))
 
-  -- ---- what is behind an expression
+  -- ---- what is after an expression
 
   -- the same, where less is borrowed
   comp_plain : (s : Scope) (C B : ℕ → Bool) (L K : ℕ → Item → ℕ) (Y : Item → ℕ) (at : ℕ) (k : Known) (rs us : List ℕ) (mid : ℕ) (m : Known) → Computed c f fip s C L Y (λ q. 0) at k rs us mid m → Ties fip c.types s B K Y (λ q. owed c.types rs us q + 0) m → Computed c f fip s B K Y (λ q. 0) at k rs us mid m
@@ -224,7 +224,7 @@ module _ (c : PlainCode) (f : PlainFunction) (st : Setting) (wd : W.World) (w : 
       let b = rest.grows in
       record {
         grows = omega (arith, a, b);
-        part = both_parts c f at mid end (told c k) (told c m) (told c l) h.part rest.part;
+        part = both_parts c f at mid end (reported c k) (reported c m) (reported c l) h.part rest.part;
         next = (let x = h.next in let y = rest.next in omega (arith, x, y));
         width = rest.width ∙ h.width;
         names = rest.names ∙ (length_all_named m.names bs rs ∙ ap length h.names);
@@ -242,7 +242,7 @@ module _ (c : PlainCode) (f : PlainFunction) (st : Setting) (wd : W.World) (w : 
       let b = rest.grows in
       record {
         grows = omega (arith, a, b);
-        part = both_parts c f at mid end (told c k) (told c m) (told c l) h.part rest.part;
+        part = both_parts c f at mid end (reported c k) (reported c m) (reported c l) h.part rest.part;
         next = (let x = h.next in let y = rest.next in omega (arith, x, y, more));
         width = rest.width ∙ h.width;
         names = rest.names ∙ (length_all_named m.names bs rs ∙ h.names);
@@ -275,10 +275,10 @@ module _ (c : PlainCode) (f : PlainFunction) (st : Setting) (wd : W.World) (w : 
   named_last at k (Nested body) rs mid m h = absurd h
 
   -- variables in scope stand before those of a let's binders
-  before_let : (s : Scope) (sc : Scalars) (n : Names) (e : Expression) → Placed c s sc n → (x u : ℕ) → of_binder s (Some x) ≡ Some (Some u) → x < (behind n (shape w n e)).next
+  before_let : (s : Scope) (sc : Scalars) (n : Names) (e : Expression) → Placed c s sc n → (x u : ℕ) → of_binder s (Some x) ≡ Some (Some u) → x < (following n (shape w n e)).next
   before_let s sc n e placed x u o = let a = placed.before x u o in let b = later n e in omega (arith, a, b)
 
-  none_let : (n : Names) (e : Expression) (R X : Item → ℕ) → NoneFrom (behind n (shape w n e)).next (λ i. R i + X i) → NoneFrom (behind n (shape w n e)).next X
+  none_let : (n : Names) (e : Expression) (R X : Item → ℕ) → NoneFrom (following n (shape w n e)).next (λ i. R i + X i) → NoneFrom (following n (shape w n e)).next X
   none_let n e R X none y low = let a = none y low in omega (arith, a)
 
   pub registers_apart : (k : Known) (bs : List Binder) (r : ℕ) → suc r ≤ k.next → Among r (registers_for k.next bs) → ⊥
@@ -297,14 +297,14 @@ module _ (c : PlainCode) (f : PlainFunction) (st : Setting) (wd : W.World) (w : 
   meets_spares : (met l : Known) (n : ℕ) → l ≡ record met { next = n } → Spares met l
   meets_spares met l n e r = inl (ap (λ (l : Known). held_at l.held r) e)
 
-  match_delivered : (o : Expression) (s : Scope) (B : ℕ → Bool) (K : ℕ → Item → ℕ) (X : Item → ℕ) (at : ℕ) (k : Known) (begin : ℕ) (k0 l1 met : Known) (ds ts : List ℕ) (end : ℕ) (l : Known) → at ≤ begin → Part c f at (told c k) begin (told c k0) → length k0.names ≡ length k.names → length k0.held ≡ length k.held → k0.next ≡ k.next → Keeps s X k k0 → ((r : ℕ) → suc r ≤ k.next → held_at k.held r ≡ H.Nothing → held_at k0.held r ≡ H.Nothing) → k0.next ≤ l1.next → length l1.names ≡ length k0.names → length l1.held ≡ length k0.held → Keeps s X k0 l1 → ((r : ℕ) → suc r ≤ k0.next → held_at k0.held r ≡ H.Nothing → held_at l1.held r ≡ H.Nothing) → Arrived st o fip c.types s B K X l1 k0.next ds ts met → Meets f met end l → Part c f begin (told c k0) end (told c l) → Delivered c f fip s B K X at k ds ts end l
+  match_delivered : (o : Expression) (s : Scope) (B : ℕ → Bool) (K : ℕ → Item → ℕ) (X : Item → ℕ) (at : ℕ) (k : Known) (begin : ℕ) (k0 l1 met : Known) (ds ts : List ℕ) (end : ℕ) (l : Known) → at ≤ begin → Part c f at (reported c k) begin (reported c k0) → length k0.names ≡ length k.names → length k0.held ≡ length k.held → k0.next ≡ k.next → Keeps s X k k0 → ((r : ℕ) → suc r ≤ k.next → held_at k.held r ≡ H.Nothing → held_at k0.held r ≡ H.Nothing) → k0.next ≤ l1.next → length l1.names ≡ length k0.names → length l1.held ≡ length k0.held → Keeps s X k0 l1 → ((r : ℕ) → suc r ≤ k0.next → held_at k0.held r ≡ H.Nothing → held_at l1.held r ≡ H.Nothing) → Arrived st o fip c.types s B K X l1 k0.next ds ts met → Meets f met end l → Part c f begin (reported c k0) end (reported c l) → Delivered c f fip s B K X at k ds ts end l
   match_delivered o s B K X at k begin k0 l1 met ds ts end l grows part names0 wide0 next0 keeps0 empty0 next1 names1 wide1 keeps1 empty1 arrived meets code =
       let last = code.grows in
       let a = arrived.grows in
       let b = meets.more in
       subst (Delivered c f fip s B K X at k ds ts end) (sym meets.known) (record {
         grows = omega (arith, grows, last);
-        part = subst (λ l. Part c f at (told c k) end (told c l)) meets.known (both_parts c f at begin end (told c k) (told c k0) (told c l) part code);
+        part = subst (λ l. Part c f at (reported c k) end (reported c l)) meets.known (both_parts c f at begin end (reported c k) (reported c k0) (reported c l) part code);
         next = omega (arith, next0, next1, a, b);
         width = arrived.width ∙ (wide1 ∙ wide0);
         names = arrived.names ∙ (names1 ∙ names0);
@@ -367,14 +367,14 @@ module _ (c : PlainCode) (f : PlainFunction) (st : Setting) (wd : W.World) (w : 
   pub past_below : (n : Names) (taken : Bool) (q : Pattern) (body : Block) (l : Known) → Below l n.next → Below l (past_clause w taken n q body).next
   past_below n taken q body l below = below_more l n.next (past_clause w taken n q body).next (let past = next_past w taken n q body in omega (arith, past)) below
 
-  pub let_below_later : (n : Names) (e : Expression) (bs : List Binder) (rs : List ℕ) (m : Known) → InOrder (behind n (shape w n e)).next bs → Below m (behind n (shape w n e)).next → Below (with_names m bs rs) (inside w true (behind n (shape w n e)) bs).next
+  pub let_below_later : (n : Names) (e : Expression) (bs : List Binder) (rs : List ℕ) (m : Known) → InOrder (following n (shape w n e)).next bs → Below m (following n (shape w n e)).next → Below (with_names m bs rs) (inside w true (following n (shape w n e)) bs).next
   let_below_later n e bs rs m order below =
-      let n1 = behind n (shape w n e) in
+      let n1 = following n (shape w n e) in
       let next = next_inside w true n1 bs in
       lets_below bs rs m n1.next (inside w true n1 bs).next order (omega (arith, next)) (below_more m n1.next (inside w true n1 bs).next (omega (arith, next)) below)
 
-  pub let_below : (n : Names) (e : Expression) (bs : List Binder) (rs : List ℕ) (m : Known) → InOrder (behind n (shape w n e)).next bs → Below m n.next → Below (with_names m bs rs) (inside w true (behind n (shape w n e)) bs).next
-  let_below n e bs rs m order below = let_below_later n e bs rs m order (below_more m n.next (behind n (shape w n e)).next (later n e) below)
+  pub let_below : (n : Names) (e : Expression) (bs : List Binder) (rs : List ℕ) (m : Known) → InOrder (following n (shape w n e)).next bs → Below m n.next → Below (with_names m bs rs) (inside w true (following n (shape w n e)) bs).next
+  let_below n e bs rs m order below = let_below_later n e bs rs m order (below_more m n.next (following n (shape w n e)).next (later n e) below)
 
   -- ---- what is owned beside a match
 
@@ -572,12 +572,12 @@ module _ (c : PlainCode) (f : PlainFunction) (st : Setting) (wd : W.World) (w : 
   named_stay weak s sc n B K placed P X at k (Nested body) rs mid m b us h typed d kept ties wide r tree none = absurd h
 
   -- a register that a let's bound expression doesn't use isn't used in what follows, where it isn't one of its own
-  let_unused : (s : Scope) (sc : Scalars) (n : Names) (e : Expression) (bs : List Binder) (us : List ℕ) (B : ℕ → Bool) (K : ℕ → Item → ℕ) (R Q X : Item → ℕ) (rest : Block) (b : Bool) (ts : List ℕ) (m k : Known) (ds rs : List ℕ) (r x : ℕ) → Types true wd s (all_annotated bs) e us → Bind true bs us → InOrder (behind n (shape w n e)).next bs → NumberedBlock w N (inside w true (behind n (shape w n e)) bs) rest → TypesBlock true wd (s ++ entries bs (map Some us)) b rest ts → Placed c (s ++ entries bs (map Some us)) (entering w (behind n (shape w n e)).next sc bs) (inside w true (behind n (shape w n e)) bs) → Below m (behind n (shape w n e)).next → Below (with_names m bs rs) (inside w true (behind n (shape w n e)) bs).next → Keeps s (λ i. R i + X i) (reserved k bs) m → (Among r rs → ⊥) → ((x : ℕ) → register_of k.names (Some x) ≡ Some r → (used_in st.instances x e || used_in_block st.instances x rest) ≡ false) → register_of (with_names m bs rs).names (Some x) ≡ Some r → used_in_block st.instances x rest ≡ false
+  let_unused : (s : Scope) (sc : Scalars) (n : Names) (e : Expression) (bs : List Binder) (us : List ℕ) (B : ℕ → Bool) (K : ℕ → Item → ℕ) (R Q X : Item → ℕ) (rest : Block) (b : Bool) (ts : List ℕ) (m k : Known) (ds rs : List ℕ) (r x : ℕ) → Types true wd s (all_annotated bs) e us → Bind true bs us → InOrder (following n (shape w n e)).next bs → NumberedBlock w N (inside w true (following n (shape w n e)) bs) rest → TypesBlock true wd (s ++ entries bs (map Some us)) b rest ts → Placed c (s ++ entries bs (map Some us)) (entering w (following n (shape w n e)).next sc bs) (inside w true (following n (shape w n e)) bs) → Below m (following n (shape w n e)).next → Below (with_names m bs rs) (inside w true (following n (shape w n e)) bs).next → Keeps s (λ i. R i + X i) (reserved k bs) m → (Among r rs → ⊥) → ((x : ℕ) → register_of k.names (Some x) ≡ Some r → (used_in st.instances x e || used_in_block st.instances x rest) ≡ false) → register_of (with_names m bs rs).names (Some x) ≡ Some r → used_in_block st.instances x rest ≡ false
   let_unused s sc n e bs us B K R Q X rest b ts m k ds rs r x typed_e bind order num typed placed below_m below_after keeps off none is = by (used_in_block st.instances x rest) refl
     where
       old : used_in_block st.instances x rest ≡ true → register_of m.names (Some x) ≡ Some r → ⊥
       old e' was =
-          let asked = block_asks c st wd w shares callees (s ++ entries bs (map Some us)) (entering w (behind n (shape w n e)).next sc bs) (inside w true (behind n (shape w n e)) bs) N placed b rest ts x (below_after x r is) typed num e' in
+          let asked = block_asks c st wd w shares callees (s ++ entries bs (map Some us)) (entering w (following n (shape w n e)).next sc bs) (inside w true (following n (shape w n e)) bs) N placed b rest ts x (below_after x r is) typed num e' in
           let scope = sym (let_scope c st wd w shares callees s n e bs us x order bind (below_m x r was)) ∙ asked.there in
           true≢false (sym e' ∙ (neither (used_in st.instances x e) (used_in_block st.instances x rest) (none x (keeps.old x asked.type r scope was))).1)
 
@@ -673,8 +673,8 @@ module _ (c : PlainCode) (f : PlainFunction) (st : Setting) (wd : W.World) (w : 
         record {
           delivered =
               match_delivered (Match g t p a q body cs) s B K X at k h.0 k0 l1 met ds ts end l bare.grows bare.part (ap length bare.names) bare.width same_next (barely_keeps s X k k0 bare.each bare.names bare.credits) empty0 on.grows many_names on.width (keeps_held s X k0 l1 (λ r z. on.same_held r) on.same_names on.same_credits) empty1 rest.arrived meets
-              (meet_part c f h.0 (told c k0) end (told c l) (let x = match_grows c st f ch l1 on.match_stands h.0 laid.mid laid.first in let y = sides_grow c st f ch l1 on.match_stands laid.more laid.mid e laid.sides in let z = done.grows in let v = rest.grows in omega (arith, x, y, z, v)) meets.map meets.label (λ caught. rest.code l caught (meets_spares met l meets.next meets.known) h.0 (told c k0)
-              (match_any c st wd w shares callees f fip (Reached c f end (told c l) cs next) (reached_stretch c f end (told c l) cs next) (reached_part c f end (told c l) cs next) h.0 k0 g u a q cs ch l1 e m laid on.match_stands on.entries entry
+              (meet_part c f h.0 (reported c k0) end (reported c l) (let x = match_grows c st f ch l1 on.match_stands h.0 laid.mid laid.first in let y = sides_grow c st f ch l1 on.match_stands laid.more laid.mid e laid.sides in let z = done.grows in let v = rest.grows in omega (arith, x, y, z, v)) meets.map meets.label (λ caught. rest.code l caught (meets_spares met l meets.next meets.known) h.0 (reported c k0)
+              (match_any c st wd w shares callees f fip (Reached c f end (reported c l) cs next) (reached_stretch c f end (reported c l) cs next) (reached_part c f end (reported c l) cs next) h.0 k0 g u a q cs ch l1 e m laid on.match_stands on.entries entry
               (done.code l caught (spares_on left met l rest.spares (meets_spares met l meets.next meets.known))))));
           unused = λ weak r tree none. (
               let first : held_at k0.held r ≡ held_at k.held r = tree_barely (held_at k.held) (held_at k0.held) r bare.each tree in
@@ -698,7 +698,7 @@ module _ (c : PlainCode) (f : PlainFunction) (st : Setting) (wd : W.World) (w : 
         let mid = h.1 in
         let m = h.2 in
         let us = typed.0 in
-        let n1 = behind n (shape w n e) in
+        let n1 = following n (shape w n e) in
         let D = O.setting (variables w n1.next bs) false B in
         let types = expression_types c st wd w shares callees s (all_annotated bs) e us placed.typed typed.1 in
         let parts = let_split s B K A P R X k d.3 ties in
@@ -706,7 +706,7 @@ module _ (c : PlainCode) (f : PlainFunction) (st : Setting) (wd : W.World) (w : 
         (ties_lending fip c.types s B K (λ i. P i + (R i + X i)) R (λ q. 0) k (λ x. omega arith) parts) wide in
         let same_names = ap length comp.names in
         let room = num.1 in
-        let ent = enter s sc n1 bs us B K R Q X m rs (behind_placed s sc n e (later n e) placed) num.0 (omega (arith, room, names, same_names)) typed.2 types d.4
+        let ent = enter s sc n1 bs us B K R Q X m rs (after_placed s sc n e (later n e) placed) num.0 (omega (arith, room, names, same_names)) typed.2 types d.4
         (none_later n e (λ i. R i + X i) (rest_none n.next P R X (split_none n.next A P R X d.3 none))) kept (unlent s B K R (λ i. R i + X i) (λ q. owed c.types rs us q + 0) m comp.ties) comp.hold in
         let after = with_names m bs rs in
         let waits = waits_on k after ds wait comp.next (λ r i. let a = waiting_among k ds r wait i in comp.empty r a.1 a.0) in
@@ -732,7 +732,7 @@ module _ (c : PlainCode) (f : PlainFunction) (st : Setting) (wd : W.World) (w : 
         let mid = h.0 in
         let m = h.1 in
         let us = typed.0 in
-        let n1 = behind n (shape w n e) in
+        let n1 = following n (shape w n e) in
         let D = O.setting (variables w n1.next bs) false B in
         let types = expression_types c st wd w shares callees s (all_annotated bs) e us placed.typed typed.1 in
         let parts = let_split s B K A P R X k d.3 ties in
@@ -743,9 +743,9 @@ module _ (c : PlainCode) (f : PlainFunction) (st : Setting) (wd : W.World) (w : 
         (registers_wait k k.next (k.next + length bs) bs ties.fresh (omega arith)) (length_registers k.next bs ∙ bind_many bs us typed.2) names wide in
         let same_names = got.delivered.names in
         let room = num.1 in
-        let ent = enter s sc n1 bs us B K R Q X m rs (behind_placed s sc n e (later n e) placed) num.0 (omega (arith, room, names, same_names)) typed.2 types d.4
+        let ent = enter s sc n1 bs us B K R Q X m rs (after_placed s sc n e (later n e) placed) num.0 (omega (arith, room, names, same_names)) typed.2 types d.4
         (none_later n e (λ i. R i + X i) (rest_none n.next P R X (split_none n.next A P R X d.3 none))) kept (unlent s B K R (λ i. R i + X i) (λ q. owed c.types rs us q + 0) m got.delivered.ties) got.delivered.hold in
-        let below_m = expression_below c f st fip w N n at (reserved k bs) e rs mid m n1.next h.2 num.2 (let z = next_behind w n e in omega (arith, z)) below in
+        let below_m = expression_below c f st fip w N n at (reserved k bs) e rs mid m n1.next h.2 num.2 (let z = next_after w n e in omega (arith, z)) below in
         let below_after = let_below_later n e bs rs m num.0 below_m in
         let after = with_names m bs rs in
         let waits = waits_on k after ds wait (let z = got.delivered.next in omega (arith, z)) (λ r i. let a = waiting_among k ds r wait i in let low = a.1 in got.delivered.empty r (omega (arith, low)) a.0 (registers_apart k bs r a.1)) in
@@ -762,7 +762,7 @@ module _ (c : PlainCode) (f : PlainFunction) (st : Setting) (wd : W.World) (w : 
           bottom = λ weak i some. bottom_on i (need st i e) (need_block st i rest) k.credits m.credits l.credits (got.bottom weak i some) (more.bottom weak i some);
         }
 
-    -- the clauses behind one
+    -- the clauses after one
     clauses_into : (s : Scope) (sc : Scalars) (n : Names) (B : ℕ → Bool) (K : ℕ → Item → ℕ) (X L : Item → ℕ) → Kept K X → ((y : ℕ) → L (Own y) ≤ X (Own y)) → Placed c s sc n → (R : Item → ℕ) → NoneFrom n.next (λ i. R i + X i) → (u : ℕ) → is_type c.types u ≡ true → (taken : Bool) (ch : Choice) (k l : Known) (q0 : Pattern) (cs0 : Clauses) → MatchOn c st wd w shares callees f fip taken s B K R X L u ch k l q0 cs0 → (o : Expression) → Beside ch l X o → (i : ℕ) (cs : Clauses) → Belongs ch o cs → ((j : ℕ) (q : Pattern) → slice_get (clause_patterns cs) j ≡ Some q → Roomy q ch.root) → (ys ks : List ℕ) (te : Term) (ds ts : List ℕ) (end : ℕ) (j : Known) (at : ℕ) (met : Known) → ClausesMeet c st fip f ch l o i cs ds end j at met → TypesClauses true wd s u cs ts → DerivesBy c st wd w shares callees f fip taken B R (clauses w sc taken n ys ks te cs) → NumberedClauses w N taken n cs → Below l n.next → ((r : ℕ) → suc r ≤ k.next → held_at k.held r ≡ H.Nothing → held_at l.held r ≡ H.Nothing) → Waiting k ds → length ds ≡ length ts → length l.names ≡ N → length l.held ≡ f.registers → Arrived st o fip c.types s B K X l k.next ds ts j → ClausesDone st o c f fip s B K X l k.next ds ts cs end j at met
     clauses_into s sc n B K X L kept least placed R none u utyped taken ch k l q0 cs0 on o beside i NoClauses belongs roomy ys ks te ds ts end j at met h typed d num below empty wait many names wide arrived = record {
       grows = (let z = h.0 in omega (arith, z));
@@ -797,7 +797,7 @@ module _ (c : PlainCode) (f : PlainFunction) (st : Setting) (wd : W.World) (w : 
           arrived = rest.arrived;
           spares = spares_on j both met meeting.first rest.spares;
           code = λ after caught spares at0 m0 before. rest.code after caught spares at0 m0
-              (reached_stretch c f end (told c after) cs next at0 m0 start (told c (entered st ch q l m)) (match_sides c st f ch l on.match_stands on.entries h.0 at0 m0 at start (last_stretch c f at0 m0 at before) h.8)
+              (reached_stretch c f end (reported c after) cs next at0 m0 start (reported c (entered st ch q l m)) (match_sides c st f ch l on.match_stands on.entries h.0 at0 m0 at start (last_stretch c f at0 m0 at before) h.8)
               (done.code after caught (spares_on left both after meeting.second (spares_on both met after rest.spares spares))));
         }
 
@@ -807,7 +807,7 @@ module _ (c : PlainCode) (f : PlainFunction) (st : Setting) (wd : W.World) (w : 
   none_zero n A P R split none = split_none n A P R (λ i. 0) split none
 
   mutual
-    ends : (s : Scope) (sc : Scalars) (n : Names) (B : ℕ → Bool) (K : ℕ → Item → ℕ) → Placed c s sc n → (P : Item → ℕ) (at : ℕ) (k : Known) (e : Expression) (end : ℕ) (l : Known) (b : Bool) (ts : List ℕ) → ExpressionLaid c st fip f at k e Return end l → Types true wd s b e ts → Derives fip B P (term w sc n e) → Numbered w N n e → Below k n.next → ((z y : ℕ) → K z (Own y) ≤ 0) → NoneFrom n.next (λ i. P i + 0) → Ties fip c.types s B K (λ i. P i + 0) (λ q. 0) k → f.results ≡ ts → length k.names ≡ N → length k.held ≡ f.registers → LastPart c f at (told c k) end
+    ends : (s : Scope) (sc : Scalars) (n : Names) (B : ℕ → Bool) (K : ℕ → Item → ℕ) → Placed c s sc n → (P : Item → ℕ) (at : ℕ) (k : Known) (e : Expression) (end : ℕ) (l : Known) (b : Bool) (ts : List ℕ) → ExpressionLaid c st fip f at k e Return end l → Types true wd s b e ts → Derives fip B P (term w sc n e) → Numbered w N n e → Below k n.next → ((z y : ℕ) → K z (Own y) ≤ 0) → NoneFrom n.next (λ i. P i + 0) → Ties fip c.types s B K (λ i. P i + 0) (λ q. 0) k → f.results ≡ ts → length k.names ≡ N → length k.held ≡ f.registers → LastPart c f at (reported c k) end
     ends s sc n B K placed P at k (Give a) end l b ts h typed d num below kept none ties results names wide =
         give_ends c f st wd w fip shares callees s sc n B K placed P at k (MoreArguments a NoArguments) end l b (typed.0 ∷ []) h (typed.2, tt) d kept ties (results ∙ typed.1) wide
     ends s sc n B K placed P at k (Tuple p as') end l b ts h typed d num below kept none ties results names wide =
@@ -842,11 +842,11 @@ module _ (c : PlainCode) (f : PlainFunction) (st : Setting) (wd : W.World) (w : 
         let one = block_ends (s ++ bound_by wd (Some u) q) (entering w n.next sc (binders q)) (inside w taken n (binders q)) (O.setting (variables w n.next (binders q)) (not taken) B) (reading taken (variables w n.next (binders q)) own.read K) cb.placed fb.0 e (entered st ch q l1 m) body mid h.5 b ts h.8 typed.4 fb.2 num.2 (entry_below n taken q ch l1 m num.0 (below_same k l1 n.next on.same_names below)) (reading_kept taken (variables w n.next (binders q)) own.read (λ i. 0) K kept own.least) cb.none cb.ties results (cb.names ∙ (many ∙ names)) (cb.width ∙ (width ∙ wide)) in
         let first = match_any c st wd w shares callees f fip (λ a m. LastPart c f a m mid) (λ a m b l x y. stretch_last c f a m b l mid x y) (λ a m b l x y. part_and_last c f a b mid m l x y) at k g u a q cs ch l1 e m laid on.match_stands on.entries entry one in
         clauses_ends s sc n (past_clause w taken n q body) B K own.read own.least (past_placed s sc n taken q body placed) own.owned (past_none n taken q body (λ i. own.owned i + 0) own.none) u utyped taken ch k l1 q cs on 1 cs
-        (λ j r there. laid.begins.roomy (suc j) r (ap (λ ps. slice_get ps (suc j)) laid.patterns ∙ there)) (variables w n.next (binders q)) (nodes q) (term_block w (entering w n.next sc (binders q)) (inside w taken n (binders q)) body) at (told c k) mid end ts h.9 typed.5 own.derives num.3 (past_below n taken q body l1 (below_same k l1 n.next on.same_names below)) kept results (many ∙ names) (width ∙ wide) first
+        (λ j r there. laid.begins.roomy (suc j) r (ap (λ ps. slice_get ps (suc j)) laid.patterns ∙ there)) (variables w n.next (binders q)) (nodes q) (term_block w (entering w n.next sc (binders q)) (inside w taken n (binders q)) body) at (reported c k) mid end ts h.9 typed.5 own.derives num.3 (past_below n taken q body l1 (below_same k l1 n.next on.same_names below)) kept results (many ∙ names) (width ∙ wide) first
     ends s sc n B K placed P at k (Nested body) end l b ts h typed d num below kept none ties results names wide =
         block_ends s sc n B K placed P at k body end l b ts h typed d num below kept none ties results names wide
 
-    pub block_ends : (s : Scope) (sc : Scalars) (n : Names) (B : ℕ → Bool) (K : ℕ → Item → ℕ) → Placed c s sc n → (P : Item → ℕ) (at : ℕ) (k : Known) (d : Block) (end : ℕ) (l : Known) (b : Bool) (ts : List ℕ) → BlockLaid c st fip f at k d Return end l → TypesBlock true wd s b d ts → Derives fip B P (term_block w sc n d) → NumberedBlock w N n d → Below k n.next → ((z y : ℕ) → K z (Own y) ≤ 0) → NoneFrom n.next (λ i. P i + 0) → Ties fip c.types s B K (λ i. P i + 0) (λ q. 0) k → f.results ≡ ts → length k.names ≡ N → length k.held ≡ f.registers → LastPart c f at (told c k) end
+    pub block_ends : (s : Scope) (sc : Scalars) (n : Names) (B : ℕ → Bool) (K : ℕ → Item → ℕ) → Placed c s sc n → (P : Item → ℕ) (at : ℕ) (k : Known) (d : Block) (end : ℕ) (l : Known) (b : Bool) (ts : List ℕ) → BlockLaid c st fip f at k d Return end l → TypesBlock true wd s b d ts → Derives fip B P (term_block w sc n d) → NumberedBlock w N n d → Below k n.next → ((z y : ℕ) → K z (Own y) ≤ 0) → NoneFrom n.next (λ i. P i + 0) → Ties fip c.types s B K (λ i. P i + 0) (λ q. 0) k → f.results ≡ ts → length k.names ≡ N → length k.held ≡ f.registers → LastPart c f at (reported c k) end
     block_ends s sc n B K placed P at k (Last e) end l b ts h typed d num below kept none ties results names wide =
         ends s sc n B K placed P at k e end l b ts h typed d num below kept none ties results names wide
     block_ends s sc n B K placed A at k (Let bs e rest) end l b ts (inl h) typed d num below kept none ties results names wide =
@@ -858,7 +858,7 @@ module _ (c : PlainCode) (f : PlainFunction) (st : Setting) (wd : W.World) (w : 
         let mid = h.1 in
         let m = h.2 in
         let us = typed.0 in
-        let n1 = behind n (shape w n e) in
+        let n1 = following n (shape w n e) in
         let D = O.setting (variables w n1.next bs) false B in
         let types = expression_types c st wd w shares callees s (all_annotated bs) e us placed.typed typed.1 in
         let parts = let_split s B K A P R X k d.3 ties in
@@ -866,9 +866,9 @@ module _ (c : PlainCode) (f : PlainFunction) (st : Setting) (wd : W.World) (w : 
         (ties_lending fip c.types s B K (λ i. P i + (R i + X i)) R (λ q. 0) k (λ x. omega arith) parts) wide in
         let same_names = ap length comp.names in
         let room = num.1 in
-        let ent = enter s sc n1 bs us B K R Q X m rs (behind_placed s sc n e (later n e) placed) num.0 (omega (arith, room, names, same_names)) typed.2 types d.4
+        let ent = enter s sc n1 bs us B K R Q X m rs (after_placed s sc n e (later n e) placed) num.0 (omega (arith, room, names, same_names)) typed.2 types d.4
         (none_later n e (λ i. R i + X i) (rest_none n.next P R X (split_none n.next A P R X d.3 none))) kept (unlent s B K R (λ i. R i + X i) (λ q. owed c.types rs us q + 0) m comp.ties) comp.hold in
-        part_and_last c f at mid end (told c k) (told c m) comp.part
+        part_and_last c f at mid end (reported c k) (reported c m) comp.part
         (block_ends (s ++ entries bs (map Some us)) (entering w n1.next sc bs) (inside w true n1 bs) D K ent.placed Q mid (with_names m bs rs) rest end l b ts h.4 typed.3 d.6 num.3 (let_below n e bs rs m num.0 (below_same k m n.next comp.names below)) kept ent.none ent.ties results (length_all_named m.names bs rs ∙ (same_names ∙ names)) (comp.width ∙ wide))
     block_ends s sc n B K placed A at k (Let bs e rest) end l b ts (inr h) typed d num below kept none ties results names wide =
         let P = d.0 in
@@ -879,7 +879,7 @@ module _ (c : PlainCode) (f : PlainFunction) (st : Setting) (wd : W.World) (w : 
         let mid = h.0 in
         let m = h.1 in
         let us = typed.0 in
-        let n1 = behind n (shape w n e) in
+        let n1 = following n (shape w n e) in
         let D = O.setting (variables w n1.next bs) false B in
         let types = expression_types c st wd w shares callees s (all_annotated bs) e us placed.typed typed.1 in
         let parts = let_split s B K A P R X k d.3 ties in
@@ -890,12 +890,12 @@ module _ (c : PlainCode) (f : PlainFunction) (st : Setting) (wd : W.World) (w : 
         (registers_wait k k.next (k.next + length bs) bs ties.fresh (omega arith)) (length_registers k.next bs ∙ bind_many bs us typed.2) names wide in
         let same_names = got.delivered.names in
         let room = num.1 in
-        let ent = enter s sc n1 bs us B K R Q X m rs (behind_placed s sc n e (later n e) placed) num.0 (omega (arith, room, names, same_names)) typed.2 types d.4
+        let ent = enter s sc n1 bs us B K R Q X m rs (after_placed s sc n e (later n e) placed) num.0 (omega (arith, room, names, same_names)) typed.2 types d.4
         (none_later n e (λ i. R i + X i) (rest_none n.next P R X (split_none n.next A P R X d.3 none))) kept (unlent s B K R (λ i. R i + X i) (λ q. owed c.types rs us q + 0) m got.delivered.ties) got.delivered.hold in
-        part_and_last c f at mid end (told c k) (told c m) got.delivered.part
-        (block_ends (s ++ entries bs (map Some us)) (entering w n1.next sc bs) (inside w true n1 bs) D K ent.placed Q mid (with_names m bs rs) rest end l b ts h.3 typed.3 d.6 num.3 (let_below_later n e bs rs m num.0 (expression_below c f st fip w N n at (reserved k bs) e rs mid m n1.next h.2 num.2 (let z = next_behind w n e in omega (arith, z)) below)) kept ent.none ent.ties results (length_all_named m.names bs rs ∙ (same_names ∙ names)) (got.delivered.width ∙ wide))
+        part_and_last c f at mid end (reported c k) (reported c m) got.delivered.part
+        (block_ends (s ++ entries bs (map Some us)) (entering w n1.next sc bs) (inside w true n1 bs) D K ent.placed Q mid (with_names m bs rs) rest end l b ts h.3 typed.3 d.6 num.3 (let_below_later n e bs rs m num.0 (expression_below c f st fip w N n at (reserved k bs) e rs mid m n1.next h.2 num.2 (let z = next_after w n e in omega (arith, z)) below)) kept ent.none ent.ties results (length_all_named m.names bs rs ∙ (same_names ∙ names)) (got.delivered.width ∙ wide))
 
-    -- the clauses behind one
+    -- the clauses after one
     clauses_ends : (s : Scope) (sc : Scalars) (n0 n : Names) (B : ℕ → Bool) (K : ℕ → Item → ℕ) (L : Item → ℕ) → ((y : ℕ) → L (Own y) ≤ 0) → Placed c s sc n → (R : Item → ℕ) → NoneFrom n.next (λ i. R i + 0) → (u : ℕ) → is_type c.types u ≡ true → (taken : Bool) (ch : Choice) (k l : Known) (q0 : Pattern) (cs0 : Clauses) → MatchOn c st wd w shares callees f fip taken s B K R (λ i. 0) L u ch k l q0 cs0 → (i : ℕ) (cs : Clauses) → ((j : ℕ) (q : Pattern) → slice_get (clause_patterns cs) j ≡ Some q → Roomy q ch.root) → (ys ks : List ℕ) (te : Term) (at0 : ℕ) (m0 : ℕ → Kind) (at end : ℕ) (ts : List ℕ) → ClausesLaid c st fip f ch l i cs at end → TypesClauses true wd s u cs ts → DerivesBy c st wd w shares callees f fip taken B R (clauses w sc taken n ys ks te cs) → NumberedClauses w N taken n cs → Below l n.next → ((z y : ℕ) → K z (Own y) ≤ 0) → f.results ≡ ts → length l.names ≡ N → length l.held ≡ f.registers → LastPart c f at0 m0 at → LastPart c f at0 m0 end
     clauses_ends s sc n0 n B K L least placed R none u utyped taken ch k l q0 cs0 on i NoClauses roomy ys ks te at0 m0 at end ts h typed d num below kept results names wide part = subst (LastPart c f at0 m0) (sym h) part
     clauses_ends s sc n0 n B K L least placed R none u utyped taken ch k l q0 cs0 on i (MoreClauses q body cs) roomy ys ks te at0 m0 at end ts h typed d num below kept results names wide part =
@@ -911,4 +911,4 @@ module _ (c : PlainCode) (f : PlainFunction) (st : Setting) (wd : W.World) (w : 
         let one = block_ends (s ++ bound_by wd (Some u) q) (entering w n.next sc (binders q)) (inside w taken n (binders q)) (O.setting (variables w n.next (binders q)) (not taken) B) (reading taken (variables w n.next (binders q)) L K) cb.placed fb.0 start (entered st ch q l m) body mid h.4 true ts h.7 typed.1 fb.2 num.2 (entry_below n taken q ch l m num.0 below) (reading_kept taken (variables w n.next (binders q)) L (λ i. 0) K kept least) cb.none cb.ties results (cb.names ∙ names) (cb.width ∙ wide) in
         let tests = match_sides c st f ch l on.match_stands on.entries h.0 at0 m0 at start (last_stretch c f at0 m0 at part) h.5 in
         clauses_ends s sc n (past_clause w taken n q body) B K L least (past_placed s sc n taken q body placed) R (past_none n taken q body (λ i. R i + 0) none) u utyped taken ch k l q0 cs0 on (suc i) cs
-        (λ j r there. roomy (suc j) r there) (variables w n.next (binders q)) (nodes q) tb at0 m0 mid end ts h.8 typed.2 rest num.3 (past_below n taken q body l below) kept results names wide (stretch_last c f at0 m0 start (told c (entered st ch q l m)) mid tests one)
+        (λ j r there. roomy (suc j) r there) (variables w n.next (binders q)) (nodes q) tb at0 m0 mid end ts h.8 typed.2 rest num.3 (past_below n taken q body l below) kept results names wide (stretch_last c f at0 m0 start (reported c (entered st ch q l m)) mid tests one)

@@ -1,4 +1,4 @@
--- Tests and jumps: where a label at the target takes what is told there, they keep the rules.
+-- Tests and jumps: where a label at the target takes what is reported there, they keep the rules.
 use Rattle.std.proofs.Common.{◌≡◌, inl, inr, ℕ, suc, ◌<◌, ◌≤◌, true, List, length, Some, refl, sym, ap, ◌∙◌, subst, arith}
 use Rattle.std.proofs.lemmas.Option.{same_Some}
 use Rattle.separation.specs.cell_code.declared.code.Instr.{Instr}
@@ -15,7 +15,7 @@ use Rattle.lowering_soundness.specs.Rows.{IsRow}
 use Rattle.lowering_soundness.specs.Parts.{Arrives, Admits, Onward, Keeps, IsKept, Part, LastPart}
 use Rattle.lowering_relation.specs.Labels.{Shows, Catches, Quiet}
 use Rattle.lowering_soundness.proofs.Fitting.{takes_all}
-use Rattle.lowering_soundness.proofs.Parts.{known_told, shows_admits, behind_row, between, no_row, both_parts, label_row}
+use Rattle.lowering_soundness.proofs.Parts.{known_reported, shows_admits, after_row, between, no_row, both_parts, label_row}
 use Rattle.lowering_soundness.proofs.Arguments.{quiet_back}
 
 module _ (c : PlainCode) (f : PlainFunction) where
@@ -31,13 +31,13 @@ module _ (c : PlainCode) (f : PlainFunction) where
     grows = omega arith;
     admits = λ a. shows_admits c f p m shows;
     kept = λ more admits arrives q a b. between c f p q a b (λ e. subst (IsKept c f) e (one_kept more admits arrives));
-    arrives = λ arrives. behind_row c f p m l x is row shows arrives;
+    arrives = λ arrives. after_row c f p m l x is row shows arrives;
   }
     where
       one_kept : suc p < length f.instrs → Admits f (suc p) l → Arrives c f p m → IsKept c f p
       one_kept more admits arrives ks y reached =
           let same : x ≡ y = same_Some x y (sym is ∙ reached.instr) in
-          let cov = known_told c f p m ks shows arrives reached.known in
+          let cov = known_reported c f p m ks shows arrives reached.known in
           subst (Keeps c f p ks) same (record {
             sources = row.sources ks cov;
             destinations = row.destinations ks cov;
@@ -62,7 +62,7 @@ module _ (c : PlainCode) (f : PlainFunction) where
       one_kept : Arrives c f p m → IsKept c f p
       one_kept arrives ks y reached =
           let same : I.Jump target ≡ y = same_Some (I.Jump target) y (sym is ∙ reached.instr) in
-          let cov = known_told c f p m ks shows arrives reached.known in
+          let cov = known_reported c f p m ks shows arrives reached.known in
           subst (Keeps c f p ks) same (record {
             sources = refl;
             destinations = refl;
@@ -118,6 +118,6 @@ module _ (c : PlainCode) (f : PlainFunction) where
         part = both_parts c f at mid end m l k x.part y.part;
       }
 
-  -- what was told of the place before stays so behind
+  -- what was reported of the place before stays so after
   pub came_quiet : (at mid end : ℕ) (m l : ℕ → Kind) → Came at m mid l → Quiet f at end m → Quiet f mid end l
   came_quiet at mid end m l x quiet = quiet_back f at mid end m l x.grows quiet x.still

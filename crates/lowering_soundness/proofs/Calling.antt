@@ -13,7 +13,7 @@ use Rattle.lowering_relation.specs.Known.{Known}
 use Rattle.lowering_relation.specs.LoweredBodies.{handed, AreTaken}
 use Rattle.lowering_relation.specs.Describing.{Holding, held_at}
 use Rattle.lowering_soundness.specs.Covering.{using, using_all}
-use Rattle.lowering_soundness.specs.Giving.{is_credit_of, passing_all, can_pass, can_hand, handing_all, can_lend_one, can_lend, behind_call, CanCall}
+use Rattle.lowering_soundness.specs.Giving.{is_credit_of, passing_all, can_pass, can_hand, handing_all, can_lend_one, can_lend, after_call, CanCall}
 use Rattle.lowering_soundness.specs.Ties.{one_if, owners, own, is_read_of, HoldsValue, Balanced, Rooted, BareRight, Stays, LiesIn, Ties}
 use Rattle.lowering_soundness.specs.Laid.{IsFunctionOf}
 use Rattle.lowering_soundness.specs.Passed.{Choose, borrows, owed_passed, IsBorrowed, PassHolds, IsReadIn, HoldPassed}
@@ -64,8 +64,8 @@ can_call_by c tail g f d as' is can = record {
   lends = subst₂ (λ ps ks. can_lend c.types tail (handing_all (passing_all g ps as') ks (drop (length ps) as')) ps as' ≡ true) (sym is.params) (sym is.credits) can.lends;
 }
 
-pub behind_by : (c : PlainCode) (g : Holding) (f : ℕ) (d : Instance) (as' : List ℕ) → IsFunctionOf c f d → behind_call c g f as' ≡ handing_all (passing_all g d.params as') d.credits (drop (length d.params) as')
-behind_by c g f d as' is = ap₂ (λ ps ks. handing_all (passing_all g ps as') ks (drop (length ps) as')) is.params is.credits
+pub after_by : (c : PlainCode) (g : Holding) (f : ℕ) (d : Instance) (as' : List ℕ) → IsFunctionOf c f d → after_call c g f as' ≡ handing_all (passing_all g d.params as') d.credits (drop (length d.params) as')
+after_by c g f d as' is = ap₂ (λ ps ks. handing_all (passing_all g ps as') ks (drop (length ps) as')) is.params is.credits
 
 -- ---- what may be lent
 
@@ -163,10 +163,10 @@ pass_many w s B k (p ∷ ps) [] h = absurd h
 pass_many w s B k (p ∷ ps) (r ∷ rs) h = ap suc (pass_many w s B k ps rs h.1)
 
 module _ (c : PlainCode) (f : PlainFunction) (fip : Bool) (s : Scope) (B : ℕ → Bool) (K : ℕ → Item → ℕ) where
-  -- the arguments and credits of a call are as asked; l is known behind them
+  -- the arguments and credits of a call are as asked; l is known after them
   pub record Called (tail : Bool) (X : Item → ℕ) (e : ℕ → ℕ) (k : Known) (d : Instance) (rs cs : List ℕ) (l : Known) : Type 0 where
     pub can : CanCallBy c.types tail (held_at k.held) d.params d.credits (rs ++ cs)
-    pub behind : handing_all (passing_all (held_at k.held) d.params (rs ++ cs)) d.credits (drop (length d.params) (rs ++ cs)) ≡ held_at l.held
+    pub following : handing_all (passing_all (held_at k.held) d.params (rs ++ cs)) d.credits (drop (length d.params) (rs ++ cs)) ≡ held_at l.held
     pub short : handing_all (passing_all (held_at k.held) d.params rs) d.credits cs ≡ held_at l.held
     pub many : length rs ≡ length d.params
     pub many_credits : length cs ≡ length d.credits
@@ -209,16 +209,16 @@ module _ (c : PlainCode) (f : PlainFunction) (fip : Bool) (s : Scope) (B : ℕ �
       let dm = drop_front rs cs (length ps) many in
       let hands : can_hand (passing_all g ps rs) ks cs ≡ true = subst (λ x. can_hand x ks cs ≡ true) held1 tk.can in
       let short : handing_all (passing_all g ps rs) ks cs ≡ held_at l.held = ap (λ x. handing_all x ks cs) (sym held1) ∙ sym tk.held in
-      let behind : handing_all (passing_all g ps (rs ++ cs)) ks (drop (length ps) (rs ++ cs)) ≡ held_at l.held = ap₂ (λ x y. handing_all x ks y) pm dm ∙ short in
+      let following : handing_all (passing_all g ps (rs ++ cs)) ks (drop (length ps) (rs ++ cs)) ≡ held_at l.held = ap₂ (λ x y. handing_all x ks y) pm dm ∙ short in
       let stays : Stays g (held_at l.held) n = stays_on g (passing_all g ps rs) (held_at l.held) n gp.stays (subst (λ x. Stays x (held_at l.held) n) held1 (tk.stays n)) in
       record {
         can = record {
           many = (let a = length_both rs cs in let b = tk.many in omega (arith, a, b, many));
           passes = can_pass_more w ps rs cs g many ∙ gp.can;
           hands = ap₂ (λ x y. can_hand x ks y) pm dm ∙ hands;
-          lends = ap (λ x. can_lend w tail x ps (rs ++ cs)) behind ∙ (can_lend_more w tail ps rs cs (held_at l.held) many ∙ can_lend_held w tail some (held_at l.held) ps rs (λ z q. owners_none k.names (own X) q (none z)) (read_stays w some n g (held_at l.held) ps rs stays (λ q. omega arith) (hold_read w some g ps rs hp)));
+          lends = ap (λ x. can_lend w tail x ps (rs ++ cs)) following ∙ (can_lend_more w tail ps rs cs (held_at l.held) many ∙ can_lend_held w tail some (held_at l.held) ps rs (λ z q. owners_none k.names (own X) q (none z)) (read_stays w some n g (held_at l.held) ps rs stays (λ q. omega arith) (hold_read w some g ps rs hp)));
         };
-        behind = behind;
+        following = following;
         short = short;
         many = many;
         many_credits = tk.many;

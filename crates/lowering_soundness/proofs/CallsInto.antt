@@ -12,9 +12,9 @@ use Rattle.lowering_relation.specs.Values.{Setting}
 use Rattle.lowering_relation.specs.LoweredBodies.{Into, IsCallOf}
 use Rattle.lowering_relation.specs.LoweredBodies as Bodies
 use Rattle.lowering_relation.specs.Describing.{held_at, kinds_of}
-use Rattle.lowering_soundness.specs.Giving.{behind_call, receiving_all}
+use Rattle.lowering_soundness.specs.Giving.{after_call, receiving_all}
 use Rattle.lowering_soundness.specs.Parts.{Part}
-use Rattle.lowering_relation.specs.Labels.{told, Quiet}
+use Rattle.lowering_relation.specs.Labels.{reported, Quiet}
 use Rattle.lowering_soundness.specs.Laid.{Shares, IsFunctionOf}
 use Rattle.lowering_relation.specs.Credits.{LastGone}
 use Rattle.lowering_soundness.proofs.Stacks.{last_on}
@@ -27,7 +27,7 @@ use Rattle.lowering_soundness.proofs.Parts.{one_row, both_parts}
 use Rattle.lowering_soundness.proofs.Arguments.{quiet_back}
 use Rattle.lowering_soundness.proofs.Passing.{PassedOn}
 use Rattle.lowering_soundness.proofs.Receiving.{waiting_places, waiting_below, got_all}
-use Rattle.lowering_soundness.proofs.Calling.{can_call_by, behind_by, Called, called}
+use Rattle.lowering_soundness.proofs.Calling.{can_call_by, after_by, Called, called}
 
 taken_names : (k : Known) (ns rs : List ℕ) (l : Known) → Bodies.AreTaken k ns rs l → l.names ≡ k.names
 taken_names k [] [] l h = ap (λ (m : Known). m.names) h
@@ -40,7 +40,7 @@ module _ (c : PlainCode) (f : PlainFunction) (st : Setting) (wd : W.World) (fip 
   waits_on k l [] w grows empty = tt
   waits_on k l (d ∷ ds) w grows empty = (empty d w.1 w.0, (let z = w.1 in omega (arith, z, grows)), w.2, waits_on k l ds w.3 grows empty)
 
-  pub call_into : (X : Item → ℕ) (e : ℕ → ℕ) (at : ℕ) (k : Known) (d : Instance) (rs : List ℕ) (mid : ℕ) (m : Known) (g : ℕ) (ds : List ℕ) (end : ℕ) (l : Known) → PassedOn c f fip s B K d.credits X e at k d.params rs mid m → (h : CallLaid st fip f mid m g rs (Into ds) end l) → h.instance ≡ d → length ds ≡ length d.results → ((z y : ℕ) → K z (Own y) ≤ X (Own y)) → Waiting k ds → m.next ≤ length k.held → length k.held ≡ f.registers → Quiet f at end (told c k) → LastGone k.credits m.credits → Settled c f fip s B K X e at k ds d.results end l
+  pub call_into : (X : Item → ℕ) (e : ℕ → ℕ) (at : ℕ) (k : Known) (d : Instance) (rs : List ℕ) (mid : ℕ) (m : Known) (g : ℕ) (ds : List ℕ) (end : ℕ) (l : Known) → PassedOn c f fip s B K d.credits X e at k d.params rs mid m → (h : CallLaid st fip f mid m g rs (Into ds) end l) → h.instance ≡ d → length ds ≡ length d.results → ((z y : ℕ) → K z (Own y) ≤ X (Own y)) → Waiting k ds → m.next ≤ length k.held → length k.held ≡ f.registers → Quiet f at end (reported c k) → LastGone k.credits m.credits → Settled c f fip s B K X e at k ds d.results end l
   call_into X e at k d rs mid m g ds end l p h is many kept wait room wide quiet last =
       let fn = h.function in
       let as' = rs ++ h.credits in
@@ -48,22 +48,22 @@ module _ (c : PlainCode) (f : PlainFunction) (st : Setting) (wd : W.World) (fip 
       let of : IsFunctionOf c fn d = shares.functions g fn d h.numbered (subst (λ (d : Instance). slice_get st.instances g ≡ Some d) is h.there) in
       let cl : Called c f fip s B K false X e m d rs h.credits h.m = called c f fip s B K false X e m d rs h.credits h.m (λ z. absurd (cc)) p.ties p.hold kept (subst (λ (d : Instance). Bodies.AreTaken (record m { held = Bodies.handed m.held d.params rs }) d.credits h.credits h.m) is h.taken) in
       let after : Known = record h.m { held = Bodies.received st h.m.held d.results ds } in
-      let behind : behind_call c (held_at m.held) fn as' ≡ held_at h.m.held = behind_by c (held_at m.held) fn d as' of ∙ cl.behind in
+      let following : after_call c (held_at m.held) fn as' ≡ held_at h.m.held = after_by c (held_at m.held) fn d as' of ∙ cl.following in
       let wait1 = waits_on k m ds wait p.next p.empty in
       let same_next = cl.next in
       let wait2 = waits_on m h.m ds wait1 (omega (arith, same_next)) (λ r low y. cl.empty r y) in
       let wide2 : length h.m.held ≡ length k.held = cl.width ∙ p.width in
       let room2 : h.m.next ≤ length h.m.held = omega (arith, room, same_next, wide2) in
       let got = got_all fip c.types s B K c f st X e h.m ds d.results refl shares.scalars of.typed many cl.ties kept wait2 room2 in
-      let row = call_row c f (held_at m.held) fn as' ds (can_call_by c false (held_at m.held) fn d as' of cl.can) (many ∙ ap length (sym of.results)) (waiting_places (behind_call c (held_at m.held) fn as') ds h.m behind wait2) (waiting_below f.registers h.m ds (omega (arith, room2, wide2, wide)) wait2) in
-      let held : receiving_all c.types (behind_call c (held_at m.held) fn as') ds (results c fn) ≡ held_at after.held = ap₂ (λ x ts. receiving_all c.types x ds ts) behind of.results ∙ sym got.held in
-      let shows = (quiet_back f at mid end (told c k) (told c m) p.grows quiet p.still).first (let z = call.one in omega (arith, z)) in
-      let part : Part c f mid (told c m) (suc mid) (told c after) = subst (λ y. Part c f mid (told c m) (suc mid) (kinds_of c.types y)) held (one_row c f mid (told c m) (kinds_of c.types (receiving_all c.types (behind_call c (held_at m.held) fn as') ds (results c fn))) (I.Call fn as' ds) call.written refl row shows) in
+      let row = call_row c f (held_at m.held) fn as' ds (can_call_by c false (held_at m.held) fn d as' of cl.can) (many ∙ ap length (sym of.results)) (waiting_places (after_call c (held_at m.held) fn as') ds h.m following wait2) (waiting_below f.registers h.m ds (omega (arith, room2, wide2, wide)) wait2) in
+      let held : receiving_all c.types (after_call c (held_at m.held) fn as') ds (results c fn) ≡ held_at after.held = ap₂ (λ x ts. receiving_all c.types x ds ts) following of.results ∙ sym got.held in
+      let shows = (quiet_back f at mid end (reported c k) (reported c m) p.grows quiet p.still).first (let z = call.one in omega (arith, z)) in
+      let part : Part c f mid (reported c m) (suc mid) (reported c after) = subst (λ y. Part c f mid (reported c m) (suc mid) (kinds_of c.types y)) held (one_row c f mid (reported c m) (kinds_of c.types (receiving_all c.types (after_call c (held_at m.held) fn as') ds (results c fn))) (I.Call fn as' ds) call.written refl row shows) in
       let low = p.grows in
       let names : h.m.names ≡ k.names = taken_names (record m { held = Bodies.handed m.held d.params rs }) d.credits h.credits h.m (subst (λ (d : Instance). Bodies.AreTaken (record m { held = Bodies.handed m.held d.params rs }) d.credits h.credits h.m) is h.taken) ∙ p.names in
       subst₂ (λ b z. Settled c f fip s B K X e at k ds d.results b z) (sym call.one) (sym call.known) (record {
         grows = omega (arith, low);
-        part = both_parts c f at mid (suc mid) (told c k) (told c m) (told c after) p.part part;
+        part = both_parts c f at mid (suc mid) (reported c k) (reported c m) (reported c after) p.part part;
         next = (let z = p.next in omega (arith, z, same_next));
         width = got.width ∙ wide2;
         names = names;

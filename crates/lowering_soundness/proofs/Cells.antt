@@ -17,7 +17,7 @@ use Rattle.lowering_soundness.specs.Covering.{using, using_all}
 use Rattle.lowering_soundness.specs.Giving.{is_credit_of}
 use Rattle.lowering_soundness.specs.Parts.{Part}
 use Rattle.lowering_soundness.specs.Ties.{one_if, owners, sized, counted, own, HoldsValue, AllHold, owe, owed, Stays, Ties}
-use Rattle.lowering_relation.specs.Labels.{told, Quiet}
+use Rattle.lowering_relation.specs.Labels.{reported, Quiet}
 use Rattle.lowering_soundness.specs.Computed.{Computed}
 use Rattle.lowering_soundness.proofs.Covering.{using_none}
 use Rattle.lowering_soundness.proofs.SoundStraight.{put_row}
@@ -138,19 +138,19 @@ paid_one n m = by (suc n == m)
     by false = refl
 
 module _ (c : PlainCode) (f : PlainFunction) (fip : Bool) (s : Scope) (B : ℕ → Bool) (K : ℕ → Item → ℕ) where
-  pub put_value : (X : Item → ℕ) (e : ℕ → ℕ) (at : ℕ) (k : Known) (t d a : ℕ) (as' : List ℕ) (r end : ℕ) (l : Known) → IsPut f.instrs at k t d (a ∷ as') r end l → Ties fip c.types s B K (λ i. paid (suc (length as')) i + X i) (λ q. owed c.types (a ∷ as') (fields c.types t d) q + e q) k → AllHold c.types (held_at k.held) (a ∷ as') (fields c.types t d) → length (fields c.types t d) ≡ suc (length as') → ((z y : ℕ) → K z (Own y) ≤ X (Own y)) → Quiet f at end (told c k) → Computed c f fip s B K X e at k (r ∷ []) (t ∷ []) end l
+  pub put_value : (X : Item → ℕ) (e : ℕ → ℕ) (at : ℕ) (k : Known) (t d a : ℕ) (as' : List ℕ) (r end : ℕ) (l : Known) → IsPut f.instrs at k t d (a ∷ as') r end l → Ties fip c.types s B K (λ i. paid (suc (length as')) i + X i) (λ q. owed c.types (a ∷ as') (fields c.types t d) q + e q) k → AllHold c.types (held_at k.held) (a ∷ as') (fields c.types t d) → length (fields c.types t d) ≡ suc (length as') → ((z y : ℕ) → K z (Own y) ≤ X (Own y)) → Quiet f at end (reported c k) → Computed c f fip s B K X e at k (r ∷ []) (t ∷ []) end l
   put_value X e at k t d a as' r end l h ties hold many kept quiet =
       comes_there c f fip s B K X e at k r r t (suc at) end there l refl (sym h.one) (sym h.known) (record {
         grows = omega arith;
         still = λ z q. absurd (let y : ⊥ = omega (arith, z) in y);
-        part = subst (λ y. Part c f at (told c k) (suc at) (kinds_of c.types y)) (sym held)
-            (one_row c f at (told c k) (kinds_of c.types (setting (using_all g rs) r new)) (I.Put r t d rs) h.written refl
+        part = subst (λ y. Part c f at (reported c k) (suc at) (kinds_of c.types y)) (sym held)
+            (one_row c f at (reported c k) (kinds_of c.types (setting (using_all g rs) r new)) (I.Put r t d rs) h.written refl
             (put_row c f g r t d rs (ap (is_credit_of (length rs)) was ∙ itself (length rs)) given.can) (quiet.first (let z = h.one in omega (arith, z))));
         names = refl;
         next = omega arith;
         width = length_set (used_all (slice_set k.held r H.Nothing) rs) r new ∙ (length_used_all (slice_set k.held r H.Nothing) rs ∙ length_set k.held r H.Nothing);
         ties = ties_owe fip c.types s B K X (λ q. owe c.types t r q + e q) (λ q. owed c.types (r ∷ []) (t ∷ []) q + e q) there (λ q. omega arith)
-            (set_ties fip c.types s B K (λ i. paid (suc (length as')) i + X i) X e behind there r t new given.ties (λ y. omega arith) kept (ap is_idle (ap (λ x. x r) used ∙ stays_credit)) value (held ∙ ap (λ x. setting x r new) (sym used)) refl (omega arith)
+            (set_ties fip c.types s B K (λ i. paid (suc (length as')) i + X i) X e following there r t new given.ties (λ y. omega arith) kept (ap is_idle (ap (λ x. x r) used ∙ stays_credit)) value (held ∙ ap (λ x. setting x r new) (sym used)) refl (omega arith)
             sizes
             (counted_left k.credits (length rs) r h.credits g (held_at there.held) h.taken ties.credits
             (λ m. ap (λ x. is_credit_of m (x r)) held ∙ (ap (is_credit_of m) (setting_here (using_all g rs) r new) ∙ value_no_credit c f fip s B K m t new value))
@@ -176,8 +176,8 @@ module _ (c : PlainCode) (f : PlainFunction) (fip : Bool) (s : Scope) (B : ℕ �
       there : Known
       there = with_put k h.credits t d r (a ∷ as')
 
-      behind : Known
-      behind = record k { held = used_all k.held (a ∷ as') }
+      following : Known
+      following = record k { held = used_all k.held (a ∷ as') }
 
       was : held_at k.held r ≡ H.Credit (suc (length as'))
       was = taken_credit k.credits (suc (length as')) r h.credits (held_at k.held) h.taken ties.credits

@@ -89,12 +89,12 @@ pub record Right (c : PlainCode) (f : PlainFunction) (g : Holding) (ch : Choice)
 pub right_off : (c : PlainCode) (f : PlainFunction) (g : Holding) (ch : Choice) → Right c f g ch → Among (register ch.root) (below ch.root) → ⊥
 right_off c f g ch right a = (right.fresh (register ch.root) a).1.1 refl
 
--- what is told of the registers, with where froms lead
+-- what is reported of the registers, with where froms lead
 pub record Looks (c : PlainCode) (g : Holding) (ch : Choice) (k : Known) (read : List ℕ) (m : ℕ → Kind) : Type 0 where
   pub sight : Sight c.types g ch.type ch.root k read m
   pub froms : Froms (register ch.root) read m
 
--- a label where a body begins that is chosen there without an instruction takes what is told
+-- a label where a body begins that is chosen there without an instruction takes what is reported
 pub record BodiesTake (c : PlainCode) (f : PlainFunction) (g : Holding) (ch : Choice) : Type 0 where
   pub by : (at : ℕ) (k : Known) (read : List ℕ) (m : ℕ → Kind) → 0 < at → Looks c g ch k read m → BeginsBody c f ch at k read → Catches f at m
 
@@ -111,9 +111,9 @@ module _ (c : PlainCode) (f : PlainFunction) (g : Holding) (ch : Choice) (right 
     pub place : ℕ
     pub known : Known
     pub read : List ℕ
-    pub behind : ℕ → Kind
-    pub came : Came c f at m place behind
-    pub looks : Looks c g ch known read behind
+    pub following : ℕ → Kind
+    pub came : Came c f at m place following
+    pub looks : Looks c g ch known read following
     pub chosen : ChosenLaid f ch place known read i end
 
   ran_on : (at mid : ℕ) (m l : ℕ → Kind) (i end : ℕ) → Came c f at m mid l → Ran mid l i end → Ran at m i end
@@ -121,8 +121,8 @@ module _ (c : PlainCode) (f : PlainFunction) (g : Holding) (ch : Choice) (right 
     place = ran.place;
     known = ran.known;
     read = ran.read;
-    behind = ran.behind;
-    came = came_on c f at mid ran.place m l ran.behind came ran.came;
+    following = ran.following;
+    came = came_on c f at mid ran.place m l ran.following came ran.came;
     looks = ran.looks;
     chosen = ran.chosen;
   }
@@ -143,15 +143,15 @@ module _ (c : PlainCode) (f : PlainFunction) (g : Holding) (ch : Choice) (right 
 
   -- a clause is chosen without an instruction
   pub run_at_once : (n : ℕ) (k : Known) (read : List ℕ) (m : ℕ → Kind) (at i : ℕ) → Looks c g ch k read m → ChosenAtOnce c f ch n at k read i → Ran at m i at
-  run_at_once zero k read m at i looks h = record { place = at; known = k; read = read; behind = m; came = came_none c f at m; looks = looks; chosen = h }
+  run_at_once zero k read m at i looks h = record { place = at; known = k; read = read; following = m; came = came_none c f at m; looks = looks; chosen = h }
   run_at_once (suc n) k read m at i looks (p, asking, last, h) =
       run_at_once n (side true p k) read m at i (last_looks k read m p (typed_at k p asking) asking.asks last looks) h
 
   -- the positions that a test needs were read
   record ReadOn (k : Known) (p : M.Pattern) (at : ℕ) (m : ℕ → Kind) (mid : ℕ) (more : List ℕ) : Type 0 where
-    pub behind : ℕ → Kind
-    pub came : Came c f at m mid behind
-    pub looks : Looks c g ch k more behind
+    pub following : ℕ → Kind
+    pub came : Came c f at m mid following
+    pub looks : Looks c g ch k more following
     pub ready : Ready p k ch.root more
 
   read_on : (k : Known) (read : List ℕ) (m : ℕ → Kind) (p : M.Pattern) (at mid end : ℕ) (more : List ℕ) → IsPattern c.types ch.type p → compare p k ≡ Asks → Looks c g ch k read m → ReadsLaid f at p k ch.root read mid more → Quiet f at end m → mid ≤ end → ReadOn k p at m mid more
@@ -160,7 +160,7 @@ module _ (c : PlainCode) (f : PlainFunction) (g : Holding) (ch : Choice) (right 
       let r = reads c f (register ch.root) Root ch.type p k ch.root at read m mid more end typed asks right.differ off (λ z a. (right.fresh z a).1)
       (subst (OwnKind c.types Root ch.type k (register ch.root)) (sym looks.sight.root) (seen_own c.types ch.type (register ch.root) (g (register ch.root)) k right.seeing)) (inl refl) looks.sight.parts h looks.froms quiet le in
       record {
-        behind = r.behind;
+        following = r.following;
         came = r.came;
         looks = record {
           sight = record {
@@ -190,21 +190,21 @@ module _ (c : PlainCode) (f : PlainFunction) (g : Holding) (ch : Choice) (right 
       let one = h.one in
       let r = read_on k read m p at h.mid end more typed asks looks h.reads quiet (omega (arith, one, le)) in
       let form = seen_form c.types ch.type (g (register ch.root)) right.seeing in
-      let tested = tests c.types Root ch.type form.0 p k ch.root h.found more r.behind typed asks right.differ (right_off c f g ch right) form.1
+      let tested = tests c.types Root ch.type form.0 p k ch.root h.found more r.following typed asks right.differ (right_off c f g ch right) form.1
       (record { own = r.looks.sight.root ∙ form.2 k; parts = r.looks.sight.parts }) r.ready h.asks in
-      let yes = sided h.found.head h.found.register true r.behind in
+      let yes = sided h.found.head h.found.register true r.following in
       let ahead = h.ahead in
-      let failed = sided h.found.head h.found.register false r.behind in
-      let caught = caught_at c f g ch h.target (side false p k) more failed bodies (omega (arith, ahead)) (record { sight = tested_sight k more r.behind p form.0 h.found false form.2 r.looks tested; froms = froms_sided (register ch.root) more h.found.head h.found.register false r.behind r.looks.froms }) h.fails in
-      let quiet2 = came_quiet c f at h.mid end m r.behind r.came quiet in
-      let part = test_part c f h.mid r.behind h.found.register h.found.head h.target h.written tested.may caught (quiet2.first (omega (arith, one, le))) in (
+      let failed = sided h.found.head h.found.register false r.following in
+      let caught = caught_at c f g ch h.target (side false p k) more failed bodies (omega (arith, ahead)) (record { sight = tested_sight k more r.following p form.0 h.found false form.2 r.looks tested; froms = froms_sided (register ch.root) more h.found.head h.found.register false r.following r.looks.froms }) h.fails in
+      let quiet2 = came_quiet c f at h.mid end m r.following r.came quiet in
+      let part = test_part c f h.mid r.following h.found.register h.found.head h.target h.written tested.may caught (quiet2.first (omega (arith, one, le))) in (
         yes,
-        subst (λ b. Came c f at m b yes) (sym one) (came_on c f at h.mid (suc h.mid) m r.behind yes r.came (came_one c f h.mid r.behind yes part)),
-        record { sight = tested_sight k more r.behind p form.0 h.found true form.2 r.looks tested; froms = froms_sided (register ch.root) more h.found.head h.found.register true r.behind r.looks.froms },
+        subst (λ b. Came c f at m b yes) (sym one) (came_on c f at h.mid (suc h.mid) m r.following yes r.came (came_one c f h.mid r.following yes part)),
+        record { sight = tested_sight k more r.following p form.0 h.found true form.2 r.looks tested; froms = froms_sided (register ch.root) more h.found.head h.found.register true r.following r.looks.froms },
       )
 
   pub run : BodiesTake c f g ch → (n : ℕ) (k : Known) (read : List ℕ) (m : ℕ → Kind) (at i end next : ℕ) → Looks c g ch k read m → TestsLaid c f g ch n at k read i end → Quiet f at next m → end ≤ next → Ran at m i end
-  run bodies zero k read m at i end next looks h quiet le = record { place = at; known = k; read = read; behind = m; came = came_none c f at m; looks = looks; chosen = h }
+  run bodies zero k read m at i end next looks h quiet le = record { place = at; known = k; read = read; following = m; came = came_none c f at m; looks = looks; chosen = h }
   run bodies (suc n) k read m at i end next looks (p, asking, inl y) quiet le =
       run bodies n (side true p k) read m at i end next (last_looks k read m p (typed_at k p asking) asking.asks y.0 looks) y.1 quiet le
   run bodies (suc n) k read m at i end next looks (p, asking, inr y) quiet le =

@@ -13,7 +13,7 @@ use Rattle.separation.specs.cell_code.declared.kind.Kind.TheVariants as K
 use Rattle.lowering_relation.specs.Known.{Known}
 use Rattle.lowering_relation.specs.Values.{Setting}
 use Rattle.lowering_relation.specs.Describing.{Holding, held_at, kind_of, is_tree}
-use Rattle.lowering_relation.specs.Labels.{told}
+use Rattle.lowering_relation.specs.Labels.{reported}
 use Rattle.lowering_relation.specs.Sights.{Below, seen_kind, Sight}
 use Rattle.lowering_relation.specs.Tests.{Choice, ChunkLaid, SidesLaid}
 use Rattle.lowering_soundness.proofs.Standing.{Seeing, SeesScalar, SeesLent, SeesOwned, MatchStands}
@@ -108,30 +108,30 @@ module _ (c : PlainCode) (st : Setting) (f : PlainFunction) (ch : Choice) (k : K
     within = stands.within;
   }
 
-  pub first_sight : Sight c.types g ch.type ch.root (Open []) [] (told c k)
+  pub first_sight : Sight c.types g ch.type ch.root (Open []) [] (reported c k)
   first_sight = record {
     root = first_kind c.types ch.type (g (register ch.root)) stands.sees;
-    parts = first_below c.types (root_of (register ch.root) (g (register ch.root))) ch.type ch.root (told c k) (λ z a. ap (kind_of c.types) (stands.unused z a).0);
+    parts = first_below c.types (root_of (register ch.root) (g (register ch.root))) ch.type ch.root (reported c k) (λ z a. ap (kind_of c.types) (stands.unused z a).0);
     others = λ q ne away. refl;
   }
 
-  pub match_grows : (at mid : ℕ) → ChunkLaid c f g ch at (Open []) [] (told c k) mid → at ≤ mid
-  match_grows at mid first = chunk_grows c f g ch at (Open []) [] (told c k) mid first
+  pub match_grows : (at mid : ℕ) → ChunkLaid c f g ch at (Open []) [] (reported c k) mid → at ≤ mid
+  match_grows at mid first = chunk_grows c f g ch at (Open []) [] (reported c k) mid first
 
   pub sides_grow : (n at end : ℕ) → SidesLaid c f (wide_at g) ch n at end → at ≤ end
   sides_grow zero at end h = let z = h in omega (arith, z)
   sides_grow (suc n) at end h =
       let side = h.1 in
-      let a = chunk_grows c f (wide_at g) ch at side.known side.read side.told h.0 side.chunk in
+      let a = chunk_grows c f (wide_at g) ch at side.known side.read side.reported h.0 side.chunk in
       let b = sides_grow n h.0 end h.2 in
       omega (arith, a, b)
 
   module _ (entries : EntriesLaid c st f ch k) where
-    pub match_stretch : (at mid n end : ℕ) → ChunkLaid c f g ch at (Open []) [] (told c k) mid → SidesLaid c f (wide_at g) ch n mid end → 0 < mid → Stretch c f at (told c k) end
+    pub match_stretch : (at mid n end : ℕ) → ChunkLaid c f g ch at (Open []) [] (reported c k) mid → SidesLaid c f (wide_at g) ch n mid end → 0 < mid → Stretch c f at (reported c k) end
     match_stretch at mid n end first sides low =
-        sides_on c f st ch k entries right_wide based_wide n at (told c k) mid end
-        (chunk_stretch c f st ch k entries g right based at (Open []) [] (told c k) mid (sight_looks c g ch (Open []) [] (told c k) first_sight) first low) sides
+        sides_on c f st ch k entries right_wide based_wide n at (reported c k) mid end
+        (chunk_stretch c f st ch k entries g right based at (Open []) [] (reported c k) mid (sight_looks c g ch (Open []) [] (reported c k) first_sight) first low) sides
 
-    -- tests behind a body
+    -- tests after a body
     pub match_sides : (n a : ℕ) (m : ℕ → Kind) (at end : ℕ) → Stretch c f a m at → SidesLaid c f (wide_at g) ch n at end → Stretch c f a m end
     match_sides n a m at end x sides = sides_on c f st ch k entries right_wide based_wide n a m at end x sides

@@ -24,7 +24,7 @@ use Rattle.lowering_relation.specs.Known.{Known}
 use Rattle.lowering_relation.specs.Values.{Setting}
 use Rattle.lowering_relation.specs.Describing.{Holding, held_at, kind_of}
 use Rattle.lowering_soundness.specs.Parts.{Arrives, Admits, IsKept, AreKept, Part, LastPart}
-use Rattle.lowering_relation.specs.Labels.{Takes, Catches, Quiet, told}
+use Rattle.lowering_relation.specs.Labels.{Takes, Catches, Quiet, reported}
 use Rattle.lowering_relation.specs.Sights.{left, part_kind, Below, AllBelow, seen_kind, Sight}
 use Rattle.lowering_relation.specs.Tests.{Choice, BeginsBody, ChunkLaid, SidesLaid}
 use Rattle.lowering_relation.proofs.Growing.{tests_end}
@@ -54,7 +54,7 @@ gone_from own g is e = absurd (none (sym (ap from_of is) ∙ e))
     none : None ≡ Some g → ⊥
     none h = absurd (cc)
 
--- below one position, by what is told there
+-- below one position, by what is reported there
 deep_from : (w : Table) (root : Option ℕ) (t : ℕ) (k : M.Known) (s : Spot) (r i : ℕ) (read : List ℕ) (m : ℕ → Kind) (r0 q : ℕ) (g : From) → OnePart w root t k s r i read m → from_of (m q) ≡ Some g → Among q (below s) → (Below w root t k s read m → Seen r0 read (register s) → Seen r0 read g.register) → Seen r0 read g.register
 deep_from w root t k s r i read m r0 q g (inl h) e a deep = deep h.2 (inr h.0)
 deep_from w root t k s r i read m r0 q g (inr h) e a deep = absurd (gone_from (m q) g (h.2 q a).1 e)
@@ -182,8 +182,8 @@ chunk_grows c f g ch at κ read m next h =
     ]
 
 module _ (c : PlainCode) (f : PlainFunction) (st : Setting) (ch : Choice) (k : Known) (entries : (i : ℕ) (q : Pattern) (e : ℕ) → slice_get ch.patterns i ≡ Some q → slice_get ch.entries i ≡ Some e → (n : ℕ) × EntryLaid c st f ch k i q e n) where
-  positive_entry : (i : ℕ) (q : Pattern) (e n : ℕ) → 0 < e → EntryLaid c st f ch k i q e n → Catches f e (told c (entered st ch q k n))
-  positive_entry i q e n low h = elim h.enters as (λ v. Catches f e (told c (entered st ch q k n))) [
+  positive_entry : (i : ℕ) (q : Pattern) (e n : ℕ) → 0 < e → EntryLaid c st f ch k i q e n → Catches f e (reported c (entered st ch q k n))
+  positive_entry i q e n low h = elim h.enters as (λ v. Catches f e (reported c (entered st ch q k n))) [
     | inl y ↦ y.1
     | inr y ↦ (let z = y.0 in absurd (let x : ⊥ = omega (arith, low, z) in x))
   ]
@@ -192,22 +192,22 @@ module _ (c : PlainCode) (f : PlainFunction) (st : Setting) (ch : Choice) (k : K
   caught_by : (e : ℕ) (l m : ℕ → Kind) → Catches f e l → ((r : ℕ) → Rattle.separation.specs.code_rules.Fitting.fits (l r) (m r) ≡ true) → Catches f e m
   caught_by e l m caught less = record { map = caught.map; there = caught.there; takes = takes_less f.registers caught.map m l caught.takes less }
 
-  none_told : (at : ℕ) (m : ℕ → Kind) → Quiet f at at m
-  none_told at m = record {
+  none_reported : (at : ℕ) (m : ℕ → Kind) → Quiet f at at m
+  none_reported at m = record {
     first = λ low. absurd (let x : ⊥ = omega (arith, low) in x);
     others = λ p low high. absurd (let x : ⊥ = omega (arith, low, high) in x);
   }
 
-  -- the label of a body takes what is told where it is chosen without an instruction
+  -- the label of a body takes what is reported where it is chosen without an instruction
   pub bodies_take : (g : Holding) (right : Right c f g ch) (based : Based c st ch k g) → BodiesTake c f g ch
   bodies_take g right based = record { by = take }
     where
       take : (at : ℕ) (κ : M.Known) (read : List ℕ) (m : ℕ → Kind) → 0 < at → Looks c g ch κ read m → BeginsBody c f ch at κ read → Catches f at m
       take at κ read m low looks h =
           let ran = run_at_once c f g ch right h.steps κ read m at h.clause looks h.chosen in
-          let s = settle c f st g ch right k based h.clause at at at m ran (none_told at m) (omega arith) in
+          let s = settle c f st g ch right k based h.clause at at at m ran (none_reported at m) (omega arith) in
           let entry = entries h.clause ran.chosen.pattern at ran.chosen.there h.entry in
-          let l = told c (entered st ch ran.chosen.pattern k entry.0) in
+          let l = reported c (entered st ch ran.chosen.pattern k entry.0) in
           caught_by at l m (positive_entry h.clause ran.chosen.pattern at entry.0 low entry.1)
           (λ r. ap (Rattle.separation.specs.code_rules.Fitting.fits (l r)) (s.came.still refl r) ∙ s.enters entry.0 r)
 
@@ -225,9 +225,9 @@ module _ (c : PlainCode) (f : PlainFunction) (st : Setting) (ch : Choice) (k : K
           let s = settle c f st g ch right k based h.clause h.end next at m ran h.quiet le in
           let entry = entries h.clause ran.chosen.pattern h.place ran.chosen.there h.entry in
           let ahead = j.1 in
-          let caught = caught_by h.place (told c (entered st ch ran.chosen.pattern k entry.0)) s.behind (positive_entry h.clause ran.chosen.pattern h.place entry.0 (omega (arith, ahead)) entry.1) (λ r. s.enters entry.0 r) in
-          let quiet = came_quiet c f at h.end next m s.behind s.came h.quiet in
-          subst (Stretch c f at m) (sym one) (last_stretch c f at m (suc h.end) (part_and_last c f at h.end (suc h.end) m s.behind s.came.part (jump_last c f h.end s.behind h.place j.0 caught (quiet.first (omega (arith, one))))))
+          let caught = caught_by h.place (reported c (entered st ch ran.chosen.pattern k entry.0)) s.following (positive_entry h.clause ran.chosen.pattern h.place entry.0 (omega (arith, ahead)) entry.1) (λ r. s.enters entry.0 r) in
+          let quiet = came_quiet c f at h.end next m s.following s.came h.quiet in
+          subst (Stretch c f at m) (sym one) (last_stretch c f at m (suc h.end) (part_and_last c f at h.end (suc h.end) m s.following s.came.part (jump_last c f h.end s.following h.place j.0 caught (quiet.first (omega (arith, one))))))
       by (inr j) =
           let one = j.1 in
           let le : h.end ≤ next = omega (arith, one) in
@@ -235,9 +235,9 @@ module _ (c : PlainCode) (f : PlainFunction) (st : Setting) (ch : Choice) (k : K
           let s = settle c f st g ch right k based h.clause h.end next at m ran h.quiet le in
           let entry = entries h.clause ran.chosen.pattern h.place ran.chosen.there h.entry in
           let same = j.0 in
-          let l = told c (entered st ch ran.chosen.pattern k entry.0) in
+          let l = reported c (entered st ch ran.chosen.pattern k entry.0) in
           let caught : Catches f h.end l = subst (λ e. Catches f e l) same (positive_entry h.clause ran.chosen.pattern h.place entry.0 (omega (arith, same, one, low)) entry.1) in
-          subst (Stretch c f at m) (sym one) (part_stretch c f at m h.end l (both_parts c f at h.end h.end m s.behind l s.came.part (catch_part c f h.end s.behind l caught (λ r. s.enters entry.0 r))) caught)
+          subst (Stretch c f at m) (sym one) (part_stretch c f at m h.end l (both_parts c f at h.end h.end m s.following l s.came.part (catch_part c f h.end s.following l caught (λ r. s.enters entry.0 r))) caught)
 
   -- ---- what fails a test
 
@@ -253,7 +253,7 @@ module _ (c : PlainCode) (f : PlainFunction) (st : Setting) (ch : Choice) (k : K
   sides_on right based zero a m at end x h = subst (Stretch c f a m) (sym h) x
   sides_on right based (suc n) a m at end x h =
       let side = h.1 in
-      let grows = chunk_grows c f (wide_at (held_at k.held)) ch at side.known side.read side.told h.0 side.chunk in
+      let grows = chunk_grows c f (wide_at (held_at k.held)) ch at side.known side.read side.reported h.0 side.chunk in
       let later = side.later in
-      let one = chunk_stretch (wide_at (held_at k.held)) right based at side.known side.read side.told h.0 (sight_looks c (wide_at (held_at k.held)) ch side.known side.read side.told side.sight) side.chunk (omega (arith, grows, later)) in
-      sides_on right based n a m h.0 end (stretch_on c f a m at side.told h.0 x one) h.2
+      let one = chunk_stretch (wide_at (held_at k.held)) right based at side.known side.read side.reported h.0 (sight_looks c (wide_at (held_at k.held)) ch side.known side.read side.reported side.sight) side.chunk (omega (arith, grows, later)) in
+      sides_on right based n a m h.0 end (stretch_on c f a m at side.reported h.0 x one) h.2

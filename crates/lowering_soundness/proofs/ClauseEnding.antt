@@ -21,7 +21,7 @@ use Rattle.lowering_relation.specs.declared.held.Held.TheVariants as H
 use Rattle.lowering_relation.specs.Known.{Known}
 use Rattle.lowering_relation.specs.Values.{Setting}
 use Rattle.lowering_relation.specs.Describing.{held_at, is_tree}
-use Rattle.lowering_relation.specs.Labels.{told, Catches, Quiet}
+use Rattle.lowering_relation.specs.Labels.{reported, Catches, Quiet}
 use Rattle.lowering_relation.specs.Tests.{Choice}
 use Rattle.lowering_relation.specs.Matches.{widened, wide, entered}
 use Rattle.lowering_relation.specs.Credits.{of_size}
@@ -93,13 +93,13 @@ pub record ClausesDone (st : Setting) (o : Expression) (c : PlainCode) (f : Plai
   pub grows : at ≤ end
   pub arrived : Arrived st o fip c.types s B K X l low ds ts met
   pub spares : Spares j met
-  pub code : (after : Known) → Catches f end (told c after) → Spares met after → (at0 : ℕ) (m0 : ℕ → Kind) → Reached c f end (told c after) cs at at0 m0 → Rattle.lowering_soundness.specs.Parts.Part c f at0 m0 end (told c after)
+  pub code : (after : Known) → Catches f end (reported c after) → Spares met after → (at0 : ℕ) (m0 : ℕ → Kind) → Reached c f end (reported c after) cs at at0 m0 → Rattle.lowering_soundness.specs.Parts.Part c f at0 m0 end (reported c after)
 
 -- one clause, from its entry on
 pub record ClauseDone (st : Setting) (o : Expression) (c : PlainCode) (f : PlainFunction) (fip : Bool) (s : Scope) (B : ℕ → Bool) (K : ℕ → Item → ℕ) (X : Item → ℕ) (l : Known) (low : ℕ) (ds ts : List ℕ) (cs : Clauses) (end at : ℕ) (e : Known) (next : ℕ) (left : Known) : Type 0 where
   pub grows : at ≤ next
   pub arrived : Arrived st o fip c.types s B K X l low ds ts left
-  pub code : (after : Known) → Catches f end (told c after) → Spares left after → Reached c f end (told c after) cs next at (told c e)
+  pub code : (after : Known) → Catches f end (reported c after) → Spares left after → Reached c f end (reported c after) cs next at (reported c e)
 
 module _ (c : PlainCode) (st : Setting) (wd : W.World) (w : R.World) (shares : Shares c st wd) (callees : Callees c st wd w) (f : PlainFunction) (fip : Bool) where
   pub start_ties : (taken : Bool) (s : Scope) (B : ℕ → Bool) (K : ℕ → Item → ℕ) (R X L : Item → ℕ) (t r : ℕ) (k : Known) → Stands c st wd w shares callees f fip taken s B K R X L t r k → Ties fip c.types s B K (λ i. R i + X i) (λ q. owing taken c.types t r q) k
@@ -180,7 +180,7 @@ module _ (c : PlainCode) (st : Setting) (wd : W.World) (w : R.World) (shares : S
         mid_stops = over_grows fip ends.over
 
         bare : Bared c f fip s B K X (λ q. owed c.types ds ts q + 0) kept mid mk ends.mid ends.bare
-        bare = bared c f fip s B K X (λ q. owed c.types ds ts q + 0) kept ends.bares.steps mid mk ends.mid ends.bare ends.bares.gives within (quiet_front f mid ends.mid next (told c mk) (let a = stops in let b = mid_stops in omega (arith, a, b)) ends.quiet)
+        bare = bared c f fip s B K X (λ q. owed c.types ds ts q + 0) kept ends.bares.steps mid mk ends.mid ends.bare ends.bares.gives within (quiet_front f mid ends.mid next (reported c mk) (let a = stops in let b = mid_stops in omega (arith, a, b)) ends.quiet)
 
         sizes : (i : ℕ) → X (Credit i) ≤ sized i l.credits
         sizes i = let a = fits_le fip (sized i l.credits) (R (Credit i) + X (Credit i)) ((start_ties taken s B K R X L u (register ch.root) l on.stands).sizes i) in omega (arith, a)
@@ -203,13 +203,13 @@ module _ (c : PlainCode) (st : Setting) (wd : W.World) (w : R.World) (shares : S
             let less = owners_less l.names (own (λ i. R i + X i)) (own X) r (λ y. omega arith) in
             one_positive (is_tree (held_at l.held r)) (owners l.names (own X) r) (omega (arith, le, less)) more
 
-        quiet_bare : Quiet f ends.mid next (told c ends.bare)
-        quiet_bare = quiet_back f mid ends.mid next (told c mk) (told c ends.bare) bare.grows ends.quiet bare.still
+        quiet_bare : Quiet f ends.mid next (reported c ends.bare)
+        quiet_bare = quiet_back f mid ends.mid next (reported c mk) (reported c ends.bare) bare.grows ends.quiet bare.still
 
         over : Left c st f fip s B K X kept ds ts ends.mid ends.bare ends.stop ends.left
         over =
             left_over c st f fip s B K X kept ds ts l whole (λ r more. (there r more, unused r more)) enough ends.mid ends.bare ends.stop ends.left ends.over second bare.ties
-            (quiet_front f ends.mid ends.stop next (told c ends.bare) stops quiet_bare)
+            (quiet_front f ends.mid ends.stop next (reported c ends.bare) stops quiet_bare)
 
         kept_over : Keeps s X ends.bare ends.left
         kept_over =
@@ -235,7 +235,7 @@ module _ (c : PlainCode) (st : Setting) (wd : W.World) (w : R.World) (shares : S
         tree_of : (g h : Held) → widened g ≡ widened h → is_tree h ≡ true → is_tree g ≡ true
         tree_of g h same tree = sym (wide_tree g) ∙ (ap is_tree same ∙ (wide_tree h ∙ tree))
 
-        -- what was a tree before constructors that were matched were used up is one behind
+        -- what was a tree before constructors that were matched were used up is one after
         bare_tree : (r : ℕ) → is_tree (held_at mk.held r) ≡ true → held_at ends.bare.held r ≡ held_at mk.held r
         bare_tree r tree = elim (bare.each r) as (λ v. held_at ends.bare.held r ≡ held_at mk.held r) [
           | inl same ↦ same
@@ -292,11 +292,11 @@ module _ (c : PlainCode) (st : Setting) (wd : W.World) (w : R.World) (shares : S
               (nothing_left r (barely_nothing (held_at mk.held) (held_at ends.bare.held) r bare.each (got.empty r (let a = on.grows in let d = root_next st ch.takes q ch.root (record l { next = m }) in omega (arith, low, a, d, more)) (empty_entry q m r low z) ne)));
         }
 
-        code : (after : Known) → Catches f end (told c after) → Spares left after → Reached c f end (told c after) cs next at (told c (entered st ch q l m))
+        code : (after : Known) → Catches f end (reported c after) → Spares left after → Reached c f end (reported c after) cs next at (reported c (entered st ch q l m))
         code after caught spares =
-            reached_part c f end (told c after) cs next at (told c e) mid (told c mk) got.part
-            (reached_part c f end (told c after) cs next mid (told c mk) ends.mid (told c ends.bare) bare.part
-            (reached_part c f end (told c after) cs next ends.mid (told c ends.bare) ends.stop (told c ends.left) over.part
-            (reached_end c f end (told c after) cs ends.stop next (told c ends.left) ends.goes caught
+            reached_part c f end (reported c after) cs next at (reported c e) mid (reported c mk) got.part
+            (reached_part c f end (reported c after) cs next mid (reported c mk) ends.mid (reported c ends.bare) bare.part
+            (reached_part c f end (reported c after) cs next ends.mid (reported c ends.bare) ends.stop (reported c ends.left) over.part
+            (reached_end c f end (reported c after) cs ends.stop next (reported c ends.left) ends.goes caught
             (λ r. spares_fit c.types ends.left after ends.built (subst (λ l. Spares l after) ends.known spares) r)
-            (quiet_back f ends.mid ends.stop next (told c ends.bare) (told c ends.left) over.grows quiet_bare over.still).first)))
+            (quiet_back f ends.mid ends.stop next (reported c ends.bare) (reported c ends.left) over.grows quiet_bare over.still).first)))

@@ -160,7 +160,7 @@ module _ (c : PlainCode) (st : Setting) (wd : W.World) (w : R.World) (shares : S
       | inr h ↦ opens.others y h
     ]
 
-    -- behind the binders' numbers nothing is owned
+    -- after the binders' numbers nothing is owned
     beyond : (y m : ℕ) (ds : List Binder) → m + length ds ≤ y → has (variables w m ds) y ≡ false
     beyond y m [] low = refl
     beyond y m (d ∷ ds) low = one (w.scalar d.ty) (beyond y (suc m) ds (omega (arith, low)))

@@ -1,4 +1,4 @@
--- Kinds that are told stay so where a register is written, or a tree is used up.
+-- Kinds that are reported stay so where a register is written, or a tree is used up.
 use Rattle.std.proofs.Common.{◌≡◌, ℕ, ◌<◌, Bool, true, false, ◌||◌, List, length, Option, Some, None, refl, sym, ap, ◌∙◌, subst, true≢false, arith, if◌then◌else◌, ◌==◌}
 use Rattle.separation.specs.fip_language.Table.{Table}
 use Rattle.separation.specs.cell_code.declared.kind.Kind.{Kind}
@@ -35,8 +35,8 @@ pub covered_same : (n : ℕ) (m l : ℕ → Kind) (ks : List Kind) → Covered n
 covered_same n m l ks c e = record { wide = c.wide; each = λ r. subst (λ k. Covers k (at ks r)) (e r) (c.each r) }
 
 -- what is known of one register stands within the list
-pub told_within : (w : Table) (n : ℕ) (g : Holding) (ks : List Kind) (r : ℕ) → Covered n (kinds_of w g) ks → (at ks r ≡ Gone → ⊥) → r < n
-told_within w n g ks r c h = let e = c.wide in let i = not_gone_within ks r h in omega arith
+pub reported_within : (w : Table) (n : ℕ) (g : Holding) (ks : List Kind) (r : ℕ) → Covered n (kinds_of w g) ks → (at ks r ≡ Gone → ⊥) → r < n
+reported_within w n g ks r c h = let e = c.wide in let i = not_gone_within ks r h in omega arith
 
 -- ---- a register is written
 

@@ -22,7 +22,7 @@ use Rattle.lowering_soundness.specs.Giving.{is_credit_of}
 use Rattle.lowering_soundness.specs.Rows.{IsRow}
 use Rattle.lowering_soundness.specs.Parts.{Part, LastPart, is_straight}
 use Rattle.lowering_soundness.specs.Ties.{one_if, owners, own, HoldsValue, owe, owed, Stays, Ties}
-use Rattle.lowering_relation.specs.Labels.{told, Quiet}
+use Rattle.lowering_relation.specs.Labels.{reported, Quiet}
 use Rattle.lowering_relation.specs.Credits.{LastGone}
 use Rattle.lowering_soundness.proofs.Balance.{stays_on}
 use Rattle.lowering_soundness.specs.Computed.{Computed}
@@ -56,14 +56,14 @@ module _ (c : PlainCode) (f : PlainFunction) (fip : Bool) (s : Scope) (B : ℕ �
       one_credits (inr m) = ap (λ (m : Known). m.credits) m.known
 
   -- into registers
-  pub given_into : (X : Item → ℕ) (e : ℕ → ℕ) (at : ℕ) (k : Known) (rs ts : List ℕ) (mid : ℕ) (m : Known) (ds : List ℕ) (end : ℕ) (l : Known) → Computed c f fip s B K X e at k rs ts mid m → MovesLaid f.instrs mid m rs ds end l → LastGone k.credits m.credits → length ds ≡ length ts → ((z y : ℕ) → K z (Own y) ≤ X (Own y)) → Waiting k ds → m.next ≤ length k.held → length k.held ≡ f.registers → Quiet f at end (told c k) → Settled c f fip s B K X e at k ds ts end l
+  pub given_into : (X : Item → ℕ) (e : ℕ → ℕ) (at : ℕ) (k : Known) (rs ts : List ℕ) (mid : ℕ) (m : Known) (ds : List ℕ) (end : ℕ) (l : Known) → Computed c f fip s B K X e at k rs ts mid m → MovesLaid f.instrs mid m rs ds end l → LastGone k.credits m.credits → length ds ≡ length ts → ((z y : ℕ) → K z (Own y) ≤ X (Own y)) → Waiting k ds → m.next ≤ length k.held → length k.held ≡ f.registers → Quiet f at end (reported c k) → Settled c f fip s B K X e at k ds ts end l
   given_into X e at k rs ts mid m ds end l h moved last many kept wait room wide quiet =
-      let went = moves c f fip s B K X e mid m rs ds ts end l moved many h.ties kept h.hold (waiting_later X e at k rs ts mid m ds h wait) (let z = h.width in omega (arith, z, room)) (h.width ∙ wide) (quiet_back f at mid end (told c k) (told c m) h.grows quiet h.still) in
+      let went = moves c f fip s B K X e mid m rs ds ts end l moved many h.ties kept h.hold (waiting_later X e at k rs ts mid m ds h wait) (let z = h.width in omega (arith, z, room)) (h.width ∙ wide) (quiet_back f at mid end (reported c k) (reported c m) h.grows quiet h.still) in
       let a = h.grows in
       let b = went.grows in
       record {
         grows = omega (arith, a, b);
-        part = both_parts c f at mid end (told c k) (told c m) (told c l) h.part went.part;
+        part = both_parts c f at mid end (reported c k) (reported c m) (reported c l) h.part went.part;
         next = (let x = h.next in let y = went.next in omega (arith, x, y));
         width = went.width ∙ h.width;
         names = went.names ∙ h.names;
@@ -120,14 +120,14 @@ module _ (c : PlainCode) (f : PlainFunction) (fip : Bool) (s : Scope) (B : ℕ �
   result_value bool o = record { scalar = λ e. refl; owned = λ e. absurd (true≢false (sym (result_scalar bool o) ∙ e)) }
 
   -- a value comes into a register that waits
-  pub waiting_value : (X : Item → ℕ) (e : ℕ → ℕ) (at : ℕ) (k : Known) (d : ℕ) (h : Held) (t : ℕ) (x : Instr) → slice_get f.instrs at ≡ Some x → is_straight x ≡ true → HoldsValue c.types t h → IsRow c f (told c k) x (kinds_of c.types (setting (held_at k.held) d h)) → Ties fip c.types s B K X e k → ((z y : ℕ) → K z (Own y) ≤ X (Own y)) → held_at k.held d ≡ H.Nothing → suc d ≤ k.next → k.next ≤ length k.held → Quiet f at (suc at) (told c k) → MovedAll c f fip s B K X e at k (d ∷ []) (t ∷ []) (suc at) (holding k d h)
+  pub waiting_value : (X : Item → ℕ) (e : ℕ → ℕ) (at : ℕ) (k : Known) (d : ℕ) (h : Held) (t : ℕ) (x : Instr) → slice_get f.instrs at ≡ Some x → is_straight x ≡ true → HoldsValue c.types t h → IsRow c f (reported c k) x (kinds_of c.types (setting (held_at k.held) d h)) → Ties fip c.types s B K X e k → ((z y : ℕ) → K z (Own y) ≤ X (Own y)) → held_at k.held d ≡ H.Nothing → suc d ≤ k.next → k.next ≤ length k.held → Quiet f at (suc at) (reported c k) → MovedAll c f fip s B K X e at k (d ∷ []) (t ∷ []) (suc at) (holding k d h)
   waiting_value X e at k d h t x there straight v row ties kept empty low room quiet =
       let g = held_at k.held in
       let held : held_at (slice_set k.held d h) ≡ setting g d h = held_set_fn k.held d h (omega (arith, low, room)) in
       record {
         grows = omega arith;
         still = λ z q. absurd (let y : ⊥ = omega (arith, z) in y);
-        part = subst (λ y. Part c f at (told c k) (suc at) (kinds_of c.types y)) (sym held) (one_row c f at (told c k) (kinds_of c.types (setting g d h)) x there straight row (quiet.first (omega arith)));
+        part = subst (λ y. Part c f at (reported c k) (suc at) (kinds_of c.types y)) (sym held) (one_row c f at (reported c k) (kinds_of c.types (setting g d h)) x there straight row (quiet.first (omega arith)));
         names = refl;
         next = refl;
         width = length_set k.held d h;
@@ -150,7 +150,7 @@ module _ (c : PlainCode) (f : PlainFunction) (fip : Bool) (s : Scope) (B : ℕ �
   ints_unowed : (X : Item → ℕ) (e : ℕ → ℕ) (m : Known) (x y : ℕ) → Ties fip c.types s B K X (λ q. owed c.types (x ∷ y ∷ []) (0 ∷ 0 ∷ []) q + e q) m → Ties fip c.types s B K X e m
   ints_unowed X e m x y ties = ties_owe fip c.types s B K X (λ q. owed c.types (x ∷ y ∷ []) (0 ∷ 0 ∷ []) q + e q) e m (λ q. let a = int_owes x q in let b = int_owes y q in omega (arith, a, b)) ties
 
-  pub operation_into : (X : Item → ℕ) (e : ℕ → ℕ) (at : ℕ) (k : Known) (x y mid : ℕ) (m : Known) (o : Operator) (p : Place) (ds : List ℕ) (end : ℕ) (l : Known) → is_scalar_type c.types 1 ≡ true → Computed c f fip s B K X e at k (x ∷ y ∷ []) (0 ∷ 0 ∷ []) mid m → OperationLaid fip f mid m o p x y (Into ds) end l → LastGone k.credits m.credits → length ds ≡ 1 → ((z y : ℕ) → K z (Own y) ≤ X (Own y)) → Waiting k ds → m.next ≤ length k.held → length k.held ≡ f.registers → Quiet f at end (told c k) → Settled c f fip s B K X e at k ds (L.result_type o ∷ []) end l
+  pub operation_into : (X : Item → ℕ) (e : ℕ → ℕ) (at : ℕ) (k : Known) (x y mid : ℕ) (m : Known) (o : Operator) (p : Place) (ds : List ℕ) (end : ℕ) (l : Known) → is_scalar_type c.types 1 ≡ true → Computed c f fip s B K X e at k (x ∷ y ∷ []) (0 ∷ 0 ∷ []) mid m → OperationLaid fip f mid m o p x y (Into ds) end l → LastGone k.credits m.credits → length ds ≡ 1 → ((z y : ℕ) → K z (Own y) ≤ X (Own y)) → Waiting k ds → m.next ≤ length k.held → length k.held ≡ f.registers → Quiet f at end (reported c k) → Settled c f fip s B K X e at k ds (L.result_type o ∷ []) end l
   operation_into X e at k x y mid m o p [] end l bool h op last_gone many kept wait room wide quiet = absurd (omega (arith, many))
   operation_into X e at k x y mid m o p (d ∷ d2 ∷ ds) end l bool h op last_gone many kept wait room wide quiet = absurd (omega (arith, many))
   operation_into X e at k x y mid m o p (d ∷ []) end l bool h op last_gone many kept wait room wide quiet = into op.given.2
@@ -166,12 +166,12 @@ module _ (c : PlainCode) (f : PlainFunction) (fip : Bool) (s : Scope) (B : ℕ �
           let known : holding m d new ≡ l = ap (λ t. holding m d (H.Scalar t)) (sym (result_same o)) ∙ (sym op.goes.1 ∙ (sym there.known ∙ sym op.given.3.1)) in
           let a = h.grows in
           let w = h.width in
-          let quiet2 : Quiet f mid (suc mid) (told c m) = subst (λ b. Quiet f mid b (told c m)) (sym last) (quiet_back f at mid end (told c k) (told c m) h.grows quiet h.still) in
+          let quiet2 : Quiet f mid (suc mid) (reported c m) = subst (λ b. Quiet f mid b (reported c m)) (sym last) (quiet_back f at mid end (reported c k) (reported c m) h.grows quiet h.still) in
           let row = arith_row c f (held_at m.held) d o x y p.line p.col (is_int (held_at m.held) x h.hold.0) (is_int (held_at m.held) y h.hold.1.0) (ap is_spare waits.0) (let z = waits.1 in omega (arith, z, room, wide)) in
           let put = waiting_value X e mid m d new (L.result_type o) (I.Arith d o x y p.line p.col) (subst (λ d. slice_get f.instrs mid ≡ Some (I.Arith d o x y p.line p.col)) op.goes.0 op.written) refl (result_value bool o) row (ints_unowed X e m x y h.ties) kept waits.0 waits.1 (omega (arith, room, w)) quiet2 in
           subst₂ (λ b z. Settled c f fip s B K X e at k (d ∷ []) (L.result_type o ∷ []) b z) last known (record {
             grows = omega (arith, a);
-            part = both_parts c f at mid (suc mid) (told c k) (told c m) (told c (holding m d new)) h.part put.part;
+            part = both_parts c f at mid (suc mid) (reported c k) (reported c m) (reported c (holding m d new)) h.part put.part;
             next = h.next;
             width = put.width ∙ h.width;
             names = put.names ∙ h.names;
@@ -185,19 +185,19 @@ module _ (c : PlainCode) (f : PlainFunction) (fip : Bool) (s : Scope) (B : ℕ �
 
   -- ---- results of the function
 
-  pub ended : (at : ℕ) (k : Known) (rs ts : List ℕ) (mid : ℕ) (m : Known) (end : ℕ) → Computed c f fip s B K (λ i. 0) (λ q. 0) at k rs ts mid m → RetLaid fip f mid m rs end → f.results ≡ ts → Quiet f at end (told c k) → LastPart c f at (told c k) end
+  pub ended : (at : ℕ) (k : Known) (rs ts : List ℕ) (mid : ℕ) (m : Known) (end : ℕ) → Computed c f fip s B K (λ i. 0) (λ q. 0) at k rs ts mid m → RetLaid fip f mid m rs end → f.results ≡ ts → Quiet f at end (reported c k) → LastPart c f at (reported c k) end
   ended at k rs ts mid m end h ret types quiet =
-      part_and_last c f at mid end (told c k) (told c m) h.part
-      (ret_part c f fip s B K mid m rs ts end ret types h.ties h.hold (quiet_back f at mid end (told c k) (told c m) h.grows quiet h.still))
+      part_and_last c f at mid end (reported c k) (reported c m) h.part
+      (ret_part c f fip s B K mid m rs ts end ret types h.ties h.hold (quiet_back f at mid end (reported c k) (reported c m) h.grows quiet h.still))
 
-  pub operation_ends : (at : ℕ) (k : Known) (x y mid : ℕ) (m : Known) (o : Operator) (p : Place) (end : ℕ) (l : Known) → is_scalar_type c.types 1 ≡ true → Computed c f fip s B K (λ i. 0) (λ q. 0) at k (x ∷ y ∷ []) (0 ∷ 0 ∷ []) mid m → OperationLaid fip f mid m o p x y Return end l → f.results ≡ L.result_type o ∷ [] → ((z y : ℕ) → K z (Own y) ≤ 0) → suc m.next ≤ length k.held → length k.held ≡ f.registers → Quiet f at end (told c k) → LastPart c f at (told c k) end
+  pub operation_ends : (at : ℕ) (k : Known) (x y mid : ℕ) (m : Known) (o : Operator) (p : Place) (end : ℕ) (l : Known) → is_scalar_type c.types 1 ≡ true → Computed c f fip s B K (λ i. 0) (λ q. 0) at k (x ∷ y ∷ []) (0 ∷ 0 ∷ []) mid m → OperationLaid fip f mid m o p x y Return end l → f.results ≡ L.result_type o ∷ [] → ((z y : ℕ) → K z (Own y) ≤ 0) → suc m.next ≤ length k.held → length k.held ≡ f.registers → Quiet f at end (reported c k) → LastPart c f at (reported c k) end
   operation_ends at k x y mid m o p end l bool h op types kept room wide quiet =
       let new = H.Scalar (L.result_type o) in
       let a = h.grows in
       let w = h.width in
       let ret : RetLaid fip f (suc mid) (with_next m new) (m.next ∷ []) end = subst₂ (λ z d. RetLaid fip f (suc mid) z (d ∷ []) end) (op.goes.1 ∙ ap (λ t. with_next m (H.Scalar t)) (result_same o)) op.goes.0 op.given in
       let later : suc mid ≤ end = (let z = gives_grow f fip ret.steps (suc mid) (record (with_next m new) { held = used_all (with_next m new).held (m.next ∷ []) }) ret.stop ret.left ret.gives in let y = ret.one in omega (arith, z, y)) in
-      let quiet2 : Quiet f mid (suc mid) (told c m) = quiet_front f mid (suc mid) end (told c m) later (quiet_back f at mid end (told c k) (told c m) h.grows quiet h.still) in
+      let quiet2 : Quiet f mid (suc mid) (reported c m) = quiet_front f mid (suc mid) end (reported c m) later (quiet_back f at mid end (reported c k) (reported c m) h.grows quiet h.still) in
       let row = arith_row c f (held_at m.held) m.next o x y p.line p.col (is_int (held_at m.held) x h.hold.0) (is_int (held_at m.held) y h.hold.1.0) (ap is_spare (h.ties.fresh m.next (omega arith))) (omega (arith, room, wide)) in
       let put = fresh_value c f fip s B K (λ i. 0) (λ q. 0) mid m new (L.result_type o) (I.Arith m.next o x y p.line p.col) (subst (λ d. slice_get f.instrs mid ≡ Some (I.Arith d o x y p.line p.col)) op.goes.0 op.written) refl (result_value bool o) row (ints_unowed (λ i. 0) (λ q. 0) m x y h.ties) kept quiet2 (omega (arith, room, w)) in
       ended at k (m.next ∷ []) (L.result_type o ∷ []) (suc mid) (with_next m new) end

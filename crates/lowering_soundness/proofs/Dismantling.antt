@@ -34,7 +34,7 @@ use Rattle.lowering_soundness.proofs.Heirs.{has_among, not_among, owned_kind, Cl
 use Rattle.lowering_soundness.proofs.Taking.{settled_at, taken_at, MayTake, take_row}
 use Rattle.lowering_soundness.proofs.Parted.{Knows, Children, children_on, after_take, Inside, inside_more, gone_inside, own_inside, below_inside, children_inside, below_free, all_free}
 
--- ---- what is told behind it
+-- ---- what is reported after it
 
 abbrev pub AllFree : List ℕ → (ℕ → Kind) → Type 0
 AllFree zs m = (z : ℕ) → Among z zs → is_free (m z) ≡ true
@@ -135,14 +135,14 @@ alone_outside r zs m alone q ne =
     }
 
 module _ (c : PlainCode) (f : PlainFunction) where
-  -- behind some that are taken apart: registers outside stay, but for what is lent of r
+  -- after some that are taken apart: registers outside stay, but for what is lent of r
   pub record Took (zs : List ℕ) (r : ℕ) (P : (ℕ → Kind) → Type 0) (at : ℕ) (m : ℕ → Kind) (end : ℕ) : Type 0 where
-    pub behind : ℕ → Kind
-    pub came : Came c f at m end behind
-    pub parts : P behind
-    pub others : (q : ℕ) → (Among q zs → ⊥) → is_lent_of r (m q) ≡ false → behind q ≡ m q
-    pub freed : (q : ℕ) → (Among q zs → ⊥) → is_lent_of r (m q) ≡ true → is_free (behind q) ≡ true
-    pub inside : (q : ℕ) → Among q zs → Inside zs (behind q)
+    pub following : ℕ → Kind
+    pub came : Came c f at m end following
+    pub parts : P following
+    pub others : (q : ℕ) → (Among q zs → ⊥) → is_lent_of r (m q) ≡ false → following q ≡ m q
+    pub freed : (q : ℕ) → (Among q zs → ⊥) → is_lent_of r (m q) ≡ true → is_free (following q) ≡ true
+    pub inside : (q : ℕ) → Among q zs → Inside zs (following q)
 
   lent_free : (r : ℕ) (k : Kind) → is_lent_of r k ≡ true → is_free k ≡ true
   lent_free r K.Gone h = refl
@@ -153,7 +153,7 @@ module _ (c : PlainCode) (f : PlainFunction) where
 
   took_none : (zs : List ℕ) (r : ℕ) (P : (ℕ → Kind) → Type 0) (at : ℕ) (m : ℕ → Kind) (end : ℕ) → end ≡ at → P m → ((q : ℕ) → Among q zs → Inside zs (m q)) → Took zs r P at m end
   took_none zs r P at m end e p inside = record {
-    behind = m;
+    following = m;
     came = subst (λ b. Came c f at m b m) (sym e) (came_none c f at m);
     parts = p;
     others = λ q ne none. refl;
@@ -172,7 +172,7 @@ module _ (c : PlainCode) (f : PlainFunction) where
 
   -- ---- one cell
 
-  -- what is told behind the Take itself
+  -- what is reported after the Take itself
   pub record CellTaken (ts : List ℕ) (ks : Knowns) (r : ℕ) (fs : Spots) (size : ℕ) (read : List ℕ) (m l : ℕ → Kind) : Type 0 where
     pub own : l r ≡ credit size
     pub parts : Children c.types ts ks fs read l
@@ -223,7 +223,7 @@ module _ (c : PlainCode) (f : PlainFunction) where
       no_from : (g : From) → None ≡ Some g → ⊥
       no_from g e = absurd (cc)
 
-  -- the first field, before those behind it
+  -- the first field, before those after it
   first_alone : (ts : List ℕ) (ks : Knowns) (s : Spot) (ss : Spots) (read : List ℕ) (m : ℕ → Kind) → AllDiffer (MoreSpots s ss) → Alone (all_in (MoreSpots s ss)) m → Children c.types ts ks ss read m → Alone (register s ∷ below s) m
   first_alone ts ks s ss read m differ alone rest q ne = elim (or_not (has (all_in ss) q)) as (λ v. ((z : ℕ) → Among z (register s ∷ below s) → is_lent_of z (m q) ≡ false) × ((g : From) → from_of (m q) ≡ Some g → Among g.register (register s ∷ below s) → ⊥)) [
     | inl e ↦ (
@@ -248,7 +248,7 @@ module _ (c : PlainCode) (f : PlainFunction) where
         | inr z ↦ inr z
       ]
 
-  -- those behind it, after the first
+  -- those after it, after the first
   rest_alone : (s : Spot) (ss : Spots) (m l : ℕ → Kind) → AllDiffer (MoreSpots s ss) → Alone (all_in (MoreSpots s ss)) m → ((q : ℕ) → (Among q (register s ∷ below s) → ⊥) → l q ≡ m q) → ((q : ℕ) → Among q (register s ∷ below s) → Inside (register s ∷ below s) (l q)) → Alone (all_in ss) l
   rest_alone s ss m l differ alone same inside q ne = elim (or_not (has (register s ∷ below s) q)) as (λ v. ((z : ℕ) → Among z (all_in ss) → is_lent_of z (l q) ≡ false) × ((g : From) → from_of (l q) ≡ Some g → Among g.register (all_in ss) → ⊥)) [
     | inl e ↦ (
@@ -281,25 +281,25 @@ module _ (c : PlainCode) (f : PlainFunction) where
 
   -- the same of several, of which nothing is lent elsewhere
   pub record TookAll (zs : List ℕ) (P : (ℕ → Kind) → Type 0) (at : ℕ) (m : ℕ → Kind) (end : ℕ) : Type 0 where
-    pub behind : ℕ → Kind
-    pub came : Came c f at m end behind
-    pub parts : P behind
-    pub others : (q : ℕ) → (Among q zs → ⊥) → behind q ≡ m q
-    pub inside : (q : ℕ) → Among q zs → Inside zs (behind q)
+    pub following : ℕ → Kind
+    pub came : Came c f at m end following
+    pub parts : P following
+    pub others : (q : ℕ) → (Among q zs → ⊥) → following q ≡ m q
+    pub inside : (q : ℕ) → Among q zs → Inside zs (following q)
 
-  -- the first field and those behind it
-  both_took : (p : Pattern) (ps : Patterns) (t : ℕ) (ts : List ℕ) (s : Spot) (ss : Spots) (at mid end : ℕ) (m : ℕ → Kind) → AllDiffer (MoreSpots s ss) → ((q : ℕ) → (Among q (register s ∷ below s) → ⊥) → is_lent_of (register s) (m q) ≡ false) → (a : Took (register s ∷ below s) (register s) (After c.types p t s) at m mid) → TookAll (all_in ss) (AllAfter c.types ps ts ss) mid a.behind end → TookAll (all_in (MoreSpots s ss)) (AllAfter c.types (MorePatterns p ps) (t ∷ ts) (MoreSpots s ss)) at m end
+  -- the first field and those after it
+  both_took : (p : Pattern) (ps : Patterns) (t : ℕ) (ts : List ℕ) (s : Spot) (ss : Spots) (at mid end : ℕ) (m : ℕ → Kind) → AllDiffer (MoreSpots s ss) → ((q : ℕ) → (Among q (register s ∷ below s) → ⊥) → is_lent_of (register s) (m q) ≡ false) → (a : Took (register s ∷ below s) (register s) (After c.types p t s) at m mid) → TookAll (all_in ss) (AllAfter c.types ps ts ss) mid a.following end → TookAll (all_in (MoreSpots s ss)) (AllAfter c.types (MorePatterns p ps) (t ∷ ts) (MoreSpots s ss)) at m end
   both_took p ps t ts s ss at mid end m differ none a b = record {
-    behind = b.behind;
-    came = came_on c f at mid end m a.behind b.behind a.came b.came;
-    parts = (after_on c.types p t s a.behind b.behind (λ z y. b.others z (λ x. apart_of s ss z differ x y)) a.parts, b.parts);
+    following = b.following;
+    came = came_on c f at mid end m a.following b.following a.came b.came;
+    parts = (after_on c.types p t s a.following b.following (λ z y. b.others z (λ x. apart_of s ss z differ x y)) a.parts, b.parts);
     others = λ q ne. b.others q (λ x. ne (in_tail q s ss x)) ∙ a.others q (λ x. ne (in_part q s ss x)) (none q (λ x. ne (in_part q s ss x)));
-    inside = λ q x. elim (or_not (has (all_in ss) q)) as (λ v. Inside (all_in (MoreSpots s ss)) (b.behind q)) [
-      | inl e ↦ inside_more (all_in ss) (all_in (MoreSpots s ss)) (b.behind q) (λ z y. in_tail z s ss y) (b.inside q (has_among (all_in ss) q e))
+    inside = λ q x. elim (or_not (has (all_in ss) q)) as (λ v. Inside (all_in (MoreSpots s ss)) (b.following q)) [
+      | inl e ↦ inside_more (all_in ss) (all_in (MoreSpots s ss)) (b.following q) (λ z y. in_tail z s ss y) (b.inside q (has_among (all_in ss) q e))
       | inr e ↦
           (let off = not_among (all_in ss) q e in
           let here = in_first q off x in
-          subst (Inside (all_in (MoreSpots s ss))) (sym (b.others q off)) (inside_more (register s ∷ below s) (all_in (MoreSpots s ss)) (a.behind q) (λ z y. in_part z s ss y) (a.inside q here)))
+          subst (Inside (all_in (MoreSpots s ss))) (sym (b.others q off)) (inside_more (register s ∷ below s) (all_in (MoreSpots s ss)) (a.following q) (λ z y. in_part z s ss y) (a.inside q here)))
     ];
   }
     where
@@ -313,23 +313,23 @@ module _ (c : PlainCode) (f : PlainFunction) where
   -- the cell of a constructor and what is below it
   cell_took : (u d : ℕ) (a : Rattle.lowering_relation.specs.fip_trees.Tree.Name) (z : Rattle.separation.specs.fip_language.declared.Place.Place) (t n r : ℕ) (p : Pattern) (ps : Patterns) (ks : Knowns) (fs : Spots) (read : List ℕ) (at mid end : ℕ) (m l : ℕ → Kind) → (Among r (all_in fs) → ⊥) → Came c f at m mid l → CellTaken (fields c.types t n) ks r fs (suc (count_patterns ps)) read m l → TookAll (all_in fs) (AllAfter c.types (MorePatterns p ps) (fields c.types t n) fs) mid l end → Took (r ∷ all_in fs) r (After c.types (ConstructorPattern u d n a z (MorePatterns p ps)) t (At r fs)) at m end
   cell_took u d a z t n r p ps ks fs read at mid end m l off came taken b = record {
-    behind = b.behind;
-    came = came_on c f at mid end m l b.behind came b.came;
+    following = b.following;
+    came = came_on c f at mid end m l b.following came b.came;
     parts = (own, b.parts);
     others = λ q ne none. b.others q (λ x. ne (inr x)) ∙ (taken.others q (λ x. ne (inl x)) (λ x. ne (inr x)) ∙ refused (is_lent_of r (m q)) K.Gone (m q) none);
     freed = λ q ne lent. ap is_free (b.others q (λ x. ne (inr x)) ∙ (taken.others q (λ x. ne (inl x)) (λ x. ne (inr x)) ∙ chosen (is_lent_of r (m q)) K.Gone (m q) lent));
     inside = within;
   }
     where
-      own : b.behind r ≡ K.Credit (suc (count_patterns ps))
+      own : b.following r ≡ K.Credit (suc (count_patterns ps))
       own = b.others r off ∙ taken.own
 
-      within : (q : ℕ) → Among q (r ∷ all_in fs) → Inside (r ∷ all_in fs) (b.behind q)
-      within q (inl e) = record { roots = λ z h. absurd (true≢false (sym h ∙ ap (is_lent_of z) (ap b.behind e ∙ own))); froms = λ g h. absurd (no_from g (sym (ap from_of (ap b.behind e ∙ own)) ∙ h)) }
+      within : (q : ℕ) → Among q (r ∷ all_in fs) → Inside (r ∷ all_in fs) (b.following q)
+      within q (inl e) = record { roots = λ z h. absurd (true≢false (sym h ∙ ap (is_lent_of z) (ap b.following e ∙ own))); froms = λ g h. absurd (no_from g (sym (ap from_of (ap b.following e ∙ own)) ∙ h)) }
         where
           no_from : (g : From) → None ≡ Some g → ⊥
           no_from g e = absurd (cc)
-      within q (inr a) = inside_more (all_in fs) (r ∷ all_in fs) (b.behind q) (λ z y. inr y) (b.inside q a)
+      within q (inr a) = inside_more (all_in fs) (r ∷ all_in fs) (b.following q) (λ z y. inr y) (b.inside q a)
 
   -- a constructor without fields that was matched
   bare_own : (t n l : ℕ) (ks : Knowns) (own : Kind) → (n == l) ≡ true → n < Rattle.separation.specs.code_rules.Types.count c.types t → own ≡ owned_kind c.types t (Is (Tag l) ks) → own ≡ (if is_scalar_type c.types t then K.Scalar t else K.Owned t (n ∷ []))
@@ -405,7 +405,7 @@ module _ (c : PlainCode) (f : PlainFunction) where
 
     pub all_takes : (ps : Patterns) (ts : List ℕ) (ks : Knowns) (ss : Spots) (read : List ℕ) (at : ℕ) (m : ℕ → Kind) (mid end : ℕ) → ArePatterns c.types ts (rows_of ps) → compare_all (rows_of ps) ks ≡ Fits → AllRoomy ps ss → AllDiffer ss → ((z : ℕ) → Among z (all_in ss) → z < f.registers) → Children c.types ts ks ss read m → Alone (all_in ss) m → TakeAll f at ps ss mid → Quiet f at end m → mid ≤ end → TookAll (all_in ss) (AllAfter c.types ps ts ss) at m mid
     all_takes NoPatterns [] ks ss read at m mid end are fit room differ within parts alone h quiet le = record {
-      behind = m;
+      following = m;
       came = subst (λ b. Came c f at m b m) (sym h) (came_none c f at m);
       parts = λ z a. ap is_free (parts z a);
       others = λ q ne. refl;
@@ -421,7 +421,7 @@ module _ (c : PlainCode) (f : PlainFunction) where
         let mine = first_alone ts ks s ss read m differ alone parts.2 in
         let a = takes p t k s read at m h.0 end are.0 b.0 room.0 differ.3 differ.0 (λ z x. within z (in_head z s ss x)) parts.0 parts.1 (alone_outside (register s) (below s) m mine) h.1 quiet (omega (arith, later, le)) in
         let none : (q : ℕ) → (Among q (register s ∷ below s) → ⊥) → is_lent_of (register s) (m q) ≡ false = λ q ne. (mine q ne).0 (register s) (inl refl) in
-        let rest = all_takes ps ts ks ss read h.0 a.behind mid end are.1 b.1 room.1 differ.4 (λ z x. within z (in_tail z s ss x))
-        (children_on c.types ts ks ss read m a.behind (λ z x. let off : Among z (register s ∷ below s) → ⊥ = λ y. apart_of s ss z differ x y in a.others z off (none z off)) parts.2)
-        (rest_alone s ss m a.behind differ alone (λ q ne. a.others q ne (none q ne)) a.inside) h.2 (came_quiet c f at h.0 end m a.behind a.came quiet) le in
+        let rest = all_takes ps ts ks ss read h.0 a.following mid end are.1 b.1 room.1 differ.4 (λ z x. within z (in_tail z s ss x))
+        (children_on c.types ts ks ss read m a.following (λ z x. let off : Among z (register s ∷ below s) → ⊥ = λ y. apart_of s ss z differ x y in a.others z off (none z off)) parts.2)
+        (rest_alone s ss m a.following differ alone (λ q ne. a.others q ne (none q ne)) a.inside) h.2 (came_quiet c f at h.0 end m a.following a.came quiet) le in
         both_took p ps t ts s ss at h.0 mid m differ none a rest

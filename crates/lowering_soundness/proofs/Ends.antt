@@ -1,4 +1,4 @@
--- Behind the body of a clause: all but the last one jump to the place where they meet, and the last one goes on there.
+-- After the body of a clause: all but the last one jump to the place where they meet, and the last one goes on there.
 use Rattle.std.proofs.Common.{◌≡◌, ℕ, ◌<◌, ◌≤◌, true, List, Some, sym, ◌∙◌, subst, arith}
 use Rattle.std.proofs.lemmas.Option.{none-some}
 use Rattle.separation.specs.cell_code.declared.kind.Kind.{Kind}
@@ -34,7 +34,7 @@ module _ (c : PlainCode) (f : PlainFunction) (end : ℕ) (after : ℕ → Kind) 
       subst (LastPart c f stop m) (sym one)
       (jump_last c f stop m end goes.0 (record { map = caught.map; there = caught.there; takes = takes_less f.registers caught.map m after caught.takes less }) (shows (omega (arith, one))))
 
--- what is so where a label takes what is told behind a part is so of the part
+-- what is so where a label takes what is reported after a part is so of the part
 pub meet_part : (c : PlainCode) (f : PlainFunction) (a : ℕ) (m : ℕ → Kind) (b : ℕ) (l : ℕ → Kind) → a ≤ b → (map : List Kind) → label_at f.labels b ≡ Some map → (Catches f b l → Part c f a m b l) → Part c f a m b l
 meet_part c f a m b l grows map there part = record {
   grows = grows;

@@ -1,4 +1,4 @@
--- What is told where a function is entered is what is known there.
+-- What is reported where a function is entered is what is known there.
 use Rattle.std.proofs.Common.{◌≡◌, inl, inr, ℕ, zero, suc, ◌+◌, ◌-◌, ◌<◌, ◌≤◌, Bool, true, false, ◌&&◌, not, List, [], ◌∷◌, ◌++◌, length, map, replicate, Option, Some, None, refl, sym, ap, ap₂, ◌∙◌, subst, arith, append_assoc, append-nil, slice_set, if◌then◌else◌}
 use Rattle.separation.specs.fip_language.Table.{Table}
 use Rattle.separation.specs.fip_base.declared.plain.Param.{Param}
@@ -18,7 +18,7 @@ use Rattle.lowering_relation.specs.LoweredBodies.{given_if}
 use Rattle.lowering_relation.specs.LoweredFunctions.{param_held, with_params, with_credits, known_at_start}
 use Rattle.lowering_relation.specs.Describing.{held_at, kind_of}
 use Rattle.lowering_soundness.specs.Covering.{Covers, Covered}
-use Rattle.lowering_relation.specs.Labels.{told}
+use Rattle.lowering_relation.specs.Labels.{reported}
 use Rattle.lowering_soundness.specs.Placed.{ParamsTyped}
 
 -- ---- the list of what the registers hold
@@ -66,7 +66,7 @@ module _ (st : Setting) where
       let params = filled_params k [] d.params d.binders (length d.credits + m) many (ap (λ n. replicate n H.Nothing) e) refl in
       filled_credits (with_params st k d.params d.binders) (map (param_held st) d.params) d.credits m params.0 params.1
 
--- ---- what it tells is known
+-- ---- what it reports is known
 
 abbrev AllCover : Table → List Held → List Kind → Type 0
 AllCover w [] [] = Unit {0}
@@ -117,7 +117,7 @@ cover_params c st (p ∷ ps) scalars typed = (
 rest_of : (a b : ℕ) → a ≤ b → b ≡ a + (b - a)
 rest_of a b h = omega (arith, h)
 
-pub entry_covered : (c : PlainCode) (st : Setting) (f : PlainFunction) (d : Instance) → ((t : ℕ) → is_type c.types t ≡ true → is_scalar st t ≡ is_scalar_type c.types t) → ParamsTyped c d.params → length d.binders ≡ length d.params → f.params ≡ d.params → f.credits ≡ d.credits → length d.params + length d.credits ≤ f.registers → Covered f.registers (told c (known_at_start st f.registers d)) (entry c f)
+pub entry_covered : (c : PlainCode) (st : Setting) (f : PlainFunction) (d : Instance) → ((t : ℕ) → is_type c.types t ≡ true → is_scalar st t ≡ is_scalar_type c.types t) → ParamsTyped c d.params → length d.binders ≡ length d.params → f.params ≡ d.params → f.credits ≡ d.credits → length d.params + length d.credits ≤ f.registers → Covered f.registers (reported c (known_at_start st f.registers d)) (entry c f)
 entry_covered c st f d scalars typed many params credits room =
     let m = f.registers - (length d.params + length d.credits) in
     let e : f.registers ≡ length d.params + (length d.credits + m) = (let z = rest_of (length d.params + length d.credits) f.registers room in omega (arith, z)) in

@@ -7,7 +7,7 @@ use Rattle.separation.specs.code_rules.Kinds.{at, has, is_free, is_scalar_of, is
 use Rattle.separation.specs.code_rules.Fitting.{is_subset, takes_from, fits, fit_all}
 use Rattle.separation.proofs.separation_kinds.Basics.{both, one_of, equal, equal_is, itself}
 use Rattle.lowering_soundness.specs.Covering.{Covers, Covered}
-use Rattle.lowering_relation.specs.Labels.{Takes, Tells}
+use Rattle.lowering_relation.specs.Labels.{Takes, Reports}
 use Rattle.lowering_soundness.proofs.Giving.{and_to}
 
 -- ---- sets
@@ -185,12 +185,12 @@ pub takes_all : (n : ℕ) (map : List Kind) (m : ℕ → Kind) (ks : List Kind) 
 takes_all n map m ks t c =
     fit_each map ks (t.wide ∙ sym c.wide) (λ r. fits_on (at map r) (m r) (at ks r) (t.each r) (covers_fits (m r) (at ks r) (c.each r)))
 
-pub tells_covered : (n : ℕ) (map : List Kind) (m : ℕ → Kind) → Tells n map m → Covered n m map
-tells_covered n map m t = record { wide = t.wide; each = λ r. subst (λ k. Covers (m r) k) (sym (t.each r)) (covers_self (m r)) }
+pub reports_covered : (n : ℕ) (map : List Kind) (m : ℕ → Kind) → Reports n map m → Covered n m map
+reports_covered n map m t = record { wide = t.wide; each = λ r. subst (λ k. Covers (m r) k) (sym (t.each r)) (covers_self (m r)) }
 
-pub tells_takes : (n : ℕ) (map : List Kind) (m : ℕ → Kind) → Tells n map m → Takes n map m
-tells_takes n map m t = record { wide = t.wide; each = λ r. subst (λ k. fits k (m r) ≡ true) (sym (t.each r)) (covers_fits (m r) (m r) (covers_self (m r))) }
+pub reports_takes : (n : ℕ) (map : List Kind) (m : ℕ → Kind) → Reports n map m → Takes n map m
+reports_takes n map m t = record { wide = t.wide; each = λ r. subst (λ k. fits k (m r) ≡ true) (sym (t.each r)) (covers_fits (m r) (m r) (covers_self (m r))) }
 
--- what is told of kinds that say less
+-- what is reported of kinds that say less
 pub takes_less : (n : ℕ) (map : List Kind) (m l : ℕ → Kind) → Takes n map l → ((r : ℕ) → fits (l r) (m r) ≡ true) → Takes n map m
 takes_less n map m l t less = record { wide = t.wide; each = λ r. fits_on (at map r) (l r) (m r) (t.each r) (less r) }

@@ -1,5 +1,5 @@
 -- What is known of registers is formed: types are there, constructors are of their types, and credits have the sizes of
--- cells. So it is behind each value that is computed, each result that is handed on, and at the entry of each clause.
+-- cells. So it is after each value that is computed, each result that is handed on, and at the entry of each clause.
 use Rattle.std.proofs.Common.{◌≡◌, ◌⊎◌, inl, inr, ℕ, zero, suc, ◌<◌, ◌≤◌, Bool, true, false, ◌||◌, ◌&&◌, not, List, [], ◌∷◌, length, map, replicate, Option, Some, None, slice_get, slice_set, get_or, refl, sym, ap, ◌∙◌, subst, true≢false, arith, if◌then◌else◌, ◌==◌, nat_lt}
 use Rattle.separation.specs.fip_base.declared.plain.Param.{Param}
 use Rattle.separation.specs.fip_language.Table.{Table, shapes}

@@ -26,7 +26,7 @@ use Rattle.lowering_relation.specs.Describing.{held_at}
 use Rattle.lowering_soundness.specs.Giving.{is_credit_of}
 use Rattle.lowering_soundness.specs.Parts.{IsKept, LastPart}
 use Rattle.lowering_soundness.specs.Ties.{one_if, owners, own, Ties}
-use Rattle.lowering_relation.specs.Labels.{told}
+use Rattle.lowering_relation.specs.Labels.{reported}
 use Rattle.lowering_soundness.specs.Laid.{Shares}
 use Rattle.lowering_soundness.specs.Placed.{Placed, NoneFrom, InOrder, NumberedBlock, ParamsTyped, Callees}
 use Rattle.lowering_relation.specs.LaidFunctions.{FunctionLaid}
@@ -196,14 +196,14 @@ module _ (c : PlainCode) (f : PlainFunction) (st : Setting) (wd : W.World) (w : 
       width : length start.held ≡ f.registers
       width = second.width ∙ (first.width ∙ length-replicate f.registers H.Nothing)
 
-  pub function_part : (d : Instance) → FunctionLaid c st fip f d → IsNumbered w d → Typed true wd d → ParamsTyped c d.params → Derived fip (borrowed_parameters w 0 d.params d.binders) (owned_parameters w 0 d.params d.binders) d.credits (body_term w d) → LastPart c f 0 (told c (known_at_start st f.registers d)) (length f.instrs)
+  pub function_part : (d : Instance) → FunctionLaid c st fip f d → IsNumbered w d → Typed true wd d → ParamsTyped c d.params → Derived fip (borrowed_parameters w 0 d.params d.binders) (owned_parameters w 0 d.params d.binders) d.credits (body_term w d) → LastPart c f 0 (reported c (known_at_start st f.registers d)) (length f.instrs)
   function_part d laid num typed params derived =
-      function_begins (LastPart c f 0 (told c (known_at_start st f.registers d)) (length f.instrs)) d laid num typed params derived
+      function_begins (LastPart c f 0 (reported c (known_at_start st f.registers d)) (length f.instrs)) d laid num typed params derived
       (λ s sc n B K placed P typed derives numbered below unkept none ties names width.
       block_ends c f st wd w fip shares callees d.variables s sc n B K placed P 0 (known_at_start st f.registers d) d.body (length f.instrs) laid.after true d.results laid.body typed derives numbered below unkept none ties laid.results names width)
 
   -- each of its instructions keeps the rules
   pub function_kept : (d : Instance) → FunctionLaid c st fip f d → IsNumbered w d → Typed true wd d → ParamsTyped c d.params → Derived fip (borrowed_parameters w 0 d.params d.binders) (owned_parameters w 0 d.params d.binders) d.credits (body_term w d) → (i : ℕ) → IsKept c f i
   function_kept d laid num typed params derived i =
-      kept_whole c f (told c (known_at_start st f.registers d)) (function_part d laid num typed params derived)
+      kept_whole c f (reported c (known_at_start st f.registers d)) (function_part d laid num typed params derived)
       (entry_covered c st f d shares.scalars params num.as_many laid.params laid.credits laid.room) i

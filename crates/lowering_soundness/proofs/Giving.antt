@@ -1,4 +1,4 @@
--- Registers that are given or handed over are as asked, and behind that what is told of the kinds stays so.
+-- Registers that are given or handed over are as asked, and after that what is reported of the kinds stays so.
 use Rattle.std.proofs.Common.{◌≡◌, inl, inr, ℕ, ◌+◌, ◌<◌, Bool, true, false, ◌&&◌, ◌||◌, not, List, [], ◌∷◌, length, Some, None, refl, sym, ap, ◌∙◌, true≢false, if◌then◌else◌, ◌==◌, drop, nat_lt}
 use Rattle.std.specs.Prelude.{option_and_then}
 use Rattle.separation.specs.fip_language.Table.{Table}
@@ -19,8 +19,8 @@ use Rattle.lowering_relation.specs.declared.held.Held.{Held}
 use Rattle.lowering_relation.specs.declared.held.Held.TheVariants as H
 use Rattle.lowering_relation.specs.Describing.{Holding, kind_of, kinds_of, setting, is_tree}
 use Rattle.lowering_soundness.specs.Covering.{Covers, Covered, using, using_all}
-use Rattle.lowering_soundness.specs.Giving.{is_scalar_of, is_owned_of, is_credit_of, can_give, can_pass_one, passing, can_pass, passing_all, can_hand, handing_all, can_lend_one, can_lend, can_receive, received, receiving_all, behind_call, CanCall}
-use Rattle.lowering_soundness.proofs.Covering.{covers_spare, covered_same, told_within, written_covered, used_covered, using_none}
+use Rattle.lowering_soundness.specs.Giving.{is_scalar_of, is_owned_of, is_credit_of, can_give, can_pass_one, passing, can_pass, passing_all, can_hand, handing_all, can_lend_one, can_lend, can_receive, received, receiving_all, after_call, CanCall}
+use Rattle.lowering_soundness.proofs.Covering.{covers_spare, covered_same, reported_within, written_covered, used_covered, using_none}
 pub use Rattle.tail_groups.proofs.fip_language.Facts.{both_true as and_to}
 
 pub scalar_kind : (w : Table) (t : ℕ) (h : Held) (k : Kind) → is_scalar_of t h ≡ true → Covers (kind_of w h) k → S.is_scalar_of t k ≡ true
@@ -122,7 +122,7 @@ pass_all_covered w n (p ∷ ps) (r ∷ rs) g ks c e =
     (rest.0, ap (option_and_then (λ left. pass_all w left ps rs)) one.1 ∙ rest.1, rest.2)
 
 credit_within : (w : Table) (n k : ℕ) (g : Holding) (ks : List Kind) (r : ℕ) → Covered n (kinds_of w g) ks → S.is_credit_of k (at ks r) ≡ true → r < n
-credit_within w n k g ks r c e = told_within w n g ks r c (λ gone. true≢false (sym e ∙ ap (S.is_credit_of k) gone))
+credit_within w n k g ks r c e = reported_within w n g ks r c (λ gone. true≢false (sym e ∙ ap (S.is_credit_of k) gone))
 
 pub hand_covered : (w : Table) (n k : ℕ) (g : Holding) (ks : List Kind) (r : ℕ) → Covered n (kinds_of w g) ks → is_credit_of k (g r) ≡ true → (left : List Kind) × (hand ks k r ≡ Some left) × Covered n (kinds_of w (setting g r H.Nothing)) left
 hand_covered w n k g ks r c e =
@@ -152,11 +152,11 @@ lend_covered w n tail g ks (p ∷ ps) (r ∷ rs) c e =
     (or_to (is_scalar_type w p.ty) (not p.lent) (can_lend_one tail p.ty (g r)) (is_lendable tail p.ty (at ks r)) (λ l. lendable_kind w tail p.ty (g r) (at ks r) l (c.each r)) b.0)
     (lend_covered w n tail g ks ps rs c b.1)
 
-pub arguments_covered : (c : PlainCode) (n : ℕ) (tail : Bool) (g : Holding) (ks : List Kind) (f : ℕ) (rs : List ℕ) → Covered n (kinds_of c.types g) ks → CanCall c tail g f rs → (left : List Kind) × (arguments c tail ks f rs ≡ Some left) × Covered n (kinds_of c.types (behind_call c g f rs)) left
+pub arguments_covered : (c : PlainCode) (n : ℕ) (tail : Bool) (g : Holding) (ks : List Kind) (f : ℕ) (rs : List ℕ) → Covered n (kinds_of c.types g) ks → CanCall c tail g f rs → (left : List Kind) × (arguments c tail ks f rs ≡ Some left) × Covered n (kinds_of c.types (after_call c g f rs)) left
 arguments_covered c n tail g ks f rs cov can =
     let passed = pass_all_covered c.types n (params c f) rs g ks cov can.passes in
     let handed = hand_all_covered c.types n (credits c f) (drop (length (params c f)) rs) (passing_all g (params c f) rs) passed.0 passed.2 can.hands in
-    let lent = lend_covered c.types n tail (behind_call c g f rs) handed.0 (params c f) rs handed.2 can.lends in (
+    let lent = lend_covered c.types n tail (after_call c g f rs) handed.0 (params c f) rs handed.2 can.lends in (
       handed.0,
       chosen (length rs == length (params c f) + length (credits c f)) _ None (equal_is (length rs) (length (params c f) + length (credits c f)) can.many)
           ∙ (ap (λ o. option_and_then (λ left. kept_if (lend_all c.types tail left (params c f) rs) left) (option_and_then (λ left. hand_all left (credits c f) (drop (length (params c f)) rs)) o)) passed.1

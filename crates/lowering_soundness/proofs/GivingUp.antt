@@ -94,14 +94,14 @@ spending_swap [] g r h = refl
 spending_swap (p ∷ cs) g r h = ap (λ x. spending x cs) (sym (using_beside g p r h.0)) ∙ spending_swap cs (setting g p H.Nothing) r (no_trees_setting cs g p h.1)
 
 -- what is left behind registers that are used up and credits that are spent
-abbrev pub behind : List ℕ → List ℕ → Holding → Holding
-behind us cs g = spending (using_all g us) cs
+abbrev pub following : List ℕ → List ℕ → Holding → Holding
+following us cs g = spending (using_all g us) cs
 
-pub behind_setting : (us cs : List ℕ) (g : Holding) (r : ℕ) → is_tree (g r) ≡ false → behind us cs (setting g r H.Nothing) ≡ setting (behind us cs g) r H.Nothing
-behind_setting us cs g r none = ap (λ x. spending x cs) (using_all_beside us g r none) ∙ spending_beside cs (using_all g us) r
+pub after_setting : (us cs : List ℕ) (g : Holding) (r : ℕ) → is_tree (g r) ≡ false → following us cs (setting g r H.Nothing) ≡ setting (following us cs g) r H.Nothing
+after_setting us cs g r none = ap (λ x. spending x cs) (using_all_beside us g r none) ∙ spending_beside cs (using_all g us) r
 
-pub behind_using : (us cs : List ℕ) (g : Holding) (r : ℕ) → NoTrees (using_all g us) cs → behind us cs (using g r) ≡ using (behind us cs g) r
-behind_using us cs g r none = ap (λ x. spending x cs) (using_all_swap us g r) ∙ spending_swap cs (using_all g us) r none
+pub after_using : (us cs : List ℕ) (g : Holding) (r : ℕ) → NoTrees (using_all g us) cs → following us cs (using g r) ≡ using (following us cs g) r
+after_using us cs g r none = ap (λ x. spending x cs) (using_all_swap us g r) ∙ spending_swap cs (using_all g us) r none
 
 -- each register holds what it held, or nothing
 pub using_all_either : (us : List ℕ) (g : Holding) (r : ℕ) → (using_all g us r ≡ g r) ⊎ (using_all g us r ≡ H.Nothing)
@@ -124,10 +124,10 @@ spending_either (p ∷ cs) g r = elim (spending_either cs (setting g p H.Nothing
   | inr e ↦ inr e
 ]
 
--- what is held behind was held before
-pub behind_was : (us cs : List ℕ) (g : Holding) (r : ℕ) → (behind us cs g r ≡ H.Nothing → ⊥) → behind us cs g r ≡ g r
-behind_was us cs g r some = elim (spending_either cs (using_all g us) r) as (λ v. behind us cs g r ≡ g r) [
-  | inl e ↦ elim (using_all_either us g r) as (λ v. behind us cs g r ≡ g r) [
+-- what is held after was held before
+pub after_was : (us cs : List ℕ) (g : Holding) (r : ℕ) → (following us cs g r ≡ H.Nothing → ⊥) → following us cs g r ≡ g r
+after_was us cs g r some = elim (spending_either cs (using_all g us) r) as (λ v. following us cs g r ≡ g r) [
+  | inl e ↦ elim (using_all_either us g r) as (λ v. following us cs g r ≡ g r) [
     | inl d ↦ e ∙ d
     | inr d ↦ absurd (some (e ∙ d))
   ]

@@ -12,7 +12,7 @@ use Rattle.tail_groups.specs.call_groups.CallGraph as G
 use Rattle.tail_groups.specs.call_groups.CallGraph.{In, call, calls_of}
 use Rattle.tail_groups.specs.Sites.{Site, instance_sites, called, instance_calls, call_rows}
 use Rattle.tail_groups.specs.Rules as T
-use Rattle.tail_groups.specs.Rules.{Violates, told}
+use Rattle.tail_groups.specs.Rules.{Violates, reported}
 use Rattle.tail_groups.specs.Members.{FipCallsFip}
 use Rattle.separation.specs.code_rules.Codes.{PlainCode, PlainFunction, function_at, is_fip, is_weak, is_weaker}
 use Rattle.separation.specs.code_rules.Calls.{IsCall, CallsAt, Calls, Path, SameGroup}
@@ -89,7 +89,7 @@ module _ (c : PlainCode) (st : Setting) (p : Program) (all : AreLaid c st p) whe
   waits_for_none right n f there fip i callee here group =
       let l = all.each n here.function here.is in
       let z = (of_function c st (is_fip here.function.kind) here.function l.instance l.laid i here.instr here.reached.instr).calls callee true here.call in
-      right (told l.number z.site) (
+      right (reported l.number z.site) (
         l.number,
         l.instance,
         z.site,

@@ -1,4 +1,4 @@
--- Take: what is told of the positions below a cell that is taken apart. The fields that were read are owned with what is
+-- Take: what is reported of the positions below a cell that is taken apart. The fields that were read are owned with what is
 -- known of them, and what was read below them lies in them from now on.
 use Rattle.std.proofs.Common.{◌≡◌, ◌⊎◌, inl, inr, ℕ, zero, suc, Bool, true, false, not, ◌&&◌, ◌||◌, is_some, List, [], ◌∷◌, length, Option, Some, None, refl, sym, ap, ◌∙◌, subst, true≢false, if◌then◌else◌, ◌==◌}
 use Rattle.std.proofs.lemmas.Option.{same_Some}
@@ -62,7 +62,7 @@ reached_is ks heir q d n (Some e) x r = ap Some (chain_same ks heir r.0 n (from_
 
 -- ---- positions below a field
 
--- what is told of such a position
+-- what is reported of such a position
 pub data Fated (ks : List Kind) (heir : ℕ → Bool) (r d : ℕ) (zs : List ℕ) (k : Kind) : Type 0 where
   Leer : (e : k ≡ K.Gone) → Fated ks heir r d zs k
   Plain : (t : ℕ) (e : k ≡ K.Scalar t) → Fated ks heir r d zs k
@@ -107,7 +107,7 @@ module _ (ks : List Kind) (heir : ℕ → Bool) (r d : ℕ) (zs : List ℕ) wher
   first_fated w t k s x i read (inl h) lead here = read_fated w t k x i (at ks (register s)) h.1 lead here
   first_fated w t k s x i read (inr h) lead here = Leer h.1
 
-  -- below one position, by what is told there
+  -- below one position, by what is reported there
   part_fated : (w : Table) (t : ℕ) (k : Known) (s : Spot) (x i : ℕ) (read : List ℕ) (q : ℕ) → OnePart w (Some r) t k s x i read (at ks) → Lead ks heir d x → heir (register s) ≡ false → Among q (below s) → (Below w (Some r) t k s read (at ks) → Lead ks heir d (register s) → Fated ks heir r d zs (at ks q)) → Fated ks heir r d zs (at ks q)
   part_fated w t k s x i read q (inl h) lead none a deep = elim (or_not (is_scalar_type w t)) as (λ v. Fated ks heir r d zs (at ks q)) [
     | inl y ↦ Leer (scalar_gone w t k s read (at ks) (Some r) q y h.2 a)

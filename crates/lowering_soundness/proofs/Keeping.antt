@@ -1,4 +1,4 @@
--- What is owned beside a part stays as it is: such parts stand one behind another, and where it does what is known of
+-- What is owned beside a part stays as it is: such parts stand one after another, and where it does what is known of
 -- registers goes with the variables.
 use Rattle.std.proofs.Common.{◌≡◌, inl, inr, ℕ, zero, suc, ◌+◌, ◌<◌, ◌≤◌, Bool, true, false, List, [], ◌∷◌, length, Option, Some, None, refl, sym, ap, ◌∙◌, subst, true≢false, arith, if◌then◌else◌}
 use Rattle.separation.specs.fip_language.Table.{Table}
@@ -100,7 +100,7 @@ stays_wide g h n x = stays_by (wide_at g) (wide_at h) n (λ r. by r (g r) refl)
     by r (H.Credit m) e s = absurd (subst (λ y. Stayed n r (widened y)) e s)
     by r (H.Bare t c) e s = absurd (subst (λ y. Stayed n r (widened y)) e s)
 
--- what stays holds the same where it was told
+-- what stays holds the same where it was reported
 pub stayed_same : (g h : Holding) (n : ℕ → ℕ) (r : ℕ) → Stays g h n → Stayed n r (g r) → h r ≡ g r
 stayed_same g h n r x s = by (g r) refl s
   where
@@ -113,7 +113,7 @@ stayed_same g h n r x s = by (g r) refl s
     by (H.Credit m) e s = absurd s
     by (H.Bare t c) e s = absurd s
 
--- ---- one behind another
+-- ---- one after another
 
 pub keeps_on : (s : Scope) (X : Item → ℕ) (k m l : Known) → Keeps s X k m → Keeps s X m l → Keeps s X k l
 keeps_on s X k m l a b = record {

@@ -122,7 +122,7 @@ module _ (n : ℕ) where
 
   pub taken_under : (cs : List Credit) (m r : ℕ) (rest : List Credit) → IsTaken cs m r rest → CreditsUnder n cs → (r < n) × CreditsUnder n rest
   taken_under cs m r rest t h =
-      let z = split_under t.before t.behind (record { size = m; register = r }) (subst (CreditsUnder n) t.was h) in
+      let z = split_under t.before t.following (record { size = m; register = r }) (subst (CreditsUnder n) t.was h) in
       (z.0, subst (CreditsUnder n) (sym t.left) z.1)
 
   pub still_under : (hs : List Held) (cs : List Credit) → CreditsUnder n cs → CreditsUnder n (still_held hs cs)

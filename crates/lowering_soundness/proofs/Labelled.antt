@@ -6,7 +6,7 @@ use Rattle.separation.specs.code_rules.Codes.{PlainCode, PlainFunction, label_at
 use Rattle.separation.proofs.separation_kinds.Basics.{less_or_not}
 use Rattle.lowering_relation.specs.match_knowledge.Known as M
 use Rattle.lowering_relation.specs.Describing.{Holding}
-use Rattle.lowering_relation.specs.Labels.{Tells, Quiet}
+use Rattle.lowering_relation.specs.Labels.{Reports, Quiet}
 use Rattle.lowering_relation.specs.Sights.{Sight}
 use Rattle.lowering_relation.specs.Tests.{Choice, SidesLaid}
 
@@ -24,7 +24,7 @@ module _ (f : PlainFunction) (P : List Kind → Type 0) where
   ]
 
   -- a straight part has a label at its front alone
-  pub labelled_quiet : (a b : ℕ) (m : ℕ → Kind) → Quiet f a b m → ((map : List Kind) → label_at f.labels a ≡ Some map → Tells f.registers map m → P map) → Labelled a b
+  pub labelled_quiet : (a b : ℕ) (m : ℕ → Kind) → Quiet f a b m → ((map : List Kind) → label_at f.labels a ≡ Some map → Reports f.registers map m → P map) → Labelled a b
   labelled_quiet a b m quiet so p map low high h = elim (less_or_not a p) as (λ v. P map) [
     | inl e ↦ absurd (none-some map (sym (quiet.others p e high) ∙ h))
     | inr e ↦
@@ -34,9 +34,9 @@ module _ (f : PlainFunction) (P : List Kind → Type 0) where
   ]
 
   -- tests of what failed others
-  pub labelled_sides : (c : PlainCode) (g : Holding) (ch : Choice) → ((p : ℕ) (κ : M.Known) (read : List ℕ) (m : ℕ → Kind) → Sight c.types g ch.type ch.root κ read m → (map : List Kind) → label_at f.labels p ≡ Some map → Tells f.registers map m → P map) → (n at end : ℕ) → SidesLaid c f g ch n at end → Labelled at end
+  pub labelled_sides : (c : PlainCode) (g : Holding) (ch : Choice) → ((p : ℕ) (κ : M.Known) (read : List ℕ) (m : ℕ → Kind) → Sight c.types g ch.type ch.root κ read m → (map : List Kind) → label_at f.labels p ≡ Some map → Reports f.registers map m → P map) → (n at end : ℕ) → SidesLaid c f g ch n at end → Labelled at end
   labelled_sides c g ch so zero at end h = labelled_none at end h
   labelled_sides c g ch so (suc n) at end h =
       labelled_on at h.0 end
-      (labelled_quiet at h.0 h.1.told h.1.chunk.quiet (so at h.1.known h.1.read h.1.told h.1.sight))
+      (labelled_quiet at h.0 h.1.reported h.1.chunk.quiet (so at h.1.known h.1.read h.1.reported h.1.sight))
       (labelled_sides c g ch so n h.0 end h.2)

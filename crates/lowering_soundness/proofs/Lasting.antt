@@ -1,4 +1,4 @@
--- A test that no value fails isn't written: what is told stays so where it is known that it holds.
+-- A test that no value fails isn't written: what is reported stays so where it is known that it holds.
 use Rattle.std.proofs.Common.{◌≡◌, inl, inr, ℕ, zero, suc, true, false, List, [], ◌∷◌, Option, Some, refl, sym, ap, ◌∙◌, subst, true≢false, if◌then◌else◌}
 use Rattle.separation.specs.fip_language.Table.{Table}
 use Rattle.separation.specs.cell_code.declared.kind.Kind.{Kind}
@@ -67,7 +67,7 @@ open_below : (w : Table) (root : Option ℕ) (t u : ℕ) (h : Head) (ps : M.Patt
 open_below w root t v (Number i) ps r fs read m typed u = u
 open_below w root t v (Tag n) ps r fs read m typed u = all_fresh_below w root (fields w t n) (opens ps) fs r 0 read m (head_fresh w t n typed.1 ps typed.2 typed.3) u
 
--- one position, by what is told below it
+-- one position, by what is reported below it
 last_part : (w : Table) (root : Option ℕ) (t : ℕ) (p : M.Pattern) (k : Known) (s : Spot) (r i : ℕ) (read : List ℕ) (m : ℕ → Kind) → IsPattern w t p → compare p k ≡ Asks → is_last w p k ≡ true → OnePart w root t k s r i read m → (Below w root t k s read m → Below w root t (side true p k) s read m) → OnePart w root t (side true p k) s r i read m
 last_part w root t p k s r i read m typed asks last (inl h) deep = inl (h.0, h.1 ∙ same_part w root t k (side true p k) r i (last_left w t p k typed asks last), deep h.2)
 last_part w root t p k s r i read m typed asks last (inr h) deep = inr (h.0, h.1, h.2, last_fresh w t p k typed asks last h.3)

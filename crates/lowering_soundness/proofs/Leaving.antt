@@ -22,7 +22,7 @@ use Rattle.lowering_soundness.proofs.Helds.{held_within, held_set_fn, held_used_
 use Rattle.lowering_soundness.proofs.Writing.{setting_other, setting_here, credit_using, bares_using}
 use Rattle.lowering_soundness.proofs.Arguments.{quiet_back}
 use Rattle.lowering_soundness.proofs.Cells.{taken_credit, counted_left, no_tree_using, using_all_beside}
-use Rattle.lowering_soundness.proofs.GivingUp.{NoTrees, no_trees_setting, using_all_swap, behind, behind_setting, behind_using, behind_was}
+use Rattle.lowering_soundness.proofs.GivingUp.{NoTrees, no_trees_setting, using_all_swap, following, after_setting, after_using, after_was}
 
 pub lends_nothing : (g : Holding) (r : ℕ) → Rooted g → is_tree (g r) ≡ false → LendsNothing g r
 lends_nothing g r rooted none q = by (g q) refl
@@ -67,9 +67,9 @@ pub record Safe (h k : Held) : Type 0 where
   pub tree : is_tree k ≡ false
   pub credit : (n : ℕ) → k ≡ H.Credit n → ⊥
 
--- g is held, and what is known is so behind registers that are used up and credits that are spent; some registers are kept
+-- g is held, and what is known is so after registers that are used up and credits that are spent; some registers are kept
 pub record Leaves (w : Table) (us cs : List ℕ) (keep : ℕ → Type 0) (g : Holding) (k : Known) : Type 0 where
-  pub known : behind us cs g ≡ held_at k.held
+  pub known : following us cs g ≡ held_at k.held
   pub trees : NoTrees (using_all g us) cs
   pub rooted : Rooted g
   pub bares : BareRight w g
@@ -100,10 +100,10 @@ module _ (c : PlainCode) (f : PlainFunction) (us cs : List ℕ) (keep : ℕ → 
   some_held h i e ne z = ne (sym e ∙ z)
 
   -- what is known of a register is so
-  was_held : (g : Holding) (k : Known) (r : ℕ) → behind us cs g ≡ held_at k.held → (held_at k.held r ≡ H.Nothing → ⊥) → g r ≡ held_at k.held r
+  was_held : (g : Holding) (k : Known) (r : ℕ) → following us cs g ≡ held_at k.held → (held_at k.held r ≡ H.Nothing → ⊥) → g r ≡ held_at k.held r
   was_held g k r e some =
-      let at_r : behind us cs g r ≡ held_at k.held r = ap (λ x. x r) e in
-      sym (behind_was us cs g r (some_held (behind us cs g r) (held_at k.held r) at_r some)) ∙ at_r
+      let at_r : following us cs g r ≡ held_at k.held r = ap (λ x. x r) e in
+      sym (after_was us cs g r (some_held (following us cs g r) (held_at k.held r) at_r some)) ∙ at_r
 
   clear_fewer : (k l : Known) (r : ℕ) → held_at l.held ≡ setting (held_at k.held) r H.Nothing → Fewer (held_at k.held) (held_at l.held)
   clear_fewer k l r e = record { tree = tree; credit = credit }
@@ -128,7 +128,7 @@ module _ (c : PlainCode) (f : PlainFunction) (us cs : List ℕ) (keep : ℕ → 
   -- a register that owns no tree is cleared
   clears : (g : Holding) (k l : Known) (r : ℕ) → Leaves c.types us cs keep g k → is_tree (g r) ≡ false → ((q : ℕ) → keep q → q ≡ r → ⊥) → held_at l.held ≡ setting (held_at k.held) r H.Nothing → ((n q : ℕ) → counted n q l.credits ≡ one_if (is_credit_of n (held_at l.held q))) → Leaves c.types us cs keep (setting g r H.Nothing) l
   clears g k l r h none apart held counts = record {
-    known = behind_setting us cs g r none ∙ (ap (λ x. setting x r H.Nothing) h.known ∙ sym held);
+    known = after_setting us cs g r none ∙ (ap (λ x. setting x r H.Nothing) h.known ∙ sym held);
     trees = subst (λ x. NoTrees x cs) (sym (using_all_beside us g r none)) (no_trees_setting cs (using_all g us) r h.trees);
     rooted = cleared_rooted g r h.rooted none;
     bares = cleared_bares c.types g r h.bares;
@@ -240,7 +240,7 @@ module _ (c : PlainCode) (f : PlainFunction) (us cs : List ℕ) (keep : ℕ → 
       record {
         held = using g r;
         leaves = record {
-          known = behind_using us cs g r h.trees ∙ (ap (λ x. using x r) h.known ∙ sym held);
+          known = after_using us cs g r h.trees ∙ (ap (λ x. using x r) h.known ∙ sym held);
           trees = subst (λ x. NoTrees x cs) (sym (using_all_swap us g r)) (no_trees_using cs (using_all g us) r h.trees);
           rooted = rooted_using g r h.rooted;
           bares = bares_using c.types g r h.bares;

@@ -1,4 +1,4 @@
--- What a clause leaves over is given up behind its body: what is owned beside the match, and what the clause gives, stay.
+-- What a clause leaves over is given up after its body: what is owned beside the match, and what the clause gives, stay.
 use Rattle.std.proofs.Common.{◌≡◌, inl, inr, ℕ, zero, suc, ◌+◌, ◌-◌, ◌<◌, ◌≤◌, Bool, true, false, List, [], ◌∷◌, ◌++◌, length, take, drop, refl, sym, ap, ◌∙◌, subst, subst₂, arith, append-nil, ◌==◌}
 use Rattle.separation.specs.fip_language.Every.{Among}
 use Rattle.separation.specs.fip_language.Table.{Table}
@@ -11,7 +11,7 @@ use Rattle.separation.proofs.separation_kinds.Basics.{chosen, refused, or_not, e
 use Rattle.lowering_relation.specs.Known.{Known}
 use Rattle.lowering_relation.specs.Values.{Setting}
 use Rattle.lowering_relation.specs.Describing.{held_at, is_tree}
-use Rattle.lowering_relation.specs.Labels.{told, Quiet}
+use Rattle.lowering_relation.specs.Labels.{reported, Quiet}
 use Rattle.lowering_relation.specs.Credits.{of_size, LastGone}
 use Rattle.lowering_relation.specs.Uses.{need}
 use Rattle.lowering_relation.specs.Leftover.{IsUnused, LeftoverGone, LeavesOver}
@@ -78,8 +78,8 @@ module _ (c : PlainCode) (st : Setting) (f : PlainFunction) (fip : Bool) (s : Sc
   -- what is so where it is given up
   pub record Left (at : ℕ) (k : Known) (end : ℕ) (l : Known) : Type 0 where
     pub grows : at ≤ end
-    pub still : at ≡ end → (r : ℕ) → told c k r ≡ told c l r
-    pub part : Part c f at (told c k) end (told c l)
+    pub still : at ≡ end → (r : ℕ) → reported c k r ≡ reported c l r
+    pub part : Part c f at (reported c k) end (reported c l)
     pub names : l.names ≡ k.names
     pub next : l.next ≡ k.next
     pub width : length l.held ≡ length k.held
@@ -92,7 +92,7 @@ module _ (c : PlainCode) (st : Setting) (f : PlainFunction) (fip : Bool) (s : Sc
   none_left at k ties = record {
     grows = omega arith;
     still = λ z r. refl;
-    part = no_row c f at (told c k) (told c k) (λ r. refl);
+    part = no_row c f at (reported c k) (reported c k) (λ r. refl);
     names = refl;
     next = refl;
     width = refl;
@@ -103,7 +103,7 @@ module _ (c : PlainCode) (st : Setting) (f : PlainFunction) (fip : Bool) (s : Sc
   }
 
   module _ (o : Known) (e : Expression) (free : (r : ℕ) → 1 ≤ owners o.names (own X) r → is_tree (held_at o.held r) ≡ true × IsUnused st o e r) (enough : (n : ℕ) → 0 < n → X (Credit n) ≤ length (of_size n o.credits) - need st n e) where
-    some_left : (weak : fip ≡ false) (at : ℕ) (k : Known) (end : ℕ) (l : Known) → LeftoverGone st f o e ds at k end l → Keeps s X o k → Ties fip c.types s B K X (λ q. owed c.types ds ts q + 0) k → Quiet f at end (told c k) → Left at k end l
+    some_left : (weak : fip ≡ false) (at : ℕ) (k : Known) (end : ℕ) (l : Known) → LeftoverGone st f o e ds at k end l → Keeps s X o k → Ties fip c.types s B K X (λ q. owed c.types ds ts q + 0) k → Quiet f at end (reported c k) → Left at k end l
     some_left weak at k end l h keeps ties quiet =
         let x = shed c f s B K X (λ q. owed c.types ds ts q + 0) kept h.steps at k end l h.gives trees sizes loose quiet in
         record {
@@ -158,9 +158,9 @@ module _ (c : PlainCode) (st : Setting) (f : PlainFunction) (fip : Bool) (s : Sc
             let m = length (of_size (suc n) o.credits) - need st (suc n) e in
             (drop m (of_size (suc n) k.credits), take_drop m (of_size (suc n) k.credits) ∙ ap (λ xs. xs ++ drop m (of_size (suc n) k.credits)) (sym (h.credits (suc n) (omega arith))))
 
-    left_by : (b : Bool) → fip ≡ b → (at : ℕ) (k : Known) (end : ℕ) (l : Known) → LeavesOver b st f o e ds at k end l → Keeps s X o k → Ties fip c.types s B K X (λ q. owed c.types ds ts q + 0) k → Quiet f at end (told c k) → Left at k end l
+    left_by : (b : Bool) → fip ≡ b → (at : ℕ) (k : Known) (end : ℕ) (l : Known) → LeavesOver b st f o e ds at k end l → Keeps s X o k → Ties fip c.types s B K X (λ q. owed c.types ds ts q + 0) k → Quiet f at end (reported c k) → Left at k end l
     left_by true weak at k end l h keeps ties quiet = subst₂ (Left at k) (sym h.0) (sym h.1) (none_left at k ties)
     left_by false weak at k end l h keeps ties quiet = some_left weak at k end l h keeps ties quiet
 
-    pub left_over : (at : ℕ) (k : Known) (end : ℕ) (l : Known) → LeavesOver fip st f o e ds at k end l → Keeps s X o k → Ties fip c.types s B K X (λ q. owed c.types ds ts q + 0) k → Quiet f at end (told c k) → Left at k end l
+    pub left_over : (at : ℕ) (k : Known) (end : ℕ) (l : Known) → LeavesOver fip st f o e ds at k end l → Keeps s X o k → Ties fip c.types s B K X (λ q. owed c.types ds ts q + 0) k → Quiet f at end (reported c k) → Left at k end l
     left_over at k end l h keeps ties quiet = left_by fip refl at k end l h keeps ties quiet

@@ -21,7 +21,7 @@ use Rattle.lowering_relation.specs.declared.held.Held.{Held}
 use Rattle.lowering_relation.specs.declared.held.Held.TheVariants as H
 use Rattle.lowering_relation.specs.Known.{Known}
 use Rattle.lowering_relation.specs.Describing.{Holding, held_at, kind_of, is_tree}
-use Rattle.lowering_relation.specs.Labels.{told}
+use Rattle.lowering_relation.specs.Labels.{reported}
 use Rattle.lowering_relation.specs.Sights.{left, part_kind, Below, AllBelow, seen_kind, Sight}
 use Rattle.lowering_relation.specs.Tests.{Choice}
 use Rattle.lowering_soundness.specs.Ties.{Rooted}
@@ -73,10 +73,10 @@ held_linked w m j (H.Lent t (Some q)) roots = (roots t q refl, tt)
 held_linked w m j (H.Credit n) roots = tt
 held_linked w m j (H.Bare t x) roots = tt
 
-pub told_linked : (c : PlainCode) (k : Known) → Rooted (held_at k.held) → Linked c.types (told c k)
-told_linked c k rooted = record { each = λ j. held_linked c.types (told c k) j (held_at k.held j) (λ t q e. tree_owned c.types (held_at k.held q) (rooted j t q e)) }
+pub reported_linked : (c : PlainCode) (k : Known) → Rooted (held_at k.held) → Linked c.types (reported c k)
+reported_linked c k rooted = record { each = λ j. held_linked c.types (reported c k) j (held_at k.held j) (λ t q e. tree_owned c.types (held_at k.held q) (rooted j t q e)) }
 
--- ---- what is told while a clause is chosen
+-- ---- what is reported while a clause is chosen
 
 fields_past : (w : Table) (t n : ℕ) → count w t ≤ n → fields w t n ≡ []
 fields_past w t n low = ap fields_of (get_past (constructors w t) n low)
@@ -119,7 +119,7 @@ module _ (w : Table) (m : ℕ → Kind) (root : Option ℕ) (read : List ℕ) wh
     pub same : root_of cell (m cell) ≡ root
     pub low : place < length (known_fields w (m cell))
 
-  -- or nothing is told of it
+  -- or nothing is reported of it
   abbrev pub Seat : ℕ → Type 0
   Seat z = (m z ≡ K.Gone) ⊎ IsRead z
 
@@ -168,14 +168,14 @@ module _ (c : PlainCode) (f : PlainFunction) (g : Holding) (ch : Choice) (right 
   abbrev pub Reg : ℕ
   Reg = register ch.root
 
-  tree_told : (p : ℕ) → is_tree (g p) ≡ true → is_owned (m p) ≡ true
-  tree_told p tree = elim (or_not (p == Reg)) as (λ v. is_owned (m p) ≡ true) [
+  tree_reported : (p : ℕ) → is_tree (g p) ≡ true → is_owned (m p) ≡ true
+  tree_reported p tree = elim (or_not (p == Reg)) as (λ v. is_owned (m p) ≡ true) [
     | inl e ↦ ap (λ r. is_owned (m r)) (equal p Reg e) ∙ (ap is_owned sight.root ∙ seen_tree c.types ch.type (g Reg) κ (ap (λ r. is_tree (g r)) (sym (equal p Reg e)) ∙ tree))
     | inr e ↦ ap is_owned (sight.others p (unequal p Reg e) (λ a. true≢false (sym tree ∙ ap is_tree (right.fresh p a).0))) ∙ tree_owned c.types (g p) tree
   ]
 
-  lent_told : (r t q : ℕ) → g r ≡ H.Lent t (Some q) → is_owned (m q) ≡ true
-  lent_told r t q e = tree_told q (right.rooted r t q e)
+  lent_reported : (r t q : ℕ) → g r ≡ H.Lent t (Some q) → is_owned (m q) ≡ true
+  lent_reported r t q e = tree_reported q (right.rooted r t q e)
 
   -- a position below the scrutinee's
   pub sight_seat : (j : ℕ) → Among j (below ch.root) → Seat c.types m (E.root_of Reg (g Reg)) read j
@@ -188,9 +188,9 @@ module _ (c : PlainCode) (f : PlainFunction) (g : Holding) (ch : Choice) (right 
     where
       each : (j : ℕ) → LinkIs c.types m j (m j)
       each j = elim (or_not (j == Reg)) as (λ v. LinkIs c.types m j (m j)) [
-        | inl e ↦ subst (λ z. LinkIs c.types m z (m z)) (sym (equal j Reg e)) (subst (LinkIs c.types m Reg) (sym sight.root) (seen_linked c.types m Reg ch.type (g Reg) κ (lent_told Reg)))
+        | inl e ↦ subst (λ z. LinkIs c.types m z (m z)) (sym (equal j Reg e)) (subst (LinkIs c.types m Reg) (sym sight.root) (seen_linked c.types m Reg ch.type (g Reg) κ (lent_reported Reg)))
         | inr e ↦ elim (or_not (has (below ch.root) j)) as (λ v. LinkIs c.types m j (m j)) [
-          | inl a ↦ seat_linked c.types m (E.root_of Reg (g Reg)) read (root_is m Reg (g Reg) (lent_told Reg) (tree_told Reg)) j (sight_seat j (has_among (below ch.root) j a))
-          | inr a ↦ subst (LinkIs c.types m j) (sym (sight.others j (unequal j Reg e) (not_among (below ch.root) j a))) (held_linked c.types m j (g j) (lent_told j))
+          | inl a ↦ seat_linked c.types m (E.root_of Reg (g Reg)) read (root_is m Reg (g Reg) (lent_reported Reg) (tree_reported Reg)) j (sight_seat j (has_among (below ch.root) j a))
+          | inr a ↦ subst (LinkIs c.types m j) (sym (sight.others j (unequal j Reg e) (not_among (below ch.root) j a))) (held_linked c.types m j (g j) (lent_reported j))
         ]
       ]

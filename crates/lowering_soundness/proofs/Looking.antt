@@ -1,4 +1,4 @@
--- A test and a read: each is as asked, and these are the kinds behind it.
+-- A test and a read: each is as asked, and these are the kinds after it.
 use Rattle.std.proofs.Common.{◌≡◌, ℕ, suc, ◌<◌, Bool, true, false, not, List, [], ◌∷◌, length, slice_get, Some, refl, sym, ap, ◌∙◌, subst, arith, if◌then◌else◌, ◌==◌, nat_lt}
 use Rattle.std.proofs.lemmas.Option.{same_Some}
 use Rattle.separation.specs.fip_language.Table.{Table}
@@ -51,11 +51,11 @@ module _ (c : PlainCode) (f : PlainFunction) where
         let k = lent_kind c.types t (root_of r (m r)) r i in
         let same : e.0 ≡ t = same_Some e.0 t (sym e.1 ∙ (ap (λ k. slice_get (known_fields c.types k) i) (cov.each r) ∙ there)) in
         let is : left ≡ written ks d k = e.2 ∙ ap (written ks d) (ap (λ t. lent_kind c.types t (root_of r (at ks r)) r i) same ∙ ap (λ j. lent_kind c.types t (root_of r j) r i) (cov.each r)) in
-        subst (Covered f.registers (peeked m d k)) (sym is) (behind ks k cov));
+        subst (Covered f.registers (peeked m d k)) (sym is) (following ks k cov));
   }
     where
-      behind : (ks : List Kind) (k : Kind) → Covered f.registers m ks → Covered f.registers (peeked m d k) (written ks d k)
-      behind ks k cov =
+      following : (ks : List Kind) (k : Kind) → Covered f.registers m ks → Covered f.registers (peeked m d k) (written ks d k)
+      following ks k cov =
           let wide = cov.wide in
           let inside : d < length ks = omega (arith, wide, within) in
           record {

@@ -1,5 +1,5 @@
 -- The maps of all labels of an instance's function are formed: where a straight part begins, what is known is formed and
--- goes with the variables in scope; and what is told while a clause is chosen goes with the registers before the match.
+-- goes with the variables in scope; and what is reported while a clause is chosen goes with the registers before the match.
 use Rattle.std.proofs.Common.{◌≡◌, inl, inr, ℕ, suc, ◌+◌, ◌≤◌, Bool, true, false, ◌&&◌, not, slice_get, List, [], ◌∷◌, ◌++◌, length, map, Some, refl, sym, ap, ◌∙◌, subst, arith}
 use Rattle.separation.specs.fip_language.declared.Place.{Place}
 use Rattle.separation.specs.fip_language.declared.Operator.{Operator}
@@ -7,7 +7,7 @@ use Rattle.lowering_relation.specs.fip_trees.Tree.{Argument, Arguments, NoArgume
 use Rattle.lowering_relation.specs.fip_trees.Tree.{Expression, Give, Tuple, Operation, Call, Match, Nested, Block, Last, Let}
 use Rattle.separation.specs.cell_code.declared.kind.Kind.{Kind}
 use Rattle.derivation_making.specs.fip_rules.World as R
-use Rattle.derivation_making.specs.fip_rules.Shapes.{Names, behind, shape, binders, takes}
+use Rattle.derivation_making.specs.fip_rules.Shapes.{Names, following, shape, binders, takes}
 use Rattle.derivation_making.specs.type_check.Binders.{all_annotated, entries}
 use Rattle.derivation_making.specs.type_check.Scope.{Scope}
 use Rattle.derivation_making.specs.type_check.World as W
@@ -17,7 +17,7 @@ use Rattle.derivation_making.specs.ownership_calculus.Rules.{lending}
 use Rattle.derivation_making.specs.ownership_calculus.Rules as O
 use Rattle.derivation_making.specs.ownership_calculus.ByCases.{Derives}
 use Rattle.derivation_making.specs.ownership_agreement.Bodies.{Scalars, variables, entering, inside, term, term_block, clauses, nodes, past_clause}
-use Rattle.derivation_making.proofs.Reading.{next_behind}
+use Rattle.derivation_making.proofs.Reading.{next_after}
 use Rattle.separation.specs.code_rules.Codes.{PlainCode, PlainFunction}
 use Rattle.separation.specs.code_rules.Kinds.{at as kind_at}
 use Rattle.separation.specs.code_rules.Tables.{AreSoundTables}
@@ -31,7 +31,7 @@ use Rattle.lowering_relation.specs.Known.{Known, register_of}
 use Rattle.lowering_relation.specs.Values.{Setting}
 use Rattle.lowering_relation.specs.LoweredBodies.{Return, Into, result_type, handed, registers_for, reserved, with_names}
 use Rattle.lowering_relation.specs.Describing.{held_at}
-use Rattle.lowering_relation.specs.Labels.{told, Tells, Quiet}
+use Rattle.lowering_relation.specs.Labels.{reported, Reports, Quiet}
 use Rattle.lowering_relation.specs.Standing.{is_open, AreOpen}
 use Rattle.lowering_relation.specs.Joins.{ClauseEnds}
 use Rattle.lowering_relation.specs.Tests.{Choice, SidesLaid}
@@ -53,24 +53,24 @@ use Rattle.lowering_soundness.proofs.Numbering.{Below, below_same, expression_be
 use Rattle.lowering_soundness.proofs.Standing.{Slotted, MatchStands}
 use Rattle.lowering_soundness.proofs.EntryHeld.{held_wide}
 use Rattle.lowering_soundness.proofs.Typed.{expression_types}
-use Rattle.lowering_soundness.proofs.Bodies.{length_all_named, length_registers, registers_wait, waits_on, waiting_among, and_right, not_true, enter, behind_placed, later, none_later, let_split, split_none, rest_none, lent_kept, unlent, named_done, registers_apart, wide_empty, past_placed, past_none, first_by, rest_by, on_entry, entry_below, past_below, let_below_later, let_below, into, block_into}
+use Rattle.lowering_soundness.proofs.Bodies.{length_all_named, length_registers, registers_wait, waits_on, waiting_among, and_right, not_true, enter, after_placed, later, none_later, let_split, split_none, rest_none, lent_kept, unlent, named_done, registers_apart, wide_empty, past_placed, past_none, first_by, rest_by, on_entry, entry_below, past_below, let_below_later, let_below, into, block_into}
 use Rattle.lowering_soundness.proofs.Labelled.{Labelled, labelled_none, labelled_on, labelled_quiet, labelled_sides}
-use Rattle.lowering_soundness.proofs.Linked.{Linked, told_linked, sight_linked}
+use Rattle.lowering_soundness.proofs.Linked.{Linked, reported_linked, sight_linked}
 use Rattle.lowering_soundness.proofs.Formed.{IsFormed, Formed, at_formed, wide_formed, moves_formed, gives_formed, over_formed, met_formed, result_formed, goes_formed, arguments_formed, handed_formed, taken_formed, received_formed, begins_formed, entered_formed}
-use Rattle.lowering_soundness.proofs.Shaped.{IsShaped, IsRight, told_shaped, sight_shaped, label_open}
+use Rattle.lowering_soundness.proofs.Shaped.{IsShaped, IsRight, reported_shaped, sight_shaped, label_open}
 
-told_right : (c : PlainCode) (n : ℕ) (map : List Kind) (m : ℕ → Kind) → Tells n map m → Linked c.types m → ((r : ℕ) → IsShaped c.types (m r)) → IsRight c.types n map
-told_right c n map m tells linked shaped =
-    let same : m ≡ kind_at map = λ i r. sym (tells.each r) i in
-    record { wide = tells.wide; linked = subst (Linked c.types) same linked; shaped = λ r. subst (IsShaped c.types) (sym (tells.each r)) (shaped r) }
+reported_right : (c : PlainCode) (n : ℕ) (map : List Kind) (m : ℕ → Kind) → Reports n map m → Linked c.types m → ((r : ℕ) → IsShaped c.types (m r)) → IsRight c.types n map
+reported_right c n map m reports linked shaped =
+    let same : m ≡ kind_at map = λ i r. sym (reports.each r) i in
+    record { wide = reports.wide; linked = subst (Linked c.types) same linked; shaped = λ r. subst (IsShaped c.types) (sym (reports.each r)) (shaped r) }
 
 module _ (c : PlainCode) (f : PlainFunction) (st : Setting) (wd : W.World) (w : R.World) (fip : Bool) (shares : Shares c st wd) (callees : Callees c st wd w) (N : ℕ) (tables : AreSoundTables c) (opens : AreOpen f.labels) where
   abbrev pub AreRight : ℕ → ℕ → Type 0
   AreRight a b = Labelled f (IsRight c.types f.registers) a b
 
-  known_right : (k : Known) (a b : ℕ) → Rooted (held_at k.held) → Formed c.types k.held → Quiet f a b (told c k) → AreRight a b
+  known_right : (k : Known) (a b : ℕ) → Rooted (held_at k.held) → Formed c.types k.held → Quiet f a b (reported c k) → AreRight a b
   known_right k a b rooted formed quiet =
-      labelled_quiet f (IsRight c.types f.registers) a b (told c k) quiet (λ map there tells. told_right c f.registers map (told c k) tells (told_linked c k rooted) (told_shaped c k formed))
+      labelled_quiet f (IsRight c.types f.registers) a b (reported c k) quiet (λ map there reports. reported_right c f.registers map (reported c k) reports (reported_linked c k rooted) (reported_shaped c k formed))
 
   -- ---- a match
 
@@ -80,10 +80,10 @@ module _ (c : PlainCode) (f : PlainFunction) (st : Setting) (wd : W.World) (w : 
   sides_right : (ch : Choice) (l : Known) → MatchStands c st f ch l → Formed c.types l.held → (n at end : ℕ) → SidesLaid c f (wide_at (held_at l.held)) ch n at end → AreRight at end
   sides_right ch l stands formed n at end h =
       labelled_sides f (IsRight c.types f.registers) c (wide_at (held_at l.held)) ch
-      (λ p κ read m sight map there tells. (
+      (λ p κ read m sight map there reports. (
       let right = right_wide c st f ch l stands in
-      told_right c f.registers map m tells (sight_linked c f (wide_at (held_at l.held)) ch right κ read m sight)
-      (sight_shaped c f (wide_at (held_at l.held)) ch right κ read m sight (wide_each l formed) (λ r. subst (λ k. is_open k ≡ true) (tells.each r) (label_open f.labels p map opens there r))))) n at end h
+      reported_right c f.registers map m reports (sight_linked c f (wide_at (held_at l.held)) ch right κ read m sight)
+      (sight_shaped c f (wide_at (held_at l.held)) ch right κ read m sight (wide_each l formed) (λ r. subst (λ k. is_open k ≡ true) (reports.each r) (label_open f.labels p map opens there r))))) n at end h
 
   match_right : (at : ℕ) (k : Known) (ds : Bool) (t : ℕ) (a : Argument) (q : Pattern) (cs : Clauses) (ch : Choice) (l : Known) (e : ℕ) → MatchLaid c st f at k ds t a q cs ch l e → MatchStands c st f ch l → Formed c.types l.held → AreRight at e
   match_right at k ds t a q cs ch l e laid stands formed =
@@ -97,7 +97,7 @@ module _ (c : PlainCode) (f : PlainFunction) (st : Setting) (wd : W.World) (w : 
   entries_of ch l q cs stands patterns j p there =
       let e = ap (λ ps. slice_get ps j) patterns ∙ there in (stands.slots j p e, stands.typed j p e)
 
-  -- ---- what is known behind a part
+  -- ---- what is known after a part
 
   values_formed : (at : ℕ) (k : Known) (as' : Arguments) (rs : List ℕ) (mid : ℕ) (m : Known) → ValuesLaid c st f at k as' rs mid m → BuildsArguments c.types as' → Formed c.types k.held → Formed c.types m.held
   values_formed at k as' rs mid m h builds formed = arguments_formed c st wd w shares callees tables f.instrs at k as' rs mid m h.arguments builds formed
@@ -213,7 +213,7 @@ module _ (c : PlainCode) (f : PlainFunction) (st : Setting) (wd : W.World) (w : 
         let mid = h.1 in
         let m = h.2 in
         let us = typed.0 in
-        let n1 = behind n (shape w n e) in
+        let n1 = following n (shape w n e) in
         let D = O.setting (variables w n1.next bs) false B in
         let types = expression_types c st wd w shares callees s (all_annotated bs) e us placed.typed typed.1 in
         let parts = let_split c f st wd w fip shares callees N s B K A P R X k d.3 ties in
@@ -221,7 +221,7 @@ module _ (c : PlainCode) (f : PlainFunction) (st : Setting) (wd : W.World) (w : 
         (ties_lending fip c.types s B K (λ i. P i + (R i + X i)) R (λ q. 0) k (λ x. omega arith) parts) wide in
         let same_names = ap length comp.names in
         let room = num.1 in
-        let ent = enter c f st wd w fip shares callees N s sc n1 bs us B K R Q X m rs (behind_placed c f st wd w fip shares callees N s sc n e (later c f st wd w fip shares callees N n e) placed) num.0 (omega (arith, room, names, same_names)) typed.2 types d.4
+        let ent = enter c f st wd w fip shares callees N s sc n1 bs us B K R Q X m rs (after_placed c f st wd w fip shares callees N s sc n e (later c f st wd w fip shares callees N n e) placed) num.0 (omega (arith, room, names, same_names)) typed.2 types d.4
         (none_later c f st wd w fip shares callees N n e (λ i. R i + X i) (rest_none c f st wd w fip shares callees N n.next P R X (split_none c f st wd w fip shares callees N n.next A P R X d.3 none))) kept (unlent c f st wd w fip shares callees N s B K R (λ i. R i + X i) (λ q. owed c.types rs us q + 0) m comp.ties) comp.hold in
         let after = with_names m bs rs in
         let waits = waits_on k after ds wait comp.next (λ r i. let a = waiting_among k ds r wait i in comp.empty r a.1 a.0) in
@@ -236,7 +236,7 @@ module _ (c : PlainCode) (f : PlainFunction) (st : Setting) (wd : W.World) (w : 
         let mid = h.0 in
         let m = h.1 in
         let us = typed.0 in
-        let n1 = behind n (shape w n e) in
+        let n1 = following n (shape w n e) in
         let D = O.setting (variables w n1.next bs) false B in
         let types = expression_types c st wd w shares callees s (all_annotated bs) e us placed.typed typed.1 in
         let parts = let_split c f st wd w fip shares callees N s B K A P R X k d.3 ties in
@@ -249,9 +249,9 @@ module _ (c : PlainCode) (f : PlainFunction) (st : Setting) (wd : W.World) (w : 
         let got = into c f st wd w fip shares callees N s sc n (lending B R) (lent_in B K R) placed P (λ i. R i + X i) at (reserved k bs) e rs mid m (all_annotated bs) us h.2 typed.1 d.5 num.2 below less split lent waits0 as_many names wide in
         let same_names = got.delivered.names in
         let room = num.1 in
-        let ent = enter c f st wd w fip shares callees N s sc n1 bs us B K R Q X m rs (behind_placed c f st wd w fip shares callees N s sc n e (later c f st wd w fip shares callees N n e) placed) num.0 (omega (arith, room, names, same_names)) typed.2 types d.4
+        let ent = enter c f st wd w fip shares callees N s sc n1 bs us B K R Q X m rs (after_placed c f st wd w fip shares callees N s sc n e (later c f st wd w fip shares callees N n e) placed) num.0 (omega (arith, room, names, same_names)) typed.2 types d.4
         (none_later c f st wd w fip shares callees N n e (λ i. R i + X i) (rest_none c f st wd w fip shares callees N n.next P R X split)) kept (unlent c f st wd w fip shares callees N s B K R (λ i. R i + X i) (λ q. owed c.types rs us q + 0) m got.delivered.ties) got.delivered.hold in
-        let below_m = expression_below c f st fip w N n at (reserved k bs) e rs mid m n1.next h.2 num.2 (let z = next_behind w n e in omega (arith, z)) below in
+        let below_m = expression_below c f st fip w N n at (reserved k bs) e rs mid m n1.next h.2 num.2 (let z = next_after w n e in omega (arith, z)) below in
         let below_after = let_below_later c f st wd w fip shares callees N n e bs rs m num.0 below_m in
         let after = with_names m bs rs in
         let waits = waits_on k after ds wait (let z = got.delivered.next in omega (arith, z)) (λ r i. let a = waiting_among k ds r wait i in let low = a.1 in got.delivered.empty r (omega (arith, low)) a.0 (registers_apart c f st wd w fip shares callees N k bs r a.1)) in
@@ -259,7 +259,7 @@ module _ (c : PlainCode) (f : PlainFunction) (st : Setting) (wd : W.World) (w : 
         let back = block_into_right (s ++ entries bs (map Some us)) (entering w n1.next sc bs) (inside w true n1 bs) D K ent.placed Q X mid after rest ds end l b ts h.3 typed.3 d.6 num.3 below_after kept ent.none ent.ties waits many (length_all_named m.names bs rs ∙ (same_names ∙ names)) (got.delivered.width ∙ wide) front.1 builds.1 in
         (labelled_on f (IsRight c.types f.registers) at mid end front.0 back.0, back.1)
 
-    -- the clauses behind one
+    -- the clauses after one
     clauses_into_right : (s : Scope) (sc : Scalars) (n : Names) (B : ℕ → Bool) (K : ℕ → Item → ℕ) (X L : Item → ℕ) → Kept K X → ((y : ℕ) → L (Own y) ≤ X (Own y)) → Placed c s sc n → (R : Item → ℕ) → NoneFrom n.next (λ i. R i + X i) → (u : ℕ) → is_type c.types u ≡ true → (taken : Bool) (ch : Choice) (k l : Known) (q0 : Pattern) (cs0 : Clauses) → MatchOn c st wd w shares callees f fip taken s B K R X L u ch k l q0 cs0 → (o : Expression) (i : ℕ) (cs : Clauses) → ((j : ℕ) (q : Pattern) → slice_get (clause_patterns cs) j ≡ Some q → Roomy q ch.root) → (ys ks : List ℕ) (te : Term) (ds ts : List ℕ) (end : ℕ) (j : Known) (at : ℕ) (met : Known) → ClausesMeet c st fip f ch l o i cs ds end j at met → TypesClauses true wd s u cs ts → DerivesBy c st wd w shares callees f fip taken B R (clauses w sc taken n ys ks te cs) → NumberedClauses w N taken n cs → Below l n.next → ((r : ℕ) → suc r ≤ k.next → held_at k.held r ≡ H.Nothing → held_at l.held r ≡ H.Nothing) → Waiting k ds → length ds ≡ length ts → length l.names ≡ N → length l.held ≡ f.registers → is_type c.types ch.type ≡ true → Entries ch (clause_patterns cs) → Formed c.types l.held → BuildsClauses c.types cs → Formed c.types j.held → AreRight at end × Formed c.types met.held
     clauses_into_right s sc n B K X L kept least placed R none u utyped taken ch k l q0 cs0 on o i NoClauses roomy ys ks te ds ts end j at met h typed d num below empty wait many names wide chosen patterns formed builds before = (labelled_none f (IsRight c.types f.registers) at end (sym h.0), subst (λ (l : Known). Formed c.types l.held) (sym h.1) before)
     clauses_into_right s sc n B K X L kept least placed R none u utyped taken ch k l q0 cs0 on o i (MoreClauses q body cs) roomy ys ks te ds ts end j at met h typed d num below empty wait many names wide chosen patterns formed builds before =
@@ -340,7 +340,7 @@ module _ (c : PlainCode) (f : PlainFunction) (st : Setting) (wd : W.World) (w : 
         let mid = h.1 in
         let m = h.2 in
         let us = typed.0 in
-        let n1 = behind n (shape w n e) in
+        let n1 = following n (shape w n e) in
         let D = O.setting (variables w n1.next bs) false B in
         let types = expression_types c st wd w shares callees s (all_annotated bs) e us placed.typed typed.1 in
         let parts = let_split c f st wd w fip shares callees N s B K A P R X k d.3 ties in
@@ -348,7 +348,7 @@ module _ (c : PlainCode) (f : PlainFunction) (st : Setting) (wd : W.World) (w : 
         (ties_lending fip c.types s B K (λ i. P i + (R i + X i)) R (λ q. 0) k (λ x. omega arith) parts) wide in
         let same_names = ap length comp.names in
         let room = num.1 in
-        let ent = enter c f st wd w fip shares callees N s sc n1 bs us B K R Q X m rs (behind_placed c f st wd w fip shares callees N s sc n e (later c f st wd w fip shares callees N n e) placed) num.0 (omega (arith, room, names, same_names)) typed.2 types d.4
+        let ent = enter c f st wd w fip shares callees N s sc n1 bs us B K R Q X m rs (after_placed c f st wd w fip shares callees N s sc n e (later c f st wd w fip shares callees N n e) placed) num.0 (omega (arith, room, names, same_names)) typed.2 types d.4
         (none_later c f st wd w fip shares callees N n e (λ i. R i + X i) (rest_none c f st wd w fip shares callees N n.next P R X (split_none c f st wd w fip shares callees N n.next A P R X d.3 none))) kept (unlent c f st wd w fip shares callees N s B K R (λ i. R i + X i) (λ q. owed c.types rs us q + 0) m comp.ties) comp.hold in
         let front = named_right at k e rs mid m h.3 ties.rooted formed builds.0 in
         labelled_on f (IsRight c.types f.registers) at mid end front.0
@@ -362,7 +362,7 @@ module _ (c : PlainCode) (f : PlainFunction) (st : Setting) (wd : W.World) (w : 
         let mid = h.0 in
         let m = h.1 in
         let us = typed.0 in
-        let n1 = behind n (shape w n e) in
+        let n1 = following n (shape w n e) in
         let D = O.setting (variables w n1.next bs) false B in
         let types = expression_types c st wd w shares callees s (all_annotated bs) e us placed.typed typed.1 in
         let parts = let_split c f st wd w fip shares callees N s B K A P R X k d.3 ties in
@@ -375,13 +375,13 @@ module _ (c : PlainCode) (f : PlainFunction) (st : Setting) (wd : W.World) (w : 
         let got = into c f st wd w fip shares callees N s sc n (lending B R) (lent_in B K R) placed P (λ i. R i + X i) at (reserved k bs) e rs mid m (all_annotated bs) us h.2 typed.1 d.5 num.2 below less split lent waits0 as_many names wide in
         let same_names = got.delivered.names in
         let room = num.1 in
-        let ent = enter c f st wd w fip shares callees N s sc n1 bs us B K R Q X m rs (behind_placed c f st wd w fip shares callees N s sc n e (later c f st wd w fip shares callees N n e) placed) num.0 (omega (arith, room, names, same_names)) typed.2 types d.4
+        let ent = enter c f st wd w fip shares callees N s sc n1 bs us B K R Q X m rs (after_placed c f st wd w fip shares callees N s sc n e (later c f st wd w fip shares callees N n e) placed) num.0 (omega (arith, room, names, same_names)) typed.2 types d.4
         (none_later c f st wd w fip shares callees N n e (λ i. R i + X i) (rest_none c f st wd w fip shares callees N n.next P R X split)) kept (unlent c f st wd w fip shares callees N s B K R (λ i. R i + X i) (λ q. owed c.types rs us q + 0) m got.delivered.ties) got.delivered.hold in
         let front = into_right s sc n (lending B R) (lent_in B K R) placed P (λ i. R i + X i) at (reserved k bs) e rs mid m (all_annotated bs) us h.2 typed.1 d.5 num.2 below less split lent waits0 as_many names wide formed builds.0 in
         labelled_on f (IsRight c.types f.registers) at mid end front.0
-        (block_ends_right (s ++ entries bs (map Some us)) (entering w n1.next sc bs) (inside w true n1 bs) D K ent.placed Q mid (with_names m bs rs) rest end l b ts h.3 typed.3 d.6 num.3 (let_below_later c f st wd w fip shares callees N n e bs rs m num.0 (expression_below c f st fip w N n at (reserved k bs) e rs mid m n1.next h.2 num.2 (let z = next_behind w n e in omega (arith, z)) below)) kept ent.none ent.ties (length_all_named m.names bs rs ∙ (same_names ∙ names)) (got.delivered.width ∙ wide) front.1 builds.1)
+        (block_ends_right (s ++ entries bs (map Some us)) (entering w n1.next sc bs) (inside w true n1 bs) D K ent.placed Q mid (with_names m bs rs) rest end l b ts h.3 typed.3 d.6 num.3 (let_below_later c f st wd w fip shares callees N n e bs rs m num.0 (expression_below c f st fip w N n at (reserved k bs) e rs mid m n1.next h.2 num.2 (let z = next_after w n e in omega (arith, z)) below)) kept ent.none ent.ties (length_all_named m.names bs rs ∙ (same_names ∙ names)) (got.delivered.width ∙ wide) front.1 builds.1)
 
-    -- the clauses behind one
+    -- the clauses after one
     clauses_ends_right : (s : Scope) (sc : Scalars) (n : Names) (B : ℕ → Bool) (K : ℕ → Item → ℕ) (L : Item → ℕ) → ((y : ℕ) → L (Own y) ≤ 0) → Placed c s sc n → (R : Item → ℕ) → NoneFrom n.next (λ i. R i + 0) → (u : ℕ) → is_type c.types u ≡ true → (taken : Bool) (ch : Choice) (k l : Known) (q0 : Pattern) (cs0 : Clauses) → MatchOn c st wd w shares callees f fip taken s B K R (λ i. 0) L u ch k l q0 cs0 → (i : ℕ) (cs : Clauses) → ((j : ℕ) (q : Pattern) → slice_get (clause_patterns cs) j ≡ Some q → Roomy q ch.root) → (ys ks : List ℕ) (te : Term) (at end : ℕ) (ts : List ℕ) → ClausesLaid c st fip f ch l i cs at end → TypesClauses true wd s u cs ts → DerivesBy c st wd w shares callees f fip taken B R (clauses w sc taken n ys ks te cs) → NumberedClauses w N taken n cs → Below l n.next → ((z y : ℕ) → K z (Own y) ≤ 0) → length l.names ≡ N → length l.held ≡ f.registers → is_type c.types ch.type ≡ true → Entries ch (clause_patterns cs) → Formed c.types l.held → BuildsClauses c.types cs → AreRight at end
     clauses_ends_right s sc n B K L least placed R none u utyped taken ch k l q0 cs0 on i NoClauses roomy ys ks te at end ts h typed d num below kept names wide chosen patterns formed builds = labelled_none f (IsRight c.types f.registers) at end h
     clauses_ends_right s sc n B K L least placed R none u utyped taken ch k l q0 cs0 on i (MoreClauses q body cs) roomy ys ks te at end ts h typed d num below kept names wide chosen patterns formed builds =

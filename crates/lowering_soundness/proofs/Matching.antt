@@ -30,7 +30,7 @@ use Rattle.lowering_soundness.specs.Giving.{is_owned_of}
 use Rattle.separation.specs.cell_code.declared.kind.Kind.{Kind}
 use Rattle.lowering_soundness.specs.Parts.{Part}
 use Rattle.lowering_soundness.specs.Ties.{owners, own, owe, owed, is_read_of, LiesIn, Rooted, Ties}
-use Rattle.lowering_relation.specs.Labels.{told}
+use Rattle.lowering_relation.specs.Labels.{reported}
 use Rattle.lowering_soundness.specs.Laid.{Shares}
 use Rattle.lowering_soundness.specs.Placed.{Placed, NoneFrom, Callees}
 use Rattle.lowering_relation.specs.Tests.{Choice, ChunkLaid, SidesLaid}
@@ -328,31 +328,31 @@ module _ (c : PlainCode) (st : Setting) (wd : W.World) (w : R.World) (shares : S
 
   -- the tests stand before what is so from the first clause's entry on
   module _ (P : ℕ → (ℕ → Kind) → Type 0) (on_stretch : (a : ℕ) (m : ℕ → Kind) (b : ℕ) (l : ℕ → Kind) → Stretch c f a m b → P b l → P a m) (on_part : (a : ℕ) (m : ℕ → Kind) (b : ℕ) (l : ℕ → Kind) → Part c f a m b l → P b l → P a m) where
-    tests_any : (ch : Choice) (l : Known) (q : Pattern) (at mid sides e n : ℕ) → MatchStands c st f ch l → EntriesLaid c st f ch l → ChunkLaid c f (held_at l.held) ch at (Rattle.lowering_relation.specs.match_knowledge.Known.Open []) [] (told c l) mid → SidesLaid c f (wide_at (held_at l.held)) ch sides mid e → EntryLaid c st f ch l 0 q e n → P e (told c (entered st ch q l n)) → P at (told c l)
-    tests_any ch l q at mid sides e n stands entries first rest entry body = elim (less_or_not 0 mid) as (λ v. P at (told c l)) [
-      | inl low ↦ on_stretch at (told c l) e (told c (entered st ch q l n)) (match_stretch c st f ch l stands entries at mid sides e first rest low) body
+    tests_any : (ch : Choice) (l : Known) (q : Pattern) (at mid sides e n : ℕ) → MatchStands c st f ch l → EntriesLaid c st f ch l → ChunkLaid c f (held_at l.held) ch at (Rattle.lowering_relation.specs.match_knowledge.Known.Open []) [] (reported c l) mid → SidesLaid c f (wide_at (held_at l.held)) ch sides mid e → EntryLaid c st f ch l 0 q e n → P e (reported c (entered st ch q l n)) → P at (reported c l)
+    tests_any ch l q at mid sides e n stands entries first rest entry body = elim (less_or_not 0 mid) as (λ v. P at (reported c l)) [
+      | inl low ↦ on_stretch at (reported c l) e (reported c (entered st ch q l n)) (match_stretch c st f ch l stands entries at mid sides e first rest low) body
       | inr none ↦
           (let grows = match_grows c st f ch l stands at mid first in
           let zero : mid ≡ 0 = omega (arith, none) in
           let e0 = no_sides (wide_at (held_at l.held)) ch sides mid e zero rest in
           let same : e ≡ at = omega (arith, none, grows, e0) in
-          elim entry.enters as (λ v. P at (told c l)) [
+          elim entry.enters as (λ v. P at (reported c l)) [
             | inl y ↦ (let low = y.0 in absurd (let z : ⊥ = omega (arith, low, e0) in z))
-            | inr y ↦ (let kinds : told c (entered st ch q l n) ≡ told c l = λ i r. sym (y.1 r) i in subst₂ P same kinds body)
+            | inr y ↦ (let kinds : reported c (entered st ch q l n) ≡ reported c l = λ i r. sym (y.1 r) i in subst₂ P same kinds body)
           ])
     ]
 
-    pub match_any : (at : ℕ) (k : Known) (ds : Bool) (t : ℕ) (a : Argument) (q : Pattern) (cs : Clauses) (ch : Choice) (l : Known) (e n : ℕ) → MatchLaid c st f at k ds t a q cs ch l e → MatchStands c st f ch l → EntriesLaid c st f ch l → EntryLaid c st f ch l 0 q e n → P e (told c (entered st ch q l n)) → P at (told c k)
+    pub match_any : (at : ℕ) (k : Known) (ds : Bool) (t : ℕ) (a : Argument) (q : Pattern) (cs : Clauses) (ch : Choice) (l : Known) (e n : ℕ) → MatchLaid c st f at k ds t a q cs ch l e → MatchStands c st f ch l → EntriesLaid c st f ch l → EntryLaid c st f ch l 0 q e n → P e (reported c (entered st ch q l n)) → P at (reported c k)
     match_any at k ds t a q cs ch l e n laid stands entries entry body = by laid.begins.forgets
       where
-        tests : P at (told c l)
+        tests : P at (reported c l)
         tests = tests_any ch l q at laid.mid laid.more e n stands entries laid.first laid.sides entry body
 
-        tests_known : P at (told c laid.begins.known)
-        tests_known = subst (λ (l : Known). P at (told c l)) laid.begins.is tests
+        tests_known : P at (reported c laid.begins.known)
+        tests_known = subst (λ (l : Known). P at (reported c l)) laid.begins.is tests
 
-        by : Forgets c f at k (register ch.root) laid.begins.known → P at (told c k)
-        by (inl y) = subst (λ (l : Known). P at (told c l)) y.0 tests_known
+        by : Forgets c f at k (register ch.root) laid.begins.known → P at (reported c k)
+        by (inl y) = subst (λ (l : Known). P at (reported c l)) y.0 tests_known
         by (inr y) =
-            on_part at (told c k) at (told c laid.begins.known)
-            (catch_part c f at (told c k) (told c laid.begins.known) y.1 (λ r. ap (λ (l : Known). Rattle.separation.specs.code_rules.Fitting.fits (told c l r) (told c k r)) y.0 ∙ (ap (λ h. Rattle.separation.specs.code_rules.Fitting.fits (kind_of c.types h) (kind_of c.types (held_at k.held r))) (held_wide k.held r) ∙ wide_fits c.types (held_at k.held r) (laid.begins.built r)))) tests_known
+            on_part at (reported c k) at (reported c laid.begins.known)
+            (catch_part c f at (reported c k) (reported c laid.begins.known) y.1 (λ r. ap (λ (l : Known). Rattle.separation.specs.code_rules.Fitting.fits (reported c l r) (reported c k r)) y.0 ∙ (ap (λ h. Rattle.separation.specs.code_rules.Fitting.fits (kind_of c.types h) (kind_of c.types (held_at k.held r))) (held_wide k.held r) ∙ wide_fits c.types (held_at k.held r) (laid.begins.built r)))) tests_known

@@ -15,7 +15,7 @@ use Rattle.lowering_soundness.specs.Covering.{using}
 use Rattle.lowering_soundness.specs.Giving.{is_credit_of, is_value}
 use Rattle.lowering_soundness.specs.Parts.{Part}
 use Rattle.lowering_soundness.specs.Ties.{owners, own, HoldsValue, AllHold, owe, owed, Stays, Ties}
-use Rattle.lowering_relation.specs.Labels.{told, Quiet}
+use Rattle.lowering_relation.specs.Labels.{reported, Quiet}
 use Rattle.lowering_soundness.specs.Delivered.{Waiting}
 use Rattle.lowering_relation.specs.Moves.{MoveLaid, MovesLaid}
 use Rattle.lowering_soundness.proofs.SoundStraight.{move_row}
@@ -38,8 +38,8 @@ given_value (H.Bare t c) e = absurd (true≢false (sym e))
 -- one word went: from k to l
 pub record Moved (c : PlainCode) (f : PlainFunction) (fip : Bool) (s : Scope) (B : ℕ → Bool) (K : ℕ → Item → ℕ) (X : Item → ℕ) (e : ℕ → ℕ) (at : ℕ) (k : Known) (d t : ℕ) (end : ℕ) (l : Known) : Type 0 where
   pub grows : at ≤ end
-  pub still : at ≡ end → (r : ℕ) → told c k r ≡ told c l r
-  pub part : Part c f at (told c k) end (told c l)
+  pub still : at ≡ end → (r : ℕ) → reported c k r ≡ reported c l r
+  pub part : Part c f at (reported c k) end (reported c l)
   pub names : l.names ≡ k.names
   pub next : l.next ≡ k.next
   pub width : length l.held ≡ length k.held
@@ -49,12 +49,12 @@ pub record Moved (c : PlainCode) (f : PlainFunction) (fip : Bool) (s : Scope) (B
   pub stays : Stays (held_at k.held) (held_at l.held) (λ q. owners k.names (own X) q + e q)
 
 module _ (c : PlainCode) (f : PlainFunction) (fip : Bool) (s : Scope) (B : ℕ → Bool) (K : ℕ → Item → ℕ) where
-  moved_word : (X : Item → ℕ) (e : ℕ → ℕ) (at : ℕ) (k : Known) (r d t : ℕ) → IsMove f.instrs at k r d (suc at) (moved k d r) → (r ≡ d → ⊥) → Ties fip c.types s B K X (λ q. owe c.types t r q + e q) k → ((z y : ℕ) → K z (Own y) ≤ X (Own y)) → HoldsValue c.types t (held_at k.held r) → held_at k.held d ≡ H.Nothing → suc d ≤ k.next → k.next ≤ length k.held → length k.held ≡ f.registers → Quiet f at (suc at) (told c k) → Moved c f fip s B K X e at k d t (suc at) (moved k d r)
+  moved_word : (X : Item → ℕ) (e : ℕ → ℕ) (at : ℕ) (k : Known) (r d t : ℕ) → IsMove f.instrs at k r d (suc at) (moved k d r) → (r ≡ d → ⊥) → Ties fip c.types s B K X (λ q. owe c.types t r q + e q) k → ((z y : ℕ) → K z (Own y) ≤ X (Own y)) → HoldsValue c.types t (held_at k.held r) → held_at k.held d ≡ H.Nothing → suc d ≤ k.next → k.next ≤ length k.held → length k.held ≡ f.registers → Quiet f at (suc at) (reported c k) → Moved c f fip s B K X e at k d t (suc at) (moved k d r)
   moved_word X e at k r d t h apart ties kept v empty low room wide quiet =
       let g = held_at k.held in
       let given = value_given c.types t (g r) v in
       let within : d < length k.held = omega (arith, low, room) in
-      let behind : Known = record k { held = used_all k.held (r ∷ []) } in
+      let following : Known = record k { held = used_all k.held (r ∷ []) } in
       let first = use_ties fip c.types s B K X e k (r ∷ []) (t ∷ []) (ties_owe fip c.types s B K X (λ q. owe c.types t r q + e q) (λ q. owed c.types (r ∷ []) (t ∷ []) q + e q) k (λ q. omega arith) ties) kept (v, tt) in
       let used_eq : held_at (used k.held r) ≡ using g r = held_used_fn k.held r in
       let word : as_value (get_or k.held r H.Nothing) ≡ g r = ap as_value (held_or k.held r) ∙ (given_value (g r) given).1 in
@@ -65,13 +65,13 @@ module _ (c : PlainCode) (f : PlainFunction) (fip : Bool) (s : Scope) (B : ℕ �
       record {
         grows = omega arith;
         still = λ z q. absurd (let y : ⊥ = omega (arith, z) in y);
-        part = subst (λ y. Part c f at (told c k) (suc at) (kinds_of c.types y)) (sym held)
-            (one_row c f at (told c k) (kinds_of c.types (setting (using g r) d (g r))) (I.Move d r) h.written refl
+        part = subst (λ y. Part c f at (reported c k) (suc at) (kinds_of c.types y)) (sym held)
+            (one_row c f at (reported c k) (kinds_of c.types (setting (using g r) d (g r))) (I.Move d r) h.written refl
             (move_row c f g d r (given_value (g r) given).0 (unequal_is d r (λ z. apart (sym z))) (ap is_spare empty) (omega (arith, within, wide))) (quiet.first (omega arith)));
         names = refl;
         next = refl;
         width = length_set (used k.held r) d (as_value (get_or k.held r H.Nothing)) ∙ length_used k.held r;
-        ties = set_ties fip c.types s B K X X e behind (moved k d r) d t (g r) first.ties (λ y. refl) kept (ap is_idle (ap (λ x. x d) used_eq ∙ still_empty)) v (held ∙ ap (λ x. setting x d (g r)) (sym used_eq)) refl (omega arith) ties.sizes
+        ties = set_ties fip c.types s B K X X e following (moved k d r) d t (g r) first.ties (λ y. refl) kept (ap is_idle (ap (λ x. x d) used_eq ∙ still_empty)) v (held ∙ ap (λ x. setting x d (g r)) (sym used_eq)) refl (omega arith) ties.sizes
             (λ n q. ties.credits n q ∙ ap one (sym (ap (λ x. is_credit_of n (x q)) held ∙ (credit_after c f fip s B K n d q t (using g r) (g r) (ap (is_credit_of n) still_empty) v ∙ credit_using g r q n))))
             (λ q past. ap (λ x. x q) held ∙ (setting_other (using g r) d (g r) q (λ z. absurd (let y : ⊥ = omega (arith, z, past, low) in y)) ∙ using_nothing g r q (ties.fresh q past)));
         holds = subst (HoldsValue c.types t) (sym (ap (λ x. x d) held ∙ setting_here (using g r) d (g r))) v;
@@ -87,9 +87,9 @@ module _ (c : PlainCode) (f : PlainFunction) (fip : Bool) (s : Scope) (B : ℕ �
   no_value t h v e = true≢false (sym (value_given c.types t h v) ∙ ap is_given e)
 
   -- one word goes, where its register waits
-  move_one : (X : Item → ℕ) (e : ℕ → ℕ) (at : ℕ) (k : Known) (r d t end : ℕ) (l : Known) → MoveLaid f.instrs at k r d end l → Ties fip c.types s B K X (λ q. owe c.types t r q + e q) k → ((z y : ℕ) → K z (Own y) ≤ X (Own y)) → HoldsValue c.types t (held_at k.held r) → held_at k.held d ≡ H.Nothing → suc d ≤ k.next → k.next ≤ length k.held → length k.held ≡ f.registers → Quiet f at end (told c k) → Moved c f fip s B K X e at k d t end l
+  move_one : (X : Item → ℕ) (e : ℕ → ℕ) (at : ℕ) (k : Known) (r d t end : ℕ) (l : Known) → MoveLaid f.instrs at k r d end l → Ties fip c.types s B K X (λ q. owe c.types t r q + e q) k → ((z y : ℕ) → K z (Own y) ≤ X (Own y)) → HoldsValue c.types t (held_at k.held r) → held_at k.held d ≡ H.Nothing → suc d ≤ k.next → k.next ≤ length k.held → length k.held ≡ f.registers → Quiet f at end (reported c k) → Moved c f fip s B K X e at k d t end l
   move_one X e at k r d t end l (inl h) ties kept v empty low room wide quiet =
-      let ended : Quiet f at (suc at) (told c k) = subst (λ b. Quiet f at b (told c k)) h.1.one quiet in
+      let ended : Quiet f at (suc at) (reported c k) = subst (λ b. Quiet f at b (reported c k)) h.1.one quiet in
       subst₂ (λ b m. Moved c f fip s B K X e at k d t b m) (sym h.1.one) (sym h.1.known)
       (moved_word X e at k r d t (record { written = h.1.written; one = refl; known = refl }) h.0 ties kept v empty low room wide ended)
   move_one X e at k r d t end l (inr h) ties kept v empty low room wide quiet = absurd (no_value t (held_at k.held r) v (ap (held_at k.held) h.same ∙ empty))
@@ -102,8 +102,8 @@ module _ (c : PlainCode) (f : PlainFunction) (fip : Bool) (s : Scope) (B : ℕ �
 
   pub record MovedAll (X : Item → ℕ) (e : ℕ → ℕ) (at : ℕ) (k : Known) (ds ts : List ℕ) (end : ℕ) (l : Known) : Type 0 where
     pub grows : at ≤ end
-    pub still : at ≡ end → (r : ℕ) → told c k r ≡ told c l r
-    pub part : Part c f at (told c k) end (told c l)
+    pub still : at ≡ end → (r : ℕ) → reported c k r ≡ reported c l r
+    pub part : Part c f at (reported c k) end (reported c l)
     pub names : l.names ≡ k.names
     pub next : l.next ≡ k.next
     pub width : length l.held ≡ length k.held
@@ -121,12 +121,12 @@ module _ (c : PlainCode) (f : PlainFunction) (fip : Bool) (s : Scope) (B : ℕ �
       one_grows (inl m) = let z = m.1.one in omega (arith, z)
       one_grows (inr m) = let z = m.nothing in omega (arith, z)
 
-  pub moves : (X : Item → ℕ) (e : ℕ → ℕ) (at : ℕ) (k : Known) (rs ds ts : List ℕ) (end : ℕ) (l : Known) → MovesLaid f.instrs at k rs ds end l → length ds ≡ length ts → Ties fip c.types s B K X (λ q. owed c.types rs ts q + e q) k → ((z y : ℕ) → K z (Own y) ≤ X (Own y)) → AllHold c.types (held_at k.held) rs ts → Waiting k ds → k.next ≤ length k.held → length k.held ≡ f.registers → Quiet f at end (told c k) → MovedAll X e at k ds ts end l
+  pub moves : (X : Item → ℕ) (e : ℕ → ℕ) (at : ℕ) (k : Known) (rs ds ts : List ℕ) (end : ℕ) (l : Known) → MovesLaid f.instrs at k rs ds end l → length ds ≡ length ts → Ties fip c.types s B K X (λ q. owed c.types rs ts q + e q) k → ((z y : ℕ) → K z (Own y) ≤ X (Own y)) → AllHold c.types (held_at k.held) rs ts → Waiting k ds → k.next ≤ length k.held → length k.held ≡ f.registers → Quiet f at end (reported c k) → MovedAll X e at k ds ts end l
   moves X e at k [] [] [] end l h many ties kept hold wait room wide quiet =
       subst₂ (λ b m. MovedAll X e at k [] [] b m) (sym h.0) (sym h.1) (record {
         grows = omega arith;
         still = λ z q. refl;
-        part = no_row c f at (told c k) (told c k) (λ q. refl);
+        part = no_row c f at (reported c k) (reported c k) (λ q. refl);
         names = refl;
         next = refl;
         width = refl;
@@ -143,20 +143,20 @@ module _ (c : PlainCode) (f : PlainFunction) (fip : Bool) (s : Scope) (B : ℕ �
       let mid = h.0 in
       let m = h.1 in
       let later = moves_grow mid m rs ds end l h.3 in
-      let first = move_one X (λ q. owed c.types rs ts q + e q) at k r d t mid m h.2 (ties_owe fip c.types s B K X (λ q. (owe c.types t r q + owed c.types rs ts q) + e q) (λ q. owe c.types t r q + (owed c.types rs ts q + e q)) k (λ q. omega arith) ties) kept hold.0 wait.0 wait.1 room wide (quiet_front f at mid end (told c k) later quiet) in
+      let first = move_one X (λ q. owed c.types rs ts q + e q) at k r d t mid m h.2 (ties_owe fip c.types s B K X (λ q. (owe c.types t r q + owed c.types rs ts q) + e q) (λ q. owe c.types t r q + (owed c.types rs ts q + e q)) k (λ q. omega arith) ties) kept hold.0 wait.0 wait.1 room wide (quiet_front f at mid end (reported c k) later quiet) in
       let same_next = first.next in
       let rest = moves X (λ q. owe c.types t d q + e q) mid m rs ds ts end l h.3 (omega (arith, many))
       (ties_owe fip c.types s B K X (λ q. owe c.types t d q + (owed c.types rs ts q + e q)) (λ q. owed c.types rs ts q + (owe c.types t d q + e q)) m (λ q. omega arith) first.ties) kept
       (values_stay c.types (held_at k.held) (held_at m.held) (λ q. owners k.names (own X) q + (owed c.types rs ts q + e q)) rs ts first.stays (λ q. omega arith) hold.1)
       (waiting_on k m ds d wait.3 wait.2 (omega (arith, same_next)) first.empty)
       (let z = first.width in omega (arith, z, room, same_next)) (first.width ∙ wide)
-      (quiet_back f at mid end (told c k) (told c m) first.grows quiet first.still) in
+      (quiet_back f at mid end (reported c k) (reported c m) first.grows quiet first.still) in
       let a = first.grows in
       let b = rest.grows in
       record {
         grows = omega (arith, a, b);
         still = λ z q. (let x : at ≡ mid = omega (arith, a, b, z) in let y : mid ≡ end = omega (arith, a, b, z) in first.still x q ∙ rest.still y q);
-        part = both_parts c f at mid end (told c k) (told c m) (told c l) first.part rest.part;
+        part = both_parts c f at mid end (reported c k) (reported c m) (reported c l) first.part rest.part;
         names = rest.names ∙ first.names;
         next = rest.next ∙ first.next;
         width = rest.width ∙ first.width;

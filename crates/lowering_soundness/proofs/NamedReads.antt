@@ -87,23 +87,23 @@ module _ (c : PlainCode) (f : PlainFunction) (r0 : ℕ) where
   are_some [] q qs h = absurd h
   are_some (t ∷ ts) q qs h = (length ts, refl)
 
-  -- one part and those behind it
-  joined : (root : Option ℕ) (t : ℕ) (ts : List ℕ) (p : Pattern) (ps : Patterns) (k : Known) (ks : Knowns) (s : Spot) (ss : Spots) (r i at : ℕ) (read : List ℕ) (m : ℕ → Kind) (one : ℕ) (seen : List ℕ) (mid : ℕ) (more : List ℕ) → AllDiffer (MoreSpots s ss) → (o : Reads c f r0 (NamedRead p s) (OnePart c.types root t k s r i) (register s ∷ below s) at read m one seen) → Reads c f r0 (AllNamedRead ps ss) (AllBelow c.types root ts ks ss r (suc i)) (all_in ss) one seen o.behind mid more → Reads c f r0 (AllNamedRead (MorePatterns p ps) (MoreSpots s ss)) (AllBelow c.types root (t ∷ ts) (MoreKnowns k ks) (MoreSpots s ss) r i) (all_in (MoreSpots s ss)) at read m mid more
+  -- one part and those after it
+  joined : (root : Option ℕ) (t : ℕ) (ts : List ℕ) (p : Pattern) (ps : Patterns) (k : Known) (ks : Knowns) (s : Spot) (ss : Spots) (r i at : ℕ) (read : List ℕ) (m : ℕ → Kind) (one : ℕ) (seen : List ℕ) (mid : ℕ) (more : List ℕ) → AllDiffer (MoreSpots s ss) → (o : Reads c f r0 (NamedRead p s) (OnePart c.types root t k s r i) (register s ∷ below s) at read m one seen) → Reads c f r0 (AllNamedRead ps ss) (AllBelow c.types root ts ks ss r (suc i)) (all_in ss) one seen o.following mid more → Reads c f r0 (AllNamedRead (MorePatterns p ps) (MoreSpots s ss)) (AllBelow c.types root (t ∷ ts) (MoreKnowns k ks) (MoreSpots s ss) r i) (all_in (MoreSpots s ss)) at read m mid more
   joined root t ts p ps k ks s ss r i at read m one seen mid more differ o rest = record {
-    behind = rest.behind;
-    came = came_on c f at one mid m o.behind rest.behind o.came rest.came;
+    following = rest.following;
+    came = came_on c f at one mid m o.following rest.following o.came rest.came;
     ready = (named_on p s seen more rest.kept o.ready, rest.ready);
-    parts = (part_on c.types root t k s r i seen more o.behind rest.behind o.parts (λ z a. rest.others z (λ y. apart_head s ss z differ y a)), rest.parts);
+    parts = (part_on c.types root t k s r i seen more o.following rest.following o.parts (λ z a. rest.others z (λ y. apart_head s ss z differ y a)), rest.parts);
     kept = λ q e. rest.kept q (o.kept q e);
     others = λ q ne. (let a = o.others q (λ y. ne (in_part q s ss y)) in let b = rest.others q (λ y. ne (in_tail q s ss y)) in (b.0 ∙ a.0, b.1 ∙ a.1));
     froms = rest.froms;
   }
 
   -- a part that was read, and what it names below it
-  part_read : (root : Option ℕ) (t : ℕ) (p : Pattern) (k : Known) (s : Spot) (r i at : ℕ) (read : List ℕ) (m : ℕ → Kind) (one : ℕ) (seen : List ℕ) (mid : ℕ) (more : List ℕ) → (Among (register s) (below s) → ⊥) → (o : One c f r0 root t k s r i at read m one seen) → Reads c f r0 (NamedRead p s) (Below c.types root t k s) (below s) one seen o.behind mid more → Reads c f r0 (NamedRead p s) (OnePart c.types root t k s r i) (register s ∷ below s) at read m mid more
+  part_read : (root : Option ℕ) (t : ℕ) (p : Pattern) (k : Known) (s : Spot) (r i at : ℕ) (read : List ℕ) (m : ℕ → Kind) (one : ℕ) (seen : List ℕ) (mid : ℕ) (more : List ℕ) → (Among (register s) (below s) → ⊥) → (o : One c f r0 root t k s r i at read m one seen) → Reads c f r0 (NamedRead p s) (Below c.types root t k s) (below s) one seen o.following mid more → Reads c f r0 (NamedRead p s) (OnePart c.types root t k s r i) (register s ∷ below s) at read m mid more
   part_read root t p k s r i at read m one seen mid more off o sub = record {
-    behind = sub.behind;
-    came = came_on c f at one mid m o.behind sub.behind o.came sub.came;
+    following = sub.following;
+    came = came_on c f at one mid m o.following sub.following o.came sub.came;
     ready = sub.ready;
     parts = inl (sub.kept (register s) o.seen, (sub.others (register s) off).1 ∙ o.kind, sub.parts);
     kept = λ q e. sub.kept q (elim (or_not (q == register s)) as (λ v. contains q seen ≡ true) [
@@ -136,7 +136,7 @@ module _ (c : PlainCode) (f : PlainFunction) (r0 : ℕ) where
   part_names root t p k s r i at read m last seen end off other low there roots known part (inl h) froms quiet le deep =
       let high = names_end f h.1 p s h.2 last seen h.4 in
       let o = read_one c f r0 root t k s r i at read m h.1 h.2 end there roots known other low off part h.3 froms quiet (omega (arith, high, le)) in
-      let sub = deep h.1 h.2 o.behind (subst (OwnKind c.types root t k (register s)) (sym o.kind) (own_part c.types root t k (register s) r i)) (inr o.seen) o.seen o.parts h.4 o.froms (came_quiet c f at h.1 end m o.behind o.came quiet) in
+      let sub = deep h.1 h.2 o.following (subst (OwnKind c.types root t k (register s)) (sym o.kind) (own_part c.types root t k (register s) r i)) (inr o.seen) o.seen o.parts h.4 o.froms (came_quiet c f at h.1 end m o.following o.came quiet) in
       part_read root t p k s r i at read m h.1 h.2 last seen off o sub
 
   mutual
@@ -166,6 +166,6 @@ module _ (c : PlainCode) (f : PlainFunction) (r0 : ℕ) where
         let o = part_names root t p k s r i at read m h.0 h.1 end differ.0 (λ e. off (inl (sym e))) (may (register s) (inl refl)) (ap (λ ts. slice_get ts i) fs ∙ fields_here c f r0 all' t ts i from) roots known parts.0 h.2 froms quiet (omega (arith, high, le))
         (λ mid' one l own' seen' there' parts' laid froms' quiet'. names root t p k s mid' one l h.0 h.1 end are.0 b.0 differ.3 differ.0 (λ z a. may z (in_head z s ss a)) own' seen' (λ e y. there') parts' laid froms' quiet' (omega (arith, high, le))) in
         let stays = o.others r (λ y. off (in_part r s ss y)) in
-        let rest = all_names root all' ts ps ks ss r (suc i) h.0 h.1 o.behind mid more end are.1 b.1 differ.4 (λ a. off (in_tail r s ss a)) (λ z a. may z (in_tail z s ss a)) (fields_next c f r0 all' t ts i from)
-        (ap (known_fields c.types) stays.1 ∙ fs) (ap (root_of r) stays.1 ∙ roots) (seen_on read h.1 r o.kept known) (all_below_on c.types root ts ks ss r (suc i) read h.1 m o.behind parts.1 (λ z a. o.others z (λ y. apart_head s ss z differ a y))) h.3 o.froms (came_quiet c f at h.0 end m o.behind o.came quiet) le in
+        let rest = all_names root all' ts ps ks ss r (suc i) h.0 h.1 o.following mid more end are.1 b.1 differ.4 (λ a. off (in_tail r s ss a)) (λ z a. may z (in_tail z s ss a)) (fields_next c f r0 all' t ts i from)
+        (ap (known_fields c.types) stays.1 ∙ fs) (ap (root_of r) stays.1 ∙ roots) (seen_on read h.1 r o.kept known) (all_below_on c.types root ts ks ss r (suc i) read h.1 m o.following parts.1 (λ z a. o.others z (λ y. apart_head s ss z differ a y))) h.3 o.froms (came_quiet c f at h.0 end m o.following o.came quiet) le in
         joined root t ts p ps k ks s ss r i at read m h.0 h.1 mid more differ o rest

@@ -7,11 +7,11 @@ use Rattle.lowering_relation.specs.fip_trees.Tree.{Argument, Variable, Literal, 
 use Rattle.lowering_relation.specs.fip_trees.Tree.{Pattern, BinderPattern, LiteralPattern, ConstructorPattern, Patterns, NoPatterns, MorePatterns}
 use Rattle.lowering_relation.specs.fip_trees.Tree.{Expression, Give, Tuple, Operation, Call, Match, Nested, Block, Last, Let, Clauses, NoClauses, MoreClauses, Instance}
 use Rattle.derivation_making.specs.fip_rules.World as R
-use Rattle.derivation_making.specs.fip_rules.Shapes.{Names, behind, shape, binders, binders_all, takes}
+use Rattle.derivation_making.specs.fip_rules.Shapes.{Names, following, shape, binders, binders_all, takes}
 use Rattle.derivation_making.specs.derivation_check.Scopes.{within, within_block, within_clauses}
 use Rattle.derivation_making.specs.ownership_agreement.Bodies.{inside, past_clause}
 use Rattle.derivation_making.proofs.Linking.{next_inside}
-use Rattle.derivation_making.proofs.Reading.{next_behind, next_past}
+use Rattle.derivation_making.proofs.Reading.{next_after, next_past}
 use Rattle.separation.specs.code_rules.Codes.{PlainCode, PlainFunction}
 use Rattle.separation.proofs.separation_kinds.Basics.{or_not, equal, unequal}
 use Rattle.lowering_relation.specs.Spots.{Spot, At, Spots, NoSpots, MoreSpots, register}
@@ -233,14 +233,14 @@ module _ (c : PlainCode) (f : PlainFunction) (st : Setting) (fip : Bool) (w : R.
         (ap (λ (l : Known). l.names) h.call.ends.known
         ∙ (taken_names (record h.m { held = Rattle.lowering_relation.specs.LoweredBodies.handed h.m.held h.call.instance.params h.registers }) h.call.instance.credits h.call.credits h.call.m h.call.taken
         ∙ arguments_names st f.instrs at k as' h.registers h.mid h.m h.values.arguments)) below)
-    expression_below n at k (Match g t p a q body cs) ds end l m (begin, k0, ch, l1, e, next', mid, behind', next, left, met, bare, quiet', laid, entry, inner, ends, others, meets) num room below =
+    expression_below n at k (Match g t p a q body cs) ds end l m (begin, k0, ch, l1, e, next', mid, after', next, left, met, bare, quiet', laid, entry, inner, ends, others, meets) num room below =
         let taken = takes w g t in
         let first = next_inside w taken n (binders q) in
         let past = next_past w taken n q body in
         let start : Below l1 n.next = below_same k l1 n.next (match_names begin k0 g t a q cs ch l1 e laid ∙ gives_names f true bare.steps at k begin k0 bare.gives) below in
         let enter = entered_below st ch q l1 next' n.next (inside w taken n (binders q)).next num.0 (omega (arith, first)) (below_more l1 n.next (inside w taken n (binders q)).next (omega (arith, first)) start) in
-        let done = block_below (inside w taken n (binders q)) e (entered st ch q l1 next') body ds mid behind' m inner num.2 (omega (arith, first, room)) enter in
-        let ended = below_same behind' left m (ends_names l1 (Match g t p a q body cs) ds cs mid behind' end next left ends) done in
+        let done = block_below (inside w taken n (binders q)) e (entered st ch q l1 next') body ds mid after' m inner num.2 (omega (arith, first, room)) enter in
+        let ended = below_same after' left m (ends_names l1 (Match g t p a q body cs) ds cs mid after' end next left ends) done in
         let all = clauses_below (past_clause w taken n q body) taken ch l1 (Match g t p a q body cs) 1 cs ds end left next met m others num.3 (omega (arith, past, room)) (below_more l1 n.next (past_clause w taken n q body).next (omega (arith, past)) start) ended in
         below_same met l m (ap (λ (l : Known). l.names) meets.known) all
     expression_below n at k (Nested b) ds end l m h num room below = block_below n at k b ds end l m h num room below
@@ -248,15 +248,15 @@ module _ (c : PlainCode) (f : PlainFunction) (st : Setting) (fip : Bool) (w : R.
     pub block_below : (n : Names) (at : ℕ) (k : Known) (d : Block) (ds : List ℕ) (end : ℕ) (l : Known) (m : ℕ) → BlockLaid c st fip f at k d (Into ds) end l → NumberedBlock w N n d → n.next + within_block d ≤ m → Below k n.next → Below l m
     block_below n at k (Last e) ds end l m h num room below = expression_below n at k e ds end l m h num room below
     block_below n at k (Let bs e rest) ds end l m (inl h) num room below =
-        let n1 = behind n (shape w n e) in
-        let more = next_behind w n e in
+        let n1 = following n (shape w n e) in
+        let more = next_after w n e in
         let all = next_inside w true n1 bs in
         let mid : Below h.2 n1.next = below_more h.2 n.next n1.next (omega (arith, more)) (below_same k h.2 n.next (named_names at k e h.0 h.1 h.2 h.3) below) in
         block_below (inside w true n1 bs) h.1 (with_names h.2 bs h.0) rest ds end l m h.4 num.3 (omega (arith, more, all, room))
         (lets_below bs h.0 h.2 n1.next (inside w true n1 bs).next num.0 (omega (arith, all)) (below_more h.2 n1.next (inside w true n1 bs).next (omega (arith, all)) mid))
     block_below n at k (Let bs e rest) ds end l m (inr h) num room below =
-        let n1 = behind n (shape w n e) in
-        let more = next_behind w n e in
+        let n1 = following n (shape w n e) in
+        let more = next_after w n e in
         let all = next_inside w true n1 bs in
         let mid = expression_below n at (reserved k bs) e (registers_for k.next bs) h.0 h.1 n1.next h.2 num.2 (omega (arith, more)) below in
         block_below (inside w true n1 bs) h.0 (with_names h.1 bs (registers_for k.next bs)) rest ds end l m h.3 num.3 (omega (arith, more, all, room))

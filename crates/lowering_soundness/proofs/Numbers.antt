@@ -21,15 +21,15 @@ use Rattle.lowering_soundness.proofs.Grouped.{same_fip}
 
 -- ---- the instance of a function
 
-abbrev behind : Option ℕ → Option ℕ
-behind None = None
-behind (Some i) = Some (suc i)
+abbrev following : Option ℕ → Option ℕ
+following None = None
+following (Some i) = Some (suc i)
 
 -- one instance stands before the others, and has a function or none
 abbrev past : Bool → (ℕ → Option ℕ) → ℕ → Option ℕ
-past false rest n = behind (rest n)
+past false rest n = following (rest n)
 past true rest zero = Some 0
-past true rest (suc n) = behind (rest n)
+past true rest (suc n) = following (rest n)
 
 -- the number of the instance that has function n
 abbrev instance_of : List Instance → ℕ → Option ℕ
@@ -42,8 +42,8 @@ past_first true rest n e = ap (past true rest) (sym (same_Some 0 n e))
 
 past_later : (b : Bool) (rest : ℕ → Option ℕ) (o : Option ℕ) (i n : ℕ) → ((m : ℕ) → o ≡ Some m → rest m ≡ Some i) → one_more b o ≡ Some n → past b rest n ≡ Some (suc i)
 past_later b rest None i n h e = absurd (none-some n e)
-past_later false rest (Some m) i n h e = ap behind (h n e)
-past_later true rest (Some m) i n h e = subst (λ n. past true rest n ≡ Some (suc i)) (same_Some (suc m) n e) (ap behind (h m refl))
+past_later false rest (Some m) i n h e = ap following (h n e)
+past_later true rest (Some m) i n h e = subst (λ n. past true rest n ≡ Some (suc i)) (same_Some (suc m) n e) (ap following (h m refl))
 
 -- it is found
 finds : (ds : List Instance) (i n : ℕ) → function_of ds i ≡ Some n → instance_of ds n ≡ Some i
@@ -51,9 +51,9 @@ finds [] i n e = absurd (none-some n e)
 finds (d ∷ ds) zero n e = past_first (has_function d.kind) (instance_of ds) n e
 finds (d ∷ ds) (suc i) n e = past_later (has_function d.kind) (instance_of ds) (function_of ds i) i n (λ m. finds ds i m) e
 
-behind_some : (o : Option ℕ) (i : ℕ) → behind o ≡ Some i → (j : ℕ) × (o ≡ Some j) × (i ≡ suc j)
-behind_some None i e = absurd (none-some i e)
-behind_some (Some j) i e = (j, refl, sym (same_Some (suc j) i e))
+after_some : (o : Option ℕ) (i : ℕ) → following o ≡ Some i → (j : ℕ) × (o ≡ Some j) × (i ≡ suc j)
+after_some None i e = absurd (none-some i e)
+after_some (Some j) i e = (j, refl, sym (same_Some (suc j) i e))
 
 -- what is found has it
 found : (ds : List Instance) (n i : ℕ) → instance_of ds n ≡ Some i → function_of ds i ≡ Some n
@@ -62,11 +62,11 @@ found (d ∷ ds) n i e = by (has_function d.kind) n refl e (found ds)
   where
     by : (b : Bool) (n : ℕ) → has_function d.kind ≡ b → past b (instance_of ds) n ≡ Some i → ((m j : ℕ) → instance_of ds m ≡ Some j → function_of ds j ≡ Some m) → function_of (d ∷ ds) i ≡ Some n
     by false n k e rest =
-        let z = behind_some (instance_of ds n) i e in
+        let z = after_some (instance_of ds n) i e in
         subst (λ i. function_of (d ∷ ds) i ≡ Some n) (sym z.2) (ap (λ b. one_more b (function_of ds z.0)) k ∙ ap (one_more false) (rest n z.0 z.1))
     by true zero k e rest = subst (λ i. function_of (d ∷ ds) i ≡ Some 0) (same_Some 0 i e) (ap if_function k)
     by true (suc n) k e rest =
-        let z = behind_some (instance_of ds n) i e in
+        let z = after_some (instance_of ds n) i e in
         subst (λ i. function_of (d ∷ ds) i ≡ Some (suc n)) (sym z.2) (ap (λ b. one_more b (function_of ds z.0)) k ∙ ap (one_more true) (rest n z.0 z.1))
 
 -- ---- instances by number

@@ -407,7 +407,7 @@ module _ (c : PlainCode) (f : PlainFunction) (st : Setting) (fip : Bool) (B : �
       let z : n ≡ n + 0 = omega arith in
       opened_on s T n [] ds ks ls k l m x (subst (λ n1. Opened (s ++ []) (λ i. T i + gained takes c.types n [] ks i) n1 ds ls l m) z y)
 
-  -- registers of the positions behind one
+  -- registers of the positions after one
   idle_rest : (p : Pattern) (s : Spot) (ss : Spots) (k : Known) → AllDiffer (MoreSpots s ss) → Idle (all_in (MoreSpots s ss)) k → (entering st takes root p s k).next ≡ k.next → Idle (all_in ss) (entering st takes root p s k)
   idle_rest p s ss k differ idle next z m =
       let was = idle z (in_tail z s ss m) in

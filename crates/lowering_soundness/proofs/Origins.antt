@@ -40,12 +40,12 @@ use Rattle.tail_groups.proofs.fip_language.Facts.{get_more}
 in_more : {A : Type 0} (xs ys : List A) (x : A) → In x xs → In x (xs ++ ys)
 in_more xs ys x h = (h.0, get_more xs ys h.0 x h.1)
 
-get_behind : {A : Type 0} (xs ys : List A) (i : ℕ) (x : A) → slice_get ys i ≡ Some x → (j : ℕ) × (slice_get (xs ++ ys) j ≡ Some x)
-get_behind [] ys i x h = (i, h)
-get_behind (y ∷ xs) ys i x h = let r = get_behind xs ys i x h in (suc r.0, r.1)
+get_after : {A : Type 0} (xs ys : List A) (i : ℕ) (x : A) → slice_get ys i ≡ Some x → (j : ℕ) × (slice_get (xs ++ ys) j ≡ Some x)
+get_after [] ys i x h = (i, h)
+get_after (y ∷ xs) ys i x h = let r = get_after xs ys i x h in (suc r.0, r.1)
 
-in_behind : {A : Type 0} (xs ys : List A) (x : A) → In x ys → In x (xs ++ ys)
-in_behind xs ys x h = get_behind xs ys h.0 x h.1
+in_after : {A : Type 0} (xs ys : List A) (x : A) → In x ys → In x (xs ++ ys)
+in_after xs ys x h = get_after xs ys h.0 x h.1
 
 -- the results are the function's
 abbrev is_return : Target → Bool
@@ -112,7 +112,7 @@ module _ (st : Setting) (fip : Bool) (f : PlainFunction) where
     bares (suc n) at k end l (m, inl h, rest) = both at (suc at) end (one at (suc at) (I.Take h.register []) h.written refl (quiet (I.Take h.register []) refl (λ g w x. x))) (bares n (suc at) m end l rest)
     bares (suc n) at k end l (m, inr h, rest) = absurd (true≢false h.0)
 
-    -- behind a clause of a match that is bound by a let
+    -- after a clause of a match that is bound by a let
     goes_on : (cs : Clauses) (stop target next : ℕ) → GoesOn f cs stop target next → HaveOrigins st fip f ss stop next
     goes_on NoClauses stop target next h = none stop next h.1
     goes_on (MoreClauses q b cs) stop target next h = one stop next (I.Jump target) h.0 h.2 (quiet (I.Jump target) refl (λ g w x. x))
@@ -218,7 +218,7 @@ module _ (st : Setting) (fip : Bool) (f : PlainFunction) where
 
       sides : (g : Holding) (n at end : ℕ) → SidesLaid c f g ch n at end → HaveOrigins st fip f ss at end
       sides g zero at end h = none at end h
-      sides g (suc n) at end h = both at h.0 end (chunk g at h.1.known h.1.read h.1.told h.0 h.1.chunk) (sides g n h.0 end h.2)
+      sides g (suc n) at end h = both at h.0 end (chunk g at h.1.known h.1.read h.1.reported h.0 h.1.chunk) (sides g n h.0 end h.2)
 
     begun : (c : PlainCode) (at : ℕ) (k : Known) (ds : Bool) (t : ℕ) (a : Argument) (q : Pattern) (cs : Clauses) (ch : Choice) (l : Known) (end : ℕ) → MatchLaid c st f at k ds t a q cs ch l end → HaveOrigins st fip f ss at end
     begun c at k ds t a q cs ch l end h = both at h.mid end (chunk c ch _ at _ _ _ h.mid h.first) (sides c ch _ h.more h.mid end h.sides)
@@ -269,23 +269,23 @@ module _ (st : Setting) (fip : Bool) (f : PlainFunction) where
           (both (block_sites false b ++ clauses_sites false cs) e mid end
           (wider (block_sites false b) (block_sites false b ++ clauses_sites false cs) e mid (λ s i. in_more (block_sites false b) (clauses_sites false cs) s i) (block e _ b (Into rs) mid m body))
           (both (block_sites false b ++ clauses_sites false cs) mid next end (clause_ends (block_sites false b ++ clauses_sites false cs) c l (Match ds t p a q b cs) rs cs mid m end next left ends)
-          (wider (clauses_sites false cs) (block_sites false b ++ clauses_sites false cs) next end (λ s i. in_behind (block_sites false b) (clauses_sites false cs) s i) (clauses_meet ch l (Match ds t p a q b cs) 1 cs rs end left next met others)))))
+          (wider (clauses_sites false cs) (block_sites false b ++ clauses_sites false cs) next end (λ s i. in_after (block_sites false b) (clauses_sites false cs) s i) (clauses_meet ch l (Match ds t p a q b cs) 1 cs rs end left next met others)))))
       expression at k (Match ds t p a q b cs) Return end after (ch, l, e, n, mid, m, begins, entry, body, others) =
           both (block_sites true b ++ clauses_sites true cs) at e end (begun (block_sites true b ++ clauses_sites true cs) c at k ds t a q cs ch l e begins)
           (both (block_sites true b ++ clauses_sites true cs) e mid end
           (wider (block_sites true b) (block_sites true b ++ clauses_sites true cs) e mid (λ s i. in_more (block_sites true b) (clauses_sites true cs) s i) (block e _ b Return mid m body))
-          (wider (clauses_sites true cs) (block_sites true b ++ clauses_sites true cs) mid end (λ s i. in_behind (block_sites true b) (clauses_sites true cs) s i) (clauses ch l 1 cs mid end others)))
+          (wider (clauses_sites true cs) (block_sites true b ++ clauses_sites true cs) mid end (λ s i. in_after (block_sites true b) (clauses_sites true cs) s i) (clauses ch l 1 cs mid end others)))
       expression at k (Nested b) target end after h = block at k b target end after h
 
       block : (at : ℕ) (k : Known) (b : Block) (target : Target) (end : ℕ) (after : Known) → BlockLaid c st fip f at k b target end after → HaveOrigins st fip f (block_sites (is_return target) b) at end
       block at k (Last e) target end after h = expression at k e target end after h
       block at k (Let bs e rest) target end after (inl h) =
           both (block_sites (is_return target) (Let bs e rest)) at h.1 end (named (block_sites (is_return target) (Let bs e rest)) at k e h.0 h.1 h.2 h.3)
-          (wider (block_sites (is_return target) rest) (block_sites (is_return target) (Let bs e rest)) h.1 end (λ s i. in_behind (sites false e) (block_sites (is_return target) rest) s i) (block h.1 _ rest target end after h.4))
+          (wider (block_sites (is_return target) rest) (block_sites (is_return target) (Let bs e rest)) h.1 end (λ s i. in_after (sites false e) (block_sites (is_return target) rest) s i) (block h.1 _ rest target end after h.4))
       block at k (Let bs e rest) target end after (inr h) =
           both (block_sites (is_return target) (Let bs e rest)) at h.0 end
           (wider (sites false e) (block_sites (is_return target) (Let bs e rest)) at h.0 (λ s i. in_more (sites false e) (block_sites (is_return target) rest) s i) (expression at _ e (Into _) h.0 h.1 h.2))
-          (wider (block_sites (is_return target) rest) (block_sites (is_return target) (Let bs e rest)) h.0 end (λ s i. in_behind (sites false e) (block_sites (is_return target) rest) s i) (block h.0 _ rest target end after h.3))
+          (wider (block_sites (is_return target) rest) (block_sites (is_return target) (Let bs e rest)) h.0 end (λ s i. in_after (sites false e) (block_sites (is_return target) rest) s i) (block h.0 _ rest target end after h.3))
 
       clauses : (ch : Choice) (l : Known) (i : ℕ) (cs : Clauses) (at end : ℕ) → ClausesLaid c st fip f ch l i cs at end → HaveOrigins st fip f (clauses_sites true cs) at end
       clauses ch l i NoClauses at end h = none [] at end h
@@ -293,7 +293,7 @@ module _ (st : Setting) (fip : Bool) (f : PlainFunction) where
           both (block_sites true b ++ clauses_sites true cs) at start end (sides (block_sites true b ++ clauses_sites true cs) c ch _ more at start tests')
           (both (block_sites true b ++ clauses_sites true cs) start mid end
           (wider (block_sites true b) (block_sites true b ++ clauses_sites true cs) start mid (λ s i. in_more (block_sites true b) (clauses_sites true cs) s i) (block start _ b Return mid m body))
-          (wider (clauses_sites true cs) (block_sites true b ++ clauses_sites true cs) mid end (λ s i. in_behind (block_sites true b) (clauses_sites true cs) s i) (clauses ch l (suc i) cs mid end others)))
+          (wider (clauses_sites true cs) (block_sites true b ++ clauses_sites true cs) mid end (λ s i. in_after (block_sites true b) (clauses_sites true cs) s i) (clauses ch l (suc i) cs mid end others)))
 
       clauses_meet : (ch : Choice) (l : Known) (o : Expression) (i : ℕ) (cs : Clauses) (rs : List ℕ) (end : ℕ) (j : Known) (at : ℕ) (met : Known) → ClausesMeet c st fip f ch l o i cs rs end j at met → HaveOrigins st fip f (clauses_sites false cs) at end
       clauses_meet ch l o i NoClauses rs end j at met h = none [] at end (sym h.0)
@@ -302,7 +302,7 @@ module _ (st : Setting) (fip : Bool) (f : PlainFunction) where
           (both (block_sites false b ++ clauses_sites false cs) start mid end
           (wider (block_sites false b) (block_sites false b ++ clauses_sites false cs) start mid (λ s i. in_more (block_sites false b) (clauses_sites false cs) s i) (block start _ b (Into rs) mid m body))
           (both (block_sites false b ++ clauses_sites false cs) mid next end (clause_ends (block_sites false b ++ clauses_sites false cs) c l o rs cs mid m end next left ends)
-          (wider (clauses_sites false cs) (block_sites false b ++ clauses_sites false cs) next end (λ s i. in_behind (block_sites false b) (clauses_sites false cs) s i) (clauses_meet ch l o (suc i) cs rs end joined' next met others))))
+          (wider (clauses_sites false cs) (block_sites false b ++ clauses_sites false cs) next end (λ s i. in_after (block_sites false b) (clauses_sites false cs) s i) (clauses_meet ch l o (suc i) cs rs end joined' next met others))))
 
 pub of_function : (c : PlainCode) (st : Setting) (fip : Bool) (f : PlainFunction) (d : Instance) → FunctionLaid c st fip f d → (i : ℕ) (x : Instr) → slice_get f.instrs i ≡ Some x → HasOrigin st fip (instance_sites d) x
 of_function c st fip f d laid i x h = block st fip f c 0 _ d.body Return (length f.instrs) laid.after laid.body i x (omega arith) (get_within f.instrs i x h) h

@@ -93,16 +93,16 @@ pub sized_taken : (cs : List Credit) (n r : ℕ) (rest : List Credit) (m : ℕ) 
 sized_taken cs n r rest m t =
     let c : Credit = record { size = n; register = r } in
     let a = ap (sized m) t.was in
-    let b = sized_both m t.before (c ∷ t.behind) in
+    let b = sized_both m t.before (c ∷ t.following) in
     let d = ap (sized m) t.left in
-    let e = sized_both m t.before t.behind in
+    let e = sized_both m t.before t.following in
     omega (arith, a, b, d, e)
 
 pub counted_taken : (cs : List Credit) (n r : ℕ) (rest : List Credit) (m q : ℕ) → IsTaken cs n r rest → counted m q cs ≡ one_if ((n == m) && (r == q)) + counted m q rest
 counted_taken cs n r rest m q t =
     let c : Credit = record { size = n; register = r } in
     let a = ap (counted m q) t.was in
-    let b = counted_both m q t.before (c ∷ t.behind) in
+    let b = counted_both m q t.before (c ∷ t.following) in
     let d = ap (counted m q) t.left in
-    let e = counted_both m q t.before t.behind in
+    let e = counted_both m q t.before t.following in
     omega (arith, a, b, d, e)

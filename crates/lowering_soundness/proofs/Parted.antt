@@ -1,4 +1,4 @@
--- Behind a cell that was taken apart: what is told of its fields and of the positions below them.
+-- After a cell that was taken apart: what is reported of its fields and of the positions below them.
 use Rattle.std.proofs.Common.{◌≡◌, inl, inr, ℕ, suc, Bool, true, false, ◌||◌, List, [], ◌∷◌, Option, Some, None, refl, sym, ap, ◌∙◌, subst, true≢false, if◌then◌else◌, ◌==◌}
 use Rattle.std.proofs.lemmas.Option.{same_Some}
 use Rattle.separation.specs.fip_language.Table.{Table}

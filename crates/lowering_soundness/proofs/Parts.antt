@@ -13,9 +13,9 @@ use Rattle.separation.proofs.separation_kinds.Basics.{get_within, less_or_not}
 use Rattle.lowering_soundness.specs.Covering.{Covered}
 use Rattle.lowering_soundness.specs.Rows.{IsRow, IsLastRow}
 use Rattle.lowering_soundness.specs.Parts.{Arrives, Admits, Onward, Keeps, IsKept, AreKept, Part, LastPart, is_straight}
-use Rattle.lowering_relation.specs.Labels.{Tells, Shows}
+use Rattle.lowering_relation.specs.Labels.{Reports, Shows}
 use Rattle.lowering_soundness.proofs.Covering.{covered_same}
-use Rattle.lowering_soundness.proofs.Fitting.{takes_all, tells_covered, tells_takes, takes_less, covers_fits, covers_self}
+use Rattle.lowering_soundness.proofs.Fitting.{takes_all, reports_covered, reports_takes, takes_less, covers_fits, covers_self}
 
 -- ---- straight instructions
 
@@ -54,23 +54,23 @@ straight_spends c f ks (I.Ret rs) s = absurd (true≢false (sym s))
 straight_spends c f ks (I.Jump target) s = refl
 
 module _ (c : PlainCode) (f : PlainFunction) where
-  -- what is known before an instruction is as told
-  known_by : (p : ℕ) (m : ℕ → Kind) (o : Option (List Kind)) (ks : List Kind) → ((map : List Kind) → o ≡ Some map → Tells f.registers map m) → (o ≡ None → (ks : List Kind) → Comes c f p ks → Covered f.registers m ks) → Holds o (Comes c f p) ks → Covered f.registers m ks
+  -- what is known before an instruction is as reported
+  known_by : (p : ℕ) (m : ℕ → Kind) (o : Option (List Kind)) (ks : List Kind) → ((map : List Kind) → o ≡ Some map → Reports f.registers map m) → (o ≡ None → (ks : List Kind) → Comes c f p ks → Covered f.registers m ks) → Holds o (Comes c f p) ks → Covered f.registers m ks
   known_by p m None ks shows arrives h = arrives refl ks h
-  known_by p m (Some map) ks shows arrives h = subst (Covered f.registers m) (sym h) (tells_covered f.registers map m (shows map refl))
+  known_by p m (Some map) ks shows arrives h = subst (Covered f.registers m) (sym h) (reports_covered f.registers map m (shows map refl))
 
-  pub known_told : (p : ℕ) (m : ℕ → Kind) (ks : List Kind) → Shows f p m → Arrives c f p m → KnownAt c f p ks → Covered f.registers m ks
-  known_told p m ks shows arrives k = known_by p m (label_at f.labels p) ks shows arrives k
+  pub known_reported : (p : ℕ) (m : ℕ → Kind) (ks : List Kind) → Shows f p m → Arrives c f p m → KnownAt c f p ks → Covered f.registers m ks
+  known_reported p m ks shows arrives k = known_by p m (label_at f.labels p) ks shows arrives k
 
   pub shows_admits : (p : ℕ) (m : ℕ → Kind) → Shows f p m → Admits f p m
-  shows_admits p m shows map e = tells_takes f.registers map m (shows map e)
+  shows_admits p m shows map e = reports_takes f.registers map m (shows map e)
 
   -- ---- one instruction
 
   kept_row : (p : ℕ) (m l : ℕ → Kind) (x : Instr) → IsInstr f p x → is_straight x ≡ true → IsRow c f m x l → Shows f p m → Arrives c f p m → suc p < length f.instrs → Admits f (suc p) l → IsKept c f p
   kept_row p m l x is straight row shows arrives more admits ks y reached =
       let same : x ≡ y = same_Some x y (sym is ∙ reached.instr) in
-      let cov = known_told p m ks shows arrives reached.known in
+      let cov = known_reported p m ks shows arrives reached.known in
       subst (Keeps c f p ks) same (record {
         sources = row.sources ks cov;
         destinations = row.destinations ks cov;
@@ -83,10 +83,10 @@ module _ (c : PlainCode) (f : PlainFunction) where
       fitting ks cov j left map (inl h) e = takes_all f.registers map l left (admits map (ap (label_at f.labels) (sym h.0) ∙ e)) (row.leaves ks left cov h.1)
       fitting ks cov j left map (inr h) e = absurd (no_jump ks x j left straight h)
 
-  pub behind_row : (p : ℕ) (m l : ℕ → Kind) (x : Instr) → IsInstr f p x → IsRow c f m x l → Shows f p m → Arrives c f p m → Arrives c f (suc p) l
-  behind_row p m l x is row shows arrives none ks h =
+  pub after_row : (p : ℕ) (m l : ℕ → Kind) (x : Instr) → IsInstr f p x → IsRow c f m x l → Shows f p m → Arrives c f p m → Arrives c f (suc p) l
+  after_row p m l x is row shows arrives none ks h =
       let same : h.1 ≡ x = same_Some h.1 x (sym h.3 ∙ is) in
-      row.leaves h.0 ks (known_told p m h.0 shows arrives h.2) (subst (λ y. Leaves c h.0 y ks) same h.5)
+      row.leaves h.0 ks (known_reported p m h.0 shows arrives h.2) (subst (λ y. Leaves c h.0 y ks) same h.5)
 
   pub between : {A : Type 0} (p q : ℕ) → p ≤ q → q < suc p → (p ≡ q → A) → A
   between p q a b f = f (omega arith)
@@ -96,7 +96,7 @@ module _ (c : PlainCode) (f : PlainFunction) where
     grows = omega arith;
     admits = λ a. shows_admits p m shows;
     kept = λ more admits arrives q a b. between p q a b (λ e. subst (IsKept c f) e (kept_row p m l x is straight row shows arrives more admits));
-    arrives = λ arrives. behind_row p m l x is row shows arrives;
+    arrives = λ arrives. after_row p m l x is row shows arrives;
   }
 
   -- ---- none, and two
@@ -140,7 +140,7 @@ module _ (c : PlainCode) (f : PlainFunction) where
       kept : Arrives c f p m → IsKept c f p
       kept arrives ks y reached =
           let same : x ≡ y = same_Some x y (sym is ∙ reached.instr) in
-          let cov = known_told p m ks shows arrives reached.known in
+          let cov = known_reported p m ks shows arrives reached.known in
           subst (Keeps c f p ks) same (record {
             sources = row.sources ks cov;
             destinations = row.destinations ks cov;

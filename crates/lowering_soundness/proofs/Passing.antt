@@ -23,7 +23,7 @@ use Rattle.lowering_relation.specs.Values.{Setting, ArgumentAt, ArgumentsAt}
 use Rattle.lowering_relation.specs.Describing.{held_at}
 use Rattle.lowering_soundness.specs.Parts.{Part}
 use Rattle.lowering_soundness.specs.Ties.{owners, own, HoldsValue, owe, owed, Stays, Ties}
-use Rattle.lowering_relation.specs.Labels.{told, Quiet}
+use Rattle.lowering_relation.specs.Labels.{reported, Quiet}
 use Rattle.lowering_soundness.specs.Laid.{Shares, Scoped}
 use Rattle.lowering_soundness.specs.Computed.{Computed}
 use Rattle.lowering_soundness.specs.Passed.{Choose, borrows, owe_passed, owed_passed, IsBorrowed, PassHolds}
@@ -37,8 +37,8 @@ use Rattle.lowering_soundness.proofs.Arguing.{arguments_grows, worth_split, argu
 -- arguments were computed: X and the callee's credits are still owned, and beside the registers of arguments own trees
 pub record PassedOn (c : PlainCode) (f : PlainFunction) (fip : Bool) (s : Scope) (B : ℕ → Bool) (K : ℕ → Item → ℕ) (ks : List ℕ) (X : Item → ℕ) (e : ℕ → ℕ) (at : ℕ) (k : Known) (ps : List Param) (rs : List ℕ) (end : ℕ) (l : Known) : Type 0 where
   pub grows : at ≤ end
-  pub still : at ≡ end → (r : ℕ) → told c k r ≡ told c l r
-  pub part : Part c f at (told c k) end (told c l)
+  pub still : at ≡ end → (r : ℕ) → reported c k r ≡ reported c l r
+  pub part : Part c f at (reported c k) end (reported c l)
   pub names : l.names ≡ k.names
   pub next : k.next ≤ l.next
   pub width : length l.held ≡ length k.held
@@ -63,7 +63,7 @@ module _ (c : PlainCode) (f : PlainFunction) (st : Setting) (wd : W.World) (w : 
   nothing_passed P X ks e at k just ties = record {
     grows = omega arith;
     still = λ z q. refl;
-    part = no_row c f at (told c k) (told c k) (λ q. refl);
+    part = no_row c f at (reported c k) (reported c k) (λ q. refl);
     names = refl;
     next = omega arith;
     width = refl;
@@ -113,7 +113,7 @@ module _ (c : PlainCode) (f : PlainFunction) (st : Setting) (wd : W.World) (w : 
       record {
         grows = omega (arith, low, high);
         still = λ z q. (let u : at ≡ mid = omega (arith, low, high, z) in let v : mid ≡ end = omega (arith, low, high, z) in x.still u q ∙ y.still v q);
-        part = both_parts c f at mid end (told c k) (told c m) (told c l) x.part y.part;
+        part = both_parts c f at mid end (reported c k) (reported c m) (reported c l) x.part y.part;
         names = y.names ∙ x.names;
         next = (let u = x.next in let v = y.next in omega (arith, u, v));
         width = y.width ∙ x.width;
@@ -131,7 +131,7 @@ module _ (c : PlainCode) (f : PlainFunction) (st : Setting) (wd : W.World) (w : 
   lent_and true false e = refl
   lent_and false n e = absurd (true≢false (sym e))
 
-  pub passed_value : (P X : Item → ℕ) (e : ℕ → ℕ) (at : ℕ) (k : Known) (as' : Arguments) (rs : List ℕ) (end : ℕ) (l : Known) (g j : ℕ) (ps : List Param) → ArgumentsAt st f.instrs at k as' rs end l → HaveTypes true wd s true as' (map W.type_of ps) → DerivesPassed fip B P (passed w sc ms g j as') → Places g j ps → ((z y : ℕ) → K z (Own y) ≤ X (Own y)) → Ties fip c.types s B K (λ i. P i + X i) e k → Quiet f at end (told c k) → l.next ≤ length k.held → length k.held ≡ f.registers → On (header w g) X e at k ps rs end l
+  pub passed_value : (P X : Item → ℕ) (e : ℕ → ℕ) (at : ℕ) (k : Known) (as' : Arguments) (rs : List ℕ) (end : ℕ) (l : Known) (g j : ℕ) (ps : List Param) → ArgumentsAt st f.instrs at k as' rs end l → HaveTypes true wd s true as' (map W.type_of ps) → DerivesPassed fip B P (passed w sc ms g j as') → Places g j ps → ((z y : ℕ) → K z (Own y) ≤ X (Own y)) → Ties fip c.types s B K (λ i. P i + X i) e k → Quiet f at end (reported c k) → l.next ≤ length k.held → length k.held ≡ f.registers → On (header w g) X e at k ps rs end l
   passed_value P X e at k NoArguments [] end l g j [] h typed d places kept ties quiet room wide =
       subst₂ (λ b m. On (header w g) X e at k [] [] b m) (sym h.0) (sym h.1) (nothing_passed P X (header w g) e at k d ties)
   passed_value P X e at k NoArguments [] end l g j (p ∷ ps) h typed d places kept ties quiet room wide = absurd typed
@@ -149,9 +149,9 @@ module _ (c : PlainCode) (f : PlainFunction) (st : Setting) (wd : W.World) (w : 
         (let b : borrows c.types p ≡ false = sym places.0 ∙ y in
         let own : DerivesPassed fip B P (C.PassOwned (value sc ms a) (passed w sc ms g (suc j) as')) = subst (DerivesPassed fip B P) (refused (R.lends w g j) (C.PassLent (lent_value w sc ms a) (passed w sc ms g (suc j) as')) (C.PassOwned (value sc ms a) (passed w sc ms g (suc j) as')) y) d in
         let later = arguments_grows c f st wd fip s sc ms B K shares scoped h.0 h.1 as' rs end l h.3 in
-        let first = argument_value c f st wd fip s sc ms B K shares scoped own.0 (λ i. own.1 i + X i) e at k a r h.0 h.1 true p.ty h.2 typed.0 own.3 (λ u z. let x = kept u z in omega (arith, x)) (worth_split c f st wd fip s sc ms B K shares scoped P own.0 own.1 X e k own.2 ties) (quiet_front f at h.0 end (told c k) later.place quiet) (let z = later.next in omega (arith, z, room)) wide in
+        let first = argument_value c f st wd fip s sc ms B K shares scoped own.0 (λ i. own.1 i + X i) e at k a r h.0 h.1 true p.ty h.2 typed.0 own.3 (λ u z. let x = kept u z in omega (arith, x)) (worth_split c f st wd fip s sc ms B K shares scoped P own.0 own.1 X e k own.2 ties) (quiet_front f at h.0 end (reported c k) later.place quiet) (let z = later.next in omega (arith, z, room)) wide in
         owned_first (header w g) (λ i. own.1 i + X i) X e at k p ps r rs h.0 h.1 end l b (λ z. omega arith) first
         (passed_value own.1 X (λ q. owe c.types p.ty r q + e q) h.0 h.1 as' rs end l g (suc j) ps h.3 typed.1 own.4 places.1 kept
         (ties_owe fip c.types s B K (λ i. own.1 i + X i) (λ q. owed c.types (r ∷ []) (p.ty ∷ []) q + e q) (λ q. owe c.types p.ty r q + e q) h.1 (λ q. omega arith) first.ties)
-        (quiet_back f at h.0 end (told c k) (told c h.1) first.grows quiet first.still) (let z = first.width in omega (arith, z, room)) (first.width ∙ wide)))
+        (quiet_back f at h.0 end (reported c k) (reported c h.1) first.grows quiet first.still) (let z = first.width in omega (arith, z, room)) (first.width ∙ wide)))
   ]

@@ -93,17 +93,17 @@ module _ (c : PlainCode) (f : PlainFunction) (r0 : ℕ) where
   -- ---- one read
 
   pub record One (root : Option ℕ) (t : ℕ) (k : Known) (s : Spot) (r i at : ℕ) (read : List ℕ) (m : ℕ → Kind) (mid : ℕ) (more : List ℕ) : Type 0 where
-    pub behind : ℕ → Kind
-    pub came : Came c f at m mid behind
+    pub following : ℕ → Kind
+    pub came : Came c f at m mid following
     pub seen : contains (register s) more ≡ true
-    pub kind : behind (register s) ≡ part_kind c.types root t k r i
-    pub parts : Below c.types root t k s more behind
-    pub others : (q : ℕ) → (q ≡ register s → ⊥) → (contains q more ≡ contains q read) × (behind q ≡ m q)
-    pub froms : Froms r0 more behind
+    pub kind : following (register s) ≡ part_kind c.types root t k r i
+    pub parts : Below c.types root t k s more following
+    pub others : (q : ℕ) → (q ≡ register s → ⊥) → (contains q more ≡ contains q read) × (following q ≡ m q)
+    pub froms : Froms r0 more following
 
   one_there : (root : Option ℕ) (t : ℕ) (k : Known) (s : Spot) (r i at : ℕ) (read : List ℕ) (m : ℕ → Kind) (mid : ℕ) (more : List ℕ) → mid ≡ at → more ≡ read → contains (register s) read ≡ true → m (register s) ≡ part_kind c.types root t k r i → Below c.types root t k s read m → Froms r0 read m → One root t k s r i at read m mid more
   one_there root t k s r i at read m mid more e d seen kind parts froms = record {
-    behind = m;
+    following = m;
     came = subst (λ b. Came c f at m b m) (sym e) (came_none c f at m);
     seen = ap (contains (register s)) d ∙ seen;
     kind = kind;
@@ -124,11 +124,11 @@ module _ (c : PlainCode) (f : PlainFunction) (r0 : ℕ) where
   one_new : (root : Option ℕ) (t : ℕ) (k : Known) (s : Spot) (r i at : ℕ) (read : List ℕ) (m : ℕ → Kind) (mid : ℕ) (more : List ℕ) (end : ℕ) → slice_get (known_fields c.types (m r)) i ≡ Some t → root_of r (m r) ≡ root → Seen r0 read r → (register s ≡ r → ⊥) → MayRead f.registers r0 (register s) → (Among (register s) (below s) → ⊥) → contains (register s) read ≡ false → m (register s) ≡ K.Gone → Unread (below s) read m → Fresh c.types t k → slice_get f.instrs at ≡ Some (I.Peek (register s) r i) → mid ≡ suc at → more ≡ read ++ register s ∷ [] → Froms r0 read m → Quiet f at end m → mid ≤ end → One root t k s r i at read m mid more
   one_new root t k s r i at read m mid more end there roots known other low apart' none gone unread fresh is one seen froms quiet le =
       subst (λ b. One root t k s r i at read m b more) (sym one) (subst (One root t k s r i at read m (suc at)) (sym seen) (record {
-        behind = behind;
-        came = came_one c f at m behind (one_row c f at m behind (I.Peek d r i) is refl (peek_row c f m d r i t there gone (unequal_is d r other) low.0) (quiet.first (omega (arith, le, one))));
+        following = following;
+        came = came_one c f at m following (one_row c f at m following (I.Peek d r i) is refl (peek_row c f m d r i t there gone (unequal_is d r other) low.0) (quiet.first (omega (arith, le, one))));
         seen = contains_new d read;
         kind = kind;
-        parts = fresh_below c.types root t k s (read ++ d ∷ []) behind fresh (unread_on (below s) read (read ++ d ∷ []) m behind unread (λ z a. others z (λ e. apart' (subst (λ q. Among q (below s)) e a))));
+        parts = fresh_below c.types root t k s (read ++ d ∷ []) following fresh (unread_on (below s) read (read ++ d ∷ []) m following unread (λ z a. others z (λ e. apart' (subst (λ q. Among q (below s)) e a))));
         others = others;
         froms = record { each = from };
       }))
@@ -139,8 +139,8 @@ module _ (c : PlainCode) (f : PlainFunction) (r0 : ℕ) where
       new : Kind
       new = lent_kind c.types t (root_of r (m r)) r i
 
-      behind : ℕ → Kind
-      behind = peeked m (register s) (lent_kind c.types t (root_of r (m r)) r i)
+      following : ℕ → Kind
+      following = peeked m (register s) (lent_kind c.types t (root_of r (m r)) r i)
 
       off : (r == register s) ≡ false
       off = unequal_is r (register s) (λ e. other (sym e))
@@ -186,17 +186,17 @@ module _ (c : PlainCode) (f : PlainFunction) (r0 : ℕ) where
   -- ---- all reads that a pattern asks for
 
   pub record Reads (P : List ℕ → Type 0) (Q : List ℕ → (ℕ → Kind) → Type 0) (zs : List ℕ) (at : ℕ) (read : List ℕ) (m : ℕ → Kind) (end : ℕ) (more : List ℕ) : Type 0 where
-    pub behind : ℕ → Kind
-    pub came : Came c f at m end behind
+    pub following : ℕ → Kind
+    pub came : Came c f at m end following
     pub ready : P more
-    pub parts : Q more behind
+    pub parts : Q more following
     pub kept : (q : ℕ) → contains q read ≡ true → contains q more ≡ true
-    pub others : (q : ℕ) → (Among q zs → ⊥) → (contains q more ≡ contains q read) × (behind q ≡ m q)
-    pub froms : Froms r0 more behind
+    pub others : (q : ℕ) → (Among q zs → ⊥) → (contains q more ≡ contains q read) × (following q ≡ m q)
+    pub froms : Froms r0 more following
 
   pub reads_none : (P : List ℕ → Type 0) (Q : List ℕ → (ℕ → Kind) → Type 0) (zs : List ℕ) (at : ℕ) (read : List ℕ) (m : ℕ → Kind) (end : ℕ) (more : List ℕ) → end ≡ at → more ≡ read → P read → Q read m → Froms r0 read m → Reads P Q zs at read m end more
   reads_none P Q zs at read m end more e d p q froms = record {
-    behind = m;
+    following = m;
     came = subst (λ b. Came c f at m b m) (sym e) (came_none c f at m);
     ready = subst P (sym d) p;
     parts = subst (λ rs. Q rs m) (sym d) q;
@@ -222,14 +222,14 @@ module _ (c : PlainCode) (f : PlainFunction) (r0 : ℕ) where
   own_tree root t n ks r own low tree (inl e) = absurd (true≢false (sym e ∙ tree))
   own_tree root t n ks r own low tree (inr h) = (h.0 ∙ ap (only_fields c.types t) (left_tag c.types t n ks low), h.1)
 
-  joined : (root : Option ℕ) (t : ℕ) (ts : List ℕ) (p : M.Pattern) (ps : M.Patterns) (k : Known) (ks : Knowns) (s : Spot) (ss : Spots) (r i at : ℕ) (read : List ℕ) (m : ℕ → Kind) (mid : ℕ) (more : List ℕ) → ReadyFirst (M.MorePatterns p ps) (MoreKnowns k ks) (MoreSpots s ss) more → (one : ℕ) (seen : List ℕ) → AllDiffer (MoreSpots s ss) → AllBelow c.types root ts ks ss r (suc i) read m → (o : One root t k s r i at read m one seen) → Reads (Ready p k s) (Below c.types root t k s) (below s) one seen o.behind mid more → Reads (ReadyFirst (M.MorePatterns p ps) (MoreKnowns k ks) (MoreSpots s ss)) (AllBelow c.types root (t ∷ ts) (MoreKnowns k ks) (MoreSpots s ss) r i) (all_in (MoreSpots s ss)) at read m mid more
+  joined : (root : Option ℕ) (t : ℕ) (ts : List ℕ) (p : M.Pattern) (ps : M.Patterns) (k : Known) (ks : Knowns) (s : Spot) (ss : Spots) (r i at : ℕ) (read : List ℕ) (m : ℕ → Kind) (mid : ℕ) (more : List ℕ) → ReadyFirst (M.MorePatterns p ps) (MoreKnowns k ks) (MoreSpots s ss) more → (one : ℕ) (seen : List ℕ) → AllDiffer (MoreSpots s ss) → AllBelow c.types root ts ks ss r (suc i) read m → (o : One root t k s r i at read m one seen) → Reads (Ready p k s) (Below c.types root t k s) (below s) one seen o.following mid more → Reads (ReadyFirst (M.MorePatterns p ps) (MoreKnowns k ks) (MoreSpots s ss)) (AllBelow c.types root (t ∷ ts) (MoreKnowns k ks) (MoreSpots s ss) r i) (all_in (MoreSpots s ss)) at read m mid more
   joined root t ts p ps k ks s ss r i at read m mid more ready one seen differ parts o sub = record {
-    behind = sub.behind;
-    came = came_on c f at one mid m o.behind sub.behind o.came sub.came;
+    following = sub.following;
+    came = came_on c f at one mid m o.following sub.following o.came sub.came;
     ready = ready;
     parts = (
       inl (sub.kept (register s) o.seen, (sub.others (register s) differ.0).1 ∙ o.kind, sub.parts),
-      all_below_on c.types root ts ks ss r (suc i) read more m sub.behind parts (λ z a. same z (λ y. apart_head s ss z differ a y)),
+      all_below_on c.types root ts ks ss r (suc i) read more m sub.following parts (λ z a. same z (λ y. apart_head s ss z differ a y)),
     );
     kept = λ q e. sub.kept q (elim (or_not (q == register s)) as (λ v. contains q seen ≡ true) [
       | inl y ↦ ap (λ q. contains q seen) (equal q (register s) y) ∙ o.seen
@@ -239,7 +239,7 @@ module _ (c : PlainCode) (f : PlainFunction) (r0 : ℕ) where
     froms = sub.froms;
   }
     where
-      same : (q : ℕ) → (Among q (register s ∷ below s) → ⊥) → (contains q more ≡ contains q read) × (sub.behind q ≡ m q)
+      same : (q : ℕ) → (Among q (register s ∷ below s) → ⊥) → (contains q more ≡ contains q read) × (sub.following q ≡ m q)
       same q ne =
           let a = o.others q (λ e. ne (inl e)) in
           let b = sub.others q (λ y. ne (inr y)) in
@@ -247,10 +247,10 @@ module _ (c : PlainCode) (f : PlainFunction) (r0 : ℕ) where
 
   passed : (root : Option ℕ) (t : ℕ) (ts : List ℕ) (p : M.Pattern) (ps : M.Patterns) (k : Known) (ks : Knowns) (s : Spot) (ss : Spots) (r i at : ℕ) (read : List ℕ) (m : ℕ → Kind) (mid : ℕ) (more : List ℕ) → is_asks (compare p k) ≡ false → AllDiffer (MoreSpots s ss) → OnePart c.types root t k s r i read m → Reads (ReadyFirst ps ks ss) (AllBelow c.types root ts ks ss r (suc i)) (all_in ss) at read m mid more → Reads (ReadyFirst (M.MorePatterns p ps) (MoreKnowns k ks) (MoreSpots s ss)) (AllBelow c.types root (t ∷ ts) (MoreKnowns k ks) (MoreSpots s ss) r i) (all_in (MoreSpots s ss)) at read m mid more
   passed root t ts p ps k ks s ss r i at read m mid more none differ part rest = record {
-    behind = rest.behind;
+    following = rest.following;
     came = rest.came;
     ready = inr (none, rest.ready);
-    parts = (part_on c.types root t k s r i read more m rest.behind part (λ z a. rest.others z (λ y. apart_head s ss z differ y a)), rest.parts);
+    parts = (part_on c.types root t k s r i read more m rest.following part (λ z a. rest.others z (λ y. apart_head s ss z differ y a)), rest.parts);
     kept = rest.kept;
     others = λ q ne. rest.others q (λ a. ne (in_tail q s ss a));
     froms = rest.froms;
@@ -283,8 +283,8 @@ module _ (c : PlainCode) (f : PlainFunction) (r0 : ℕ) where
         let low = one_end f at r i (register s) read h.1 h.2 h.3 in
         let high = reads_end f h.1 p k s h.2 mid more h.4 in
         let o = read_one root t k s r i at read m h.1 h.2 end (ap (λ ts. slice_get ts i) fs ∙ fields_here all' t ts i from) roots known (λ e. off (inl (sym e))) (may (register s) (inl refl)) differ.0 parts.0 h.3 froms quiet (omega (arith, high, le)) in
-        let sub = reads root t p k s h.1 h.2 o.behind mid more end are.0 (is_asking (compare p k) h.0) differ.3 differ.0 (λ z a. may z (in_head z s ss a))
-        (subst (OwnKind c.types root t k (register s)) (sym o.kind) (own_part c.types root t k (register s) r i)) (inr o.seen) o.parts h.4 o.froms (came_quiet c f at h.1 end m o.behind o.came quiet) le in
+        let sub = reads root t p k s h.1 h.2 o.following mid more end are.0 (is_asking (compare p k) h.0) differ.3 differ.0 (λ z a. may z (in_head z s ss a))
+        (subst (OwnKind c.types root t k (register s)) (sym o.kind) (own_part c.types root t k (register s) r i)) (inr o.seen) o.parts h.4 o.froms (came_quiet c f at h.1 end m o.following o.came quiet) le in
         joined root t ts p ps k ks s ss r i at read m mid more (inl (h.0, sub.kept (register s) o.seen, sub.ready)) h.1 h.2 differ parts.1 o sub
     all_reads root all' (t ∷ ts) (M.MorePatterns p ps) (MoreKnowns k ks) (MoreSpots s ss) r i at read m mid more end are asks differ off may from fs roots known parts (inr h) froms quiet le =
         let rest = all_reads root all' ts ps ks ss r (suc i) at read m mid more end are.1 (both_asks (compare p k) (compare_all ps ks) asks h.0) differ.4 (λ a. off (in_tail r s ss a)) (λ z a. may z (in_tail z s ss a)) (fields_next all' t ts i from) fs roots known parts.1 h.1 froms quiet le in

@@ -1,4 +1,4 @@
--- What is told of positions stays so where their registers aren't written, and where nothing was found out.
+-- What is reported of positions stays so where their registers aren't written, and where nothing was found out.
 use Rattle.std.proofs.Common.{◌≡◌, ◌⊎◌, inl, inr, ℕ, suc, Bool, true, false, List, [], ◌∷◌, ◌++◌, Option, Some, None, refl, sym, ap, ◌∙◌, true≢false, if◌then◌else◌, ◌==◌}
 use Rattle.separation.specs.fip_language.Table.{Table}
 use Rattle.separation.specs.fip_language.Every.{Among}
@@ -36,14 +36,14 @@ OnePart w root t k s r i read m =
     ((contains (register s) read ≡ true) × (m (register s) ≡ part_kind w root t k r i) × Below w root t k s read m)
     ⊎ ((contains (register s) read ≡ false) × (m (register s) ≡ K.Gone) × Unread (below s) read m × Fresh w t k)
 
--- the same is told, and was read
+-- the same is reported, and was read
 abbrev pub SameOn : List ℕ → List ℕ → List ℕ → (ℕ → Kind) → (ℕ → Kind) → Type 0
 SameOn zs read more m l = (z : ℕ) → Among z zs → (contains z more ≡ contains z read) × (l z ≡ m z)
 
 pub unread_on : (zs read more : List ℕ) (m l : ℕ → Kind) → Unread zs read m → SameOn zs read more m l → Unread zs more l
 unread_on zs read more m l u same z a = ((same z a).0 ∙ (u z a).0, (same z a).1 ∙ (u z a).1)
 
--- one position, by what is told below it
+-- one position, by what is reported below it
 part_by : (w : Table) (root : Option ℕ) (t : ℕ) (k : Known) (s : Spot) (r i : ℕ) (read more : List ℕ) (m l : ℕ → Kind) → OnePart w root t k s r i read m → SameOn (register s ∷ below s) read more m l → (Below w root t k s read m → Below w root t k s more l) → OnePart w root t k s r i more l
 part_by w root t k s r i read more m l (inl h) same deep =
     let here = same (register s) (inl refl) in

@@ -115,7 +115,7 @@ module _ (c : PlainCode) (st : Setting) (f : PlainFunction) (good : are_good_map
   target_is : (i t : ℕ) → i < t → is_some (label_at f.labels t) ≡ true → is_target f i t ≡ true
   target_is i t ahead label = and_to (nat_lt i t) (nat_lt t (length f.instrs) && is_some (label_at f.labels t)) (below_is i t ahead) (and_to (nat_lt t (length f.instrs)) (is_some (label_at f.labels t)) (below_is t (length f.instrs) (label_within c.types f 0 f.labels t good label)) label)
 
-  -- a part, and what is known behind it
+  -- a part, and what is known after it
   record Step (a b : ℕ) (l : Known) : Type 0 where
     all : In a b
     fits : Fits f.registers l
@@ -248,7 +248,7 @@ module _ (c : PlainCode) (st : Setting) (f : PlainFunction) (good : are_good_map
       let y = moves h.0 h.1 rs ds end l h.3 u.1 v.1 x.fits in
       record { all = both at h.0 end x.all y.all; fits = y.fits }
 
-  -- what is known behind results that go to registers
+  -- what is known after results that go to registers
   abbrev FitsFor : Target → Known → Type 0
   FitsFor Return l = Unit {0}
   FitsFor (Into ds) l = Fits f.registers l
@@ -381,7 +381,7 @@ module _ (c : PlainCode) (st : Setting) (f : PlainFunction) (good : are_good_map
 
     sides : (g : Holding) (n at end : ℕ) → SidesLaid c f g ch n at end → In at end
     sides g zero at end h = none at end h
-    sides g (suc n) at end h = both at h.0 end (chunk g at h.1.known h.1.read h.1.told h.0 h.1.chunk) (sides g n h.0 end h.2)
+    sides g (suc n) at end h = both at h.0 end (chunk g at h.1.known h.1.read h.1.reported h.0 h.1.chunk) (sides g n h.0 end h.2)
 
   -- ---- how a match begins
 
@@ -411,11 +411,11 @@ module _ (c : PlainCode) (st : Setting) (f : PlainFunction) (good : are_good_map
   -- the same, where the clauses meet
   met_label : (fip : Bool) (ch : Choice) (l : Known) (o : Expression) (i : ℕ) (cs : Clauses) (ds : List ℕ) (stop : ℕ) (k : Known) (at : ℕ) (met : Known) → ClausesMeet c st fip f ch l o i cs ds stop k at met → (j : ℕ) (q : Pattern) → slice_get (clause_patterns cs) j ≡ Some q → (place : ℕ) → slice_get ch.entries (i + j) ≡ Some place → 0 < place → is_some (label_at f.labels place) ≡ true
   met_label fip ch l o i NoClauses ds stop k at met h j q there place entry low = absurd (none-some q there)
-  met_label fip ch l o i (MoreClauses p b cs) ds stop k at met (more, start, m, mid, behind, next, left, joined', tests', laid, body, ends, meets, others) zero q there place entry low =
+  met_label fip ch l o i (MoreClauses p b cs) ds stop k at met (more, start, m, mid, following, next, left, joined', tests', laid, body, ends, meets, others) zero q there place entry low =
       let same : i + 0 ≡ i = omega arith in
       let one : start ≡ place = same_Some start place (sym laid.place ∙ (ap (slice_get ch.entries) (sym same) ∙ entry)) in
       subst (λ place. is_some (label_at f.labels place) ≡ true) one (entry_label ch l i p start m laid (omega (arith, one, low)))
-  met_label fip ch l o i (MoreClauses p b cs) ds stop k at met (more, start, m, mid, behind, next, left, joined', tests', laid, body, ends, meets, others) (suc j) q there place entry low =
+  met_label fip ch l o i (MoreClauses p b cs) ds stop k at met (more, start, m, mid, following, next, left, joined', tests', laid, body, ends, meets, others) (suc j) q there place entry low =
       let same : suc i + j ≡ i + suc j = omega arith in
       met_label fip ch l o (suc i) cs ds stop joined' next met others j q there place (ap (slice_get ch.entries) same ∙ entry) low
 
@@ -489,7 +489,7 @@ module _ (c : PlainCode) (st : Setting) (f : PlainFunction) (good : are_good_map
       room_expression at k (Tuple p as') ds end l h = let x = more_arguments at k as' h.registers h.mid h.m h.values.arguments in let y = h.values.room in omega (arith, x, y)
       room_expression at k (Operation o p a b) ds end l h = let x = more_arguments at k (MoreArguments a (MoreArguments b NoArguments)) (h.left ∷ h.right ∷ []) h.mid h.m h.values.arguments in let y = h.values.room in omega (arith, x, y)
       room_expression at k (Call g n p as') ds end l h = let x = more_arguments at k as' h.registers h.mid h.m h.values.arguments in let y = h.values.room in omega (arith, x, y)
-      room_expression at k (Match d t p a q b cs) ds end l (begin, k0, ch, l1, e, m, mid, behind, next, left, met, bare, quiet', laid, entry, body, ends, others, meets) =
+      room_expression at k (Match d t p a q b cs) ds end l (begin, k0, ch, l1, e, m, mid, following, next, left, met, bare, quiet', laid, entry, body, ends, others, meets) =
           let same = bares_next bare.steps at k begin k0 bare.gives in
           let more = laid.begins.more in
           let few = laid.begins.few in
@@ -539,23 +539,23 @@ module _ (c : PlainCode) (st : Setting) (f : PlainFunction) (good : are_good_map
           let x = arguments at k as' h.registers h.mid h.m h.values.arguments b h.values.room fits in
           let y = call wd shares fip h.mid h.m g h.registers target end l h.call x.1 v x.0.fits in
           (both at h.mid end x.0.all y.0, y.1)
-      expression at k (Match d t p a q x cs) (Into rs) end l (begin, k0, ch, l1, e, m, mid, behind, next, left, met, bare, quiet', laid, entry, body, ends, others, meets) b v fits =
+      expression at k (Match d t p a q x cs) (Into rs) end l (begin, k0, ch, l1, e, m, mid, following, next, left, met, bare, quiet', laid, entry, body, ends, others, meets) b v fits =
           let up = given_up true bare.steps at k begin k0 bare.gives fits in
           let start = begins_fits begin k0 laid.variable t ch l1 laid.begins up.fits in
           let enters : Enters ch = met_enters fip ch l1 (Match d t p a q x cs) q cs e m rs end left next met laid.patterns entry others in
           let label : is_some (label_at f.labels end) ≡ true = ap is_some meets.label in
           let first = chunk ch start.1.0 start.1.1 enters _ begin _ _ _ laid.mid laid.first in
           let rest = sides ch start.1.0 start.1.1 enters _ laid.more laid.mid e laid.sides in
-          let inner = block e _ x (Into rs) mid behind body b.0 v (entered_fits ch q l1 m start.1.0 start.1.1 start.0) in
-          let ended = clause_ends fip l1 (Match d t p a q x cs) rs cs mid behind end next left ends label inner.1 in
+          let inner = block e _ x (Into rs) mid following body b.0 v (entered_fits ch q l1 m start.1.0 start.1.1 start.0) in
+          let ended = clause_ends fip l1 (Match d t p a q x cs) rs cs mid following end next left ends label inner.1 in
           let more = clauses_meet ch start.1.0 start.1.1 enters l1 (Match d t p a q x cs) start.0 1 cs rs end label left next met others b.1 v ended.fits in
           (both at begin end up.all (both begin e end (both begin laid.mid e first rest) (both e mid end inner.0 (both mid next end ended.all more.all))), subst (Fits f.registers) (sym meets.known) (fits_next f.registers met meets.next more.fits))
-      expression at k (Match d t p a q x cs) Return end after (ch, l, e, m, mid, behind, laid, entry, body, others) b v fits =
+      expression at k (Match d t p a q x cs) Return end after (ch, l, e, m, mid, following, laid, entry, body, others) b v fits =
           let start = begins_fits at k laid.variable t ch l laid.begins fits in
           let enters : Enters ch = match_enters fip ch l q cs e m mid end laid.patterns entry others in
           let first = chunk ch start.1.0 start.1.1 enters _ at _ _ _ laid.mid laid.first in
           let rest = sides ch start.1.0 start.1.1 enters _ laid.more laid.mid e laid.sides in
-          let inner = block e _ x Return mid behind body b.0 tt (entered_fits ch q l m start.1.0 start.1.1 start.0) in
+          let inner = block e _ x Return mid following body b.0 tt (entered_fits ch q l m start.1.0 start.1.1 start.0) in
           (both at e end (both at laid.mid e first rest) (both e mid end inner.0 (clauses ch start.1.0 start.1.1 enters l start.0 1 cs mid end others b.1)), tt)
       expression at k (Nested x) target end l h b v fits = block at k x target end l h b v fits
 
@@ -573,15 +573,15 @@ module _ (c : PlainCode) (st : Setting) (f : PlainFunction) (good : are_good_map
 
       clauses : (ch : Choice) (low : register ch.root < f.registers) (u : Under f.registers (below_spot ch.root)) (enters : Enters ch) (l : Known) → Fits f.registers l → (i : ℕ) (cs : Clauses) (at end : ℕ) → ClausesLaid c st fip f ch l i cs at end → BuildsClauses c.types cs → In at end
       clauses ch low u enters l fits i NoClauses at end h b = none at end h
-      clauses ch low u enters l fits i (MoreClauses q x cs) at end (more, start, m, mid, behind, laid, entry, body, others) b =
-          let inner = block start _ x Return mid behind body b.0 tt (entered_fits ch q l m low u fits) in
+      clauses ch low u enters l fits i (MoreClauses q x cs) at end (more, start, m, mid, following, laid, entry, body, others) b =
+          let inner = block start _ x Return mid following body b.0 tt (entered_fits ch q l m low u fits) in
           both at start end (sides ch low u enters _ more at start laid) (both start mid end inner.0 (clauses ch low u enters l fits (suc i) cs mid end others b.1))
 
       clauses_meet : (ch : Choice) (low : register ch.root < f.registers) (u : Under f.registers (below_spot ch.root)) (enters : Enters ch) (l : Known) (o : Expression) → Fits f.registers l → (i : ℕ) (cs : Clauses) (rs : List ℕ) (stop : ℕ) → is_some (label_at f.labels stop) ≡ true → (k : Known) (at : ℕ) (met : Known) → ClausesMeet c st fip f ch l o i cs rs stop k at met → BuildsClauses c.types cs → UnderFor (Into rs) → Fits f.registers k → Step at stop met
       clauses_meet ch low u enters l o fits i NoClauses rs stop label k at met h b v kept = record { all = none at stop (sym h.0); fits = subst (Fits f.registers) (sym h.1) kept }
-      clauses_meet ch low u enters l o fits i (MoreClauses q x cs) rs stop label k at met (more, start, m, mid, behind, next, left, joined', laid, entry, body, ends, meets, others) b v kept =
-          let inner = block start _ x (Into rs) mid behind body b.0 v (entered_fits ch q l m low u fits) in
-          let ended = clause_ends fip l o rs cs mid behind stop next left ends label inner.1 in
+      clauses_meet ch low u enters l o fits i (MoreClauses q x cs) rs stop label k at met (more, start, m, mid, following, next, left, joined', laid, entry, body, ends, meets, others) b v kept =
+          let inner = block start _ x (Into rs) mid following body b.0 v (entered_fits ch q l m low u fits) in
+          let ended = clause_ends fip l o rs cs mid following stop next left ends label inner.1 in
           let rest = clauses_meet ch low u enters l o fits (suc i) cs rs stop label joined' next met others b.1 v (met_fits fip k left joined' meets kept) in
           record { all = both at start stop (sides ch low u enters _ more at start laid) (both start mid stop inner.0 (both mid next stop ended.all rest.all)); fits = rest.fits }
 

@@ -18,7 +18,7 @@ use Rattle.lowering_soundness.specs.Covering.{using, using_all}
 use Rattle.lowering_soundness.specs.Giving.{is_scalar_of, is_owned_of, is_credit_of, can_give, NothingLeft}
 use Rattle.lowering_soundness.specs.Parts.{Onward, LastPart}
 use Rattle.lowering_soundness.specs.Ties.{one_if, owners, sized, counted, own, HoldsValue, AllHold, owed, Balanced, Ties}
-use Rattle.lowering_relation.specs.Labels.{told, Quiet}
+use Rattle.lowering_relation.specs.Labels.{reported, Quiet}
 use Rattle.lowering_relation.specs.GivenUp.{AllGivenUp, RetLaid}
 use Rattle.lowering_soundness.proofs.Giving.{and_to}
 use Rattle.lowering_soundness.proofs.Covering.{using_none}
@@ -118,7 +118,7 @@ module _ (c : PlainCode) (f : PlainFunction) (fip : Bool) (s : Scope) (B : ℕ �
   results_only k rs ts ties =
       balanced_same fip (held_at k.held) (λ q. owners k.names (own (λ i. 0)) q + (owed c.types rs ts q + 0)) (λ q. owed c.types rs ts q + 0) (λ q. let z = owners_none k.names (own (λ i. 0)) q (λ x. refl) in omega (arith, z)) ties.trees
 
-  -- behind the results nothing is left
+  -- after the results nothing is left
   pub nothing_left : (k g : Holding) → AllGivenUp fip g → Fewer k g → ((r : ℕ) → is_tree (k r) ≡ true → fip ≡ true → ⊥) → ((r n : ℕ) → k r ≡ H.Credit n → fip ≡ true → ⊥) → NothingLeft g
   nothing_left k g done fewer trees credits r = by fip refl
     where
@@ -141,7 +141,7 @@ module _ (c : PlainCode) (f : PlainFunction) (fip : Bool) (s : Scope) (B : ℕ �
       let z : Fits true (sized n k.credits) 0 = subst (λ b. Fits b (sized n k.credits) 0) b (sizes n) in
       absurd (let u : ⊥ = omega (arith, a, x, y, z) in u)
 
-  pub ret_part : (at : ℕ) (k : Known) (rs ts : List ℕ) (end : ℕ) → RetLaid fip f at k rs end → f.results ≡ ts → Ties fip c.types s B K (λ i. 0) (λ q. owed c.types rs ts q + 0) k → AllHold c.types (held_at k.held) rs ts → Quiet f at end (told c k) → LastPart c f at (told c k) end
+  pub ret_part : (at : ℕ) (k : Known) (rs ts : List ℕ) (end : ℕ) → RetLaid fip f at k rs end → f.results ≡ ts → Ties fip c.types s B K (λ i. 0) (λ q. owed c.types rs ts q + 0) k → AllHold c.types (held_at k.held) rs ts → Quiet f at end (reported c k) → LastPart c f at (reported c k) end
   ret_part at k rs ts end h types ties hold quiet =
       let g = held_at k.held in
       let frame : Known = record k { held = used_all k.held rs } in
@@ -156,12 +156,12 @@ module _ (c : PlainCode) (f : PlainFunction) (fip : Bool) (s : Scope) (B : ℕ �
         safe = safe known;
       } in
       let stops : h.stop < end = (let z = h.one in omega (arith, z)) in
-      let gave = gives c f rs [] (λ r. Among r rs) fip h.steps g at frame h.stop h.left leaves h.gives (quiet_front f at h.stop end (told c k) (omega (arith, stops)) quiet) in
+      let gave = gives c f rs [] (λ r. Among r rs) fip h.steps g at frame h.stop h.left leaves h.gives (quiet_front f at h.stop end (reported c k) (omega (arith, stops)) quiet) in
       let row = ret_row c f gave.held rs (subst (λ ts. can_give gave.held rs ts ≡ true) (sym types) (can_give_agree (λ r. Among r rs) rs ts g gave.held (λ r m. m) gave.agree given.can)) (left gave.held gave.leaves.known gave.fewer given.balanced known) in
-      subst (λ e. LastPart c f at (told c k) e) (sym h.one)
-      (part_and_last c f at h.stop (suc h.stop) (told c k) (kinds_of c.types gave.held) gave.part
+      subst (λ e. LastPart c f at (reported c k) e) (sym h.one)
+      (part_and_last c f at h.stop (suc h.stop) (reported c k) (kinds_of c.types gave.held) gave.part
       (last_row c f h.stop (kinds_of c.types gave.held) (I.Ret rs) h.written refl (λ ks j l o. nowhere ks j l o) row
-      ((quiet_back f at h.stop end (told c k) (kinds_of c.types gave.held) gave.grows quiet gave.still).first stops)))
+      ((quiet_back f at h.stop end (reported c k) (kinds_of c.types gave.held) gave.grows quiet gave.still).first stops)))
     where
       nowhere : (ks : List Kind) (j : ℕ) (l : List Kind) → Onward c ks h.stop (I.Ret rs) j l → ⊥
       nowhere ks j l (inl o) = o.1

@@ -37,7 +37,7 @@ one_scalar w n sc b y = if n == y then w.scalar b.ty else sc y
 pub scoped_of : (c : PlainCode) (s : Scope) (sc : Scalars) (n : Names) → Placed c s sc n → Scoped c s sc n.marks
 scoped_of c s sc n p = record { seen = p.seen; scalar = p.scalar }
 
--- what is in scope behind one more is this, or was before
+-- what is in scope after one more is this, or was before
 pub new_or_old : (s : Scope) (b : Binder) (t x u : ℕ) → of_binder (s ++ entry (Some t) b ∷ []) (Some x) ≡ Some (Some u) → ((b.number ≡ x) × (t ≡ u)) ⊎ ((b.number ≡ x → ⊥) × (of_binder s (Some x) ≡ Some (Some u)))
 new_or_old s b t x u h = elim (or_not (b.number == x)) as (λ v. ((b.number ≡ x) × (t ≡ u)) ⊎ ((b.number ≡ x → ⊥) × (of_binder s (Some x) ≡ Some (Some u)))) [
   | inl e ↦ inl (equal b.number x e, same_type t u (sym (chosen (b.number == x) (Some (Some t)) (look s x) e) ∙ (sym (look_end s (entry (Some t) b) x) ∙ h)))

@@ -1,4 +1,4 @@
--- A clause was chosen: its cells are taken apart, or what it names is read, and its label takes what is told there.
+-- A clause was chosen: its cells are taken apart, or what it names is read, and its label takes what is reported there.
 use Rattle.std.proofs.Common.{◌≡◌, ◌⊎◌, inl, inr, ℕ, ◌<◌, ◌≤◌, Bool, true, false, List, ◌∷◌, slice_get, length, Option, Some, None, refl, sym, ap, ◌∙◌, subst, true≢false, if◌then◌else◌, ◌==◌}
 use Rattle.separation.specs.fip_language.Table.{Table}
 use Rattle.separation.specs.fip_language.Every.{Among}
@@ -26,7 +26,7 @@ use Rattle.lowering_relation.specs.Known.{Known, without}
 use Rattle.lowering_relation.specs.Values.{Setting}
 use Rattle.lowering_relation.specs.Describing.{Holding, held_at, kind_of, is_tree}
 use Rattle.lowering_soundness.specs.Covering.{using}
-use Rattle.lowering_relation.specs.Labels.{told, Quiet}
+use Rattle.lowering_relation.specs.Labels.{reported, Quiet}
 use Rattle.lowering_relation.specs.Sights.{left, Below, AllBelow, seen_kind, Sight}
 use Rattle.lowering_relation.specs.Tests.{Choice, SettledLaid, TakesLaid, NamesLaid}
 use Rattle.lowering_relation.specs.Matches.{widened, entered, BuiltRight}
@@ -94,9 +94,9 @@ module _ (c : PlainCode) (f : PlainFunction) (st : Setting) (g : Holding) (ch : 
   abbrev g0 : Holding
   g0 = held_at k.held
 
-  -- what the entry of a clause tells
-  pub told_entry : (q : Pattern) (n z : ℕ) → told c (entered st ch q k n) z ≡ kind_of c.types (widened (root_held st ch.takes (root_of (register ch.root) (held_at k.held (register ch.root))) q ch.root (held_at k.held) z))
-  told_entry q n z =
+  -- what the entry of a clause reports
+  pub reported_entry : (q : Pattern) (n z : ℕ) → reported c (entered st ch q k n) z ≡ kind_of c.types (widened (root_held st ch.takes (root_of (register ch.root) (held_at k.held (register ch.root))) q ch.root (held_at k.held) z))
+  reported_entry q n z =
       ap (kind_of c.types) (held_wide (entering_root st ch.takes q ch.root (record k { next = n })).held z
       ∙ ap widened (entering_root_at st ch.takes q ch.root (record k { next = n }) z based.within))
 
@@ -160,26 +160,26 @@ module _ (c : PlainCode) (f : PlainFunction) (st : Setting) (g : Holding) (ch : 
   root_tree : ch.takes ≡ true → is_tree (held_at k.held (register ch.root)) ≡ true
   root_tree e = sym (tree_wide (held_at k.held (register ch.root))) ∙ (ap is_tree (based.wide (register ch.root)) ∙ (tree_wide (g (register ch.root)) ∙ based.takes e))
 
-  taking_fits : (q : Pattern) (κ : M.Known) (read : List ℕ) (at end : ℕ) (m : ℕ → Kind) → Sight c.types g ch.type ch.root κ read m → is_tree (held_at k.held (register ch.root)) ≡ true → Slotted st c.types ch.type q → (t : Took c f (register ch.root ∷ below ch.root) (register ch.root) (After c.types q ch.type ch.root) at m end) → (root : Option ℕ) (z : ℕ) → fits (kind_of c.types (widened (entry_held st true root q ch.root z (using (held_at k.held) (register ch.root) z)))) (t.behind z) ≡ true
+  taking_fits : (q : Pattern) (κ : M.Known) (read : List ℕ) (at end : ℕ) (m : ℕ → Kind) → Sight c.types g ch.type ch.root κ read m → is_tree (held_at k.held (register ch.root)) ≡ true → Slotted st c.types ch.type q → (t : Took c f (register ch.root ∷ below ch.root) (register ch.root) (After c.types q ch.type ch.root) at m end) → (root : Option ℕ) (z : ℕ) → fits (kind_of c.types (widened (entry_held st true root q ch.root z (using (held_at k.held) (register ch.root) z)))) (t.following z) ≡ true
   taking_fits q κ read at end m sight tree slots t root z = by (where_is z)
     where
-      by : (z ≡ register ch.root) ⊎ (Among z (below ch.root) ⊎ ((z ≡ register ch.root → ⊥) × (Among z (below ch.root) → ⊥))) → fits (kind_of c.types (widened (entry_held st true root q ch.root z (using (held_at k.held) (register ch.root) z)))) (t.behind z) ≡ true
+      by : (z ≡ register ch.root) ⊎ (Among z (below ch.root) ⊎ ((z ≡ register ch.root → ⊥) × (Among z (below ch.root) → ⊥))) → fits (kind_of c.types (widened (entry_held st true root q ch.root z (using (held_at k.held) (register ch.root) z)))) (t.following z) ≡ true
       by (inl e) =
-          ap (λ h. fits (kind_of c.types (widened (entry_held st true root q ch.root z h))) (t.behind z)) (ap (using (held_at k.held) (register ch.root)) e ∙ using_self (held_at k.held) (register ch.root) tree)
-          ∙ taken_fits st c.types root q ch.type ch.root t.behind z slots right.differ (right_off c f g ch right) t.parts (inl e)
+          ap (λ h. fits (kind_of c.types (widened (entry_held st true root q ch.root z h))) (t.following z)) (ap (using (held_at k.held) (register ch.root)) e ∙ using_self (held_at k.held) (register ch.root) tree)
+          ∙ taken_fits st c.types root q ch.type ch.root t.following z slots right.differ (right_off c f g ch right) t.parts (inl e)
       by (inr (inl a)) =
-          ap (λ h. fits (kind_of c.types (widened (entry_held st true root q ch.root z h))) (t.behind z)) (using_nothing (held_at k.held) (register ch.root) z (fresh_nothing z a))
-          ∙ taken_fits st c.types root q ch.type ch.root t.behind z slots right.differ (right_off c f g ch right) t.parts (inr a)
+          ap (λ h. fits (kind_of c.types (widened (entry_held st true root q ch.root z h))) (t.following z)) (using_nothing (held_at k.held) (register ch.root) z (fresh_nothing z a))
+          ∙ taken_fits st c.types root q ch.type ch.root t.following z slots right.differ (right_off c f g ch right) t.parts (inr a)
       by (inr (inr ne)) =
           let off : Among z (register ch.root ∷ below ch.root) → ⊥ = λ a. elim a as (λ v. ⊥) [
             | inl y ↦ ne.0 y
             | inr y ↦ ne.1 y
           ] in
-          let told' = sight.others z ne.0 ne.1 in
-          ap (λ h. fits (kind_of c.types h) (t.behind z)) (ap widened (entry_other st true root q ch.root z (using (held_at k.held) (register ch.root) z) off) ∙ used_other z tree ne.0)
-          ∙ elim (or_not (is_lent_of (register ch.root) (m z))) as (λ v. fits (kind_of c.types (without (register ch.root) (widened (g z)))) (t.behind z) ≡ true) [
-            | inl y ↦ ap (λ h. fits (kind_of c.types h) (t.behind z)) (without_gone c.types (register ch.root) (g z) (sym (ap (is_lent_of (register ch.root)) told') ∙ y)) ∙ t.freed z off y
-            | inr y ↦ ap (fits (kind_of c.types (without (register ch.root) (widened (g z))))) (t.others z off y ∙ told') ∙ without_fits c.types (register ch.root) (g z) (based.built z) (sym (ap (is_lent_of (register ch.root)) told') ∙ y)
+          let reported' = sight.others z ne.0 ne.1 in
+          ap (λ h. fits (kind_of c.types h) (t.following z)) (ap widened (entry_other st true root q ch.root z (using (held_at k.held) (register ch.root) z) off) ∙ used_other z tree ne.0)
+          ∙ elim (or_not (is_lent_of (register ch.root) (m z))) as (λ v. fits (kind_of c.types (without (register ch.root) (widened (g z)))) (t.following z) ≡ true) [
+            | inl y ↦ ap (λ h. fits (kind_of c.types h) (t.following z)) (without_gone c.types (register ch.root) (g z) (sym (ap (is_lent_of (register ch.root)) reported') ∙ y)) ∙ t.freed z off y
+            | inr y ↦ ap (fits (kind_of c.types (without (register ch.root) (widened (g z))))) (t.others z off y ∙ reported') ∙ without_fits c.types (register ch.root) (g z) (based.built z) (sym (ap (is_lent_of (register ch.root)) reported') ∙ y)
           ]
 
   -- ---- parts that are only read
@@ -209,15 +209,15 @@ module _ (c : PlainCode) (f : PlainFunction) (st : Setting) (g : Holding) (ch : 
   -- ---- a clause
 
   pub record Settled (q : Pattern) (at : ℕ) (m : ℕ → Kind) (end : ℕ) : Type 0 where
-    pub behind : ℕ → Kind
-    pub came : Came c f at m end behind
-    pub enters : (n z : ℕ) → fits (told c (entered st ch q k n) z) (behind z) ≡ true
+    pub following : ℕ → Kind
+    pub came : Came c f at m end following
+    pub enters : (n z : ℕ) → fits (reported c (entered st ch q k n) z) (following z) ≡ true
 
   settled_plain : (q : Pattern) (κ : M.Known) (read : List ℕ) (at end : ℕ) (m : ℕ → Kind) → end ≡ at → ((z : ℕ) → root_held st ch.takes (root_of (register ch.root) (held_at k.held (register ch.root))) q ch.root (held_at k.held) z ≡ held_at k.held z) → Sight c.types g ch.type ch.root κ read m → Settled q at m end
   settled_plain q κ read at end m e same sight = record {
-    behind = m;
+    following = m;
     came = subst (λ b. Came c f at m b m) (sym e) (came_none c f at m);
-    enters = λ n z. ap (λ o. fits o (m z)) (told_entry q n z) ∙ (ap (λ h. fits (kind_of c.types (widened h)) (m z)) (same z) ∙ plain_fits κ read m sight z);
+    enters = λ n z. ap (λ o. fits o (m z)) (reported_entry q n z) ∙ (ap (λ h. fits (kind_of c.types (widened h)) (m z)) (same z) ∙ plain_fits κ read m sight z);
   }
 
   settled_taken : (u d n : ℕ) (a : Rattle.lowering_relation.specs.fip_trees.Tree.Name) (p : Rattle.separation.specs.fip_language.declared.Place.Place) (ps : Patterns) (κ : M.Known) (read : List ℕ) (at end next : ℕ) (m : ℕ → Kind) → ch.takes ≡ true → Looks c g ch κ read m → IsPattern c.types ch.type (row_of (ConstructorPattern u d n a p ps)) → Rattle.lowering_relation.specs.Opening.Roomy (ConstructorPattern u d n a p ps) ch.root → Slotted st c.types ch.type (ConstructorPattern u d n a p ps) → compare (row_of (ConstructorPattern u d n a p ps)) κ ≡ Fits → TakesLaid f at (ConstructorPattern u d n a p ps) ch.root end → Quiet f at next m → end ≤ next → Settled (ConstructorPattern u d n a p ps) at m end
@@ -227,10 +227,10 @@ module _ (c : PlainCode) (f : PlainFunction) (st : Setting) (g : Holding) (ch : 
       let t = takes c f q ch.type κ ch.root read at m end next typed fit room right.differ (right_off c f g ch right) (λ z b. (right.fresh z b).1.0) (looks.sight.root ∙ own.0)
       (subst (λ o. Below c.types o ch.type κ ch.root read m) (own.1 (register ch.root)) looks.sight.parts) (outside κ read m looks.sight) h quiet le in
       record {
-        behind = t.behind;
+        following = t.following;
         came = t.came;
-        enters = λ n' z. ap (λ o. fits o (t.behind z)) (told_entry q n' z)
-            ∙ (ap (λ b. fits (kind_of c.types (widened (root_held st b (root_of (register ch.root) (held_at k.held (register ch.root))) q ch.root (held_at k.held) z))) (t.behind z)) takes'
+        enters = λ n' z. ap (λ o. fits o (t.following z)) (reported_entry q n' z)
+            ∙ (ap (λ b. fits (kind_of c.types (widened (root_held st b (root_of (register ch.root) (held_at k.held (register ch.root))) q ch.root (held_at k.held) z))) (t.following z)) takes'
             ∙ taking_fits q κ read at end m looks.sight (root_tree takes') slots t (root_of (register ch.root) (held_at k.held (register ch.root))) z);
       }
 
@@ -241,17 +241,17 @@ module _ (c : PlainCode) (f : PlainFunction) (st : Setting) (g : Holding) (ch : 
       let off = right_off c f g ch right in
       let r = names c f (register ch.root) root ch.type q κ ch.root at read m end more next typed fit right.differ off (λ z b. (right.fresh z b).1)
       (subst (OwnKind c.types root ch.type κ (register ch.root)) (sym looks.sight.root) (seen_own c.types ch.type (register ch.root) (g (register ch.root)) κ right.seeing)) (inl refl) (λ e y. absurd (true≢false (sym y))) looks.sight.parts h looks.froms quiet le in
-      let sight : Sight c.types g ch.type ch.root κ more r.behind = record {
+      let sight : Sight c.types g ch.type ch.root κ more r.following = record {
         root = (r.others (register ch.root) off).1 ∙ looks.sight.root;
         parts = r.parts;
         others = λ y ne away. (r.others y away).1 ∙ looks.sight.others y ne away;
       } in
       record {
-        behind = r.behind;
+        following = r.following;
         came = r.came;
-        enters = λ n' z. ap (λ o. fits o (r.behind z)) (told_entry q n' z)
-            ∙ (ap (λ b. fits (kind_of c.types (widened (root_held st b (root_of (register ch.root) (held_at k.held (register ch.root))) q ch.root (held_at k.held) z))) (r.behind z)) takes'
-            ∙ reading_fits u d n a p ps κ more r.behind slots fit sight r.ready (root_of (register ch.root) (held_at k.held (register ch.root))) same_root' z);
+        enters = λ n' z. ap (λ o. fits o (r.following z)) (reported_entry q n' z)
+            ∙ (ap (λ b. fits (kind_of c.types (widened (root_held st b (root_of (register ch.root) (held_at k.held (register ch.root))) q ch.root (held_at k.held) z))) (r.following z)) takes'
+            ∙ reading_fits u d n a p ps κ more r.following slots fit sight r.ready (root_of (register ch.root) (held_at k.held (register ch.root))) same_root' z);
       }
 
   names_nothing : (b : Bool) (at end : ℕ) (q : Pattern) (s : Spot) (read : List ℕ) → (TakesLaid f at q s end → end ≡ at) → ((more : List ℕ) → NamesLaid f at q s read end more → end ≡ at) → SettledLaid b f at q s read end → end ≡ at
@@ -272,5 +272,5 @@ module _ (c : PlainCode) (f : PlainFunction) (st : Setting) (g : Holding) (ch : 
   pub settle : (i end next at : ℕ) (m : ℕ → Kind) → (ran : Ran c f g ch right at m i end) → Quiet f at next m → end ≤ next → Settled ran.chosen.pattern at m end
   settle i end next at m ran quiet le =
       let q = ran.chosen.pattern in
-      let s = settle_by q ran.known ran.read ran.place end next ran.behind ch.takes refl ran.looks (right.typed i q ran.chosen.there) (right.roomy i q ran.chosen.there) (based.slots i q ran.chosen.there) ran.chosen.fits ran.chosen.settled (came_quiet c f at ran.place next m ran.behind ran.came quiet) le in
-      record { behind = s.behind; came = came_on c f at ran.place end m ran.behind s.behind ran.came s.came; enters = s.enters }
+      let s = settle_by q ran.known ran.read ran.place end next ran.following ch.takes refl ran.looks (right.typed i q ran.chosen.there) (right.roomy i q ran.chosen.there) (based.slots i q ran.chosen.there) ran.chosen.fits ran.chosen.settled (came_quiet c f at ran.place next m ran.following ran.came quiet) le in
+      record { following = s.following; came = came_on c f at ran.place end m ran.following s.following ran.came s.came; enters = s.enters }

@@ -19,7 +19,7 @@ use Rattle.lowering_relation.specs.declared.held.Held.{Held}
 use Rattle.lowering_relation.specs.declared.held.Held.TheVariants as H
 use Rattle.lowering_relation.specs.Known.{Known}
 use Rattle.lowering_relation.specs.Describing.{Holding, held_at, set_of, kind_of}
-use Rattle.lowering_relation.specs.Labels.{told}
+use Rattle.lowering_relation.specs.Labels.{reported}
 use Rattle.lowering_relation.specs.Standing.{is_open, are_open, AreOpen}
 use Rattle.lowering_relation.specs.Sights.{kept, not_in, is_tag, left, seen_kind, Sight}
 use Rattle.lowering_relation.specs.Tests.{Choice}
@@ -83,10 +83,10 @@ kind_shaped w (H.Lent t root) f = all_set w t f
 kind_shaped w (H.Credit n) f = f
 kind_shaped w (H.Bare t d) f = one_set w t d f
 
-pub told_shaped : (c : PlainCode) (k : Known) → Formed c.types k.held → (r : ℕ) → IsShaped c.types (told c k r)
-told_shaped c k f r = kind_shaped c.types (held_at k.held r) (at_formed c.types k.held r f)
+pub reported_shaped : (c : PlainCode) (k : Known) → Formed c.types k.held → (r : ℕ) → IsShaped c.types (reported c k r)
+reported_shaped c k f r = kind_shaped c.types (held_at k.held r) (at_formed c.types k.held r f)
 
--- ---- what is told while a clause is chosen
+-- ---- what is reported while a clause is chosen
 
 seen_shaped : (w : Table) (t : ℕ) (h : Held) (κ : M.Known) → IsFormed w h → is_open (seen_kind w t h κ) ≡ true → IsShaped w (seen_kind w t h κ)
 seen_shaped w t H.Nothing κ f open' = tt
@@ -162,7 +162,7 @@ good_kinds w n ms right j (k ∷ ks) same =
 pub right_good : (w : Table) (n : ℕ) (map : List Kind) → IsRight w n map → are_good_kinds w map 0 map ≡ true
 right_good w n map right = good_kinds w n map right 0 map (λ i. (let e : i ≡ 0 + i = omega arith in ap (kind_at map) e))
 
--- ---- no map tells of a tree that it has no constructor
+-- ---- no map reports of a tree that it has no constructor
 
 open_kinds : (ks : List Kind) (r : ℕ) → are_open ks ≡ true → is_open (kind_at ks r) ≡ true
 open_kinds [] r h = refl

@@ -9,7 +9,7 @@ use Rattle.lowering_relation.specs.declared.held.Held.{Held}
 use Rattle.lowering_relation.specs.declared.held.Held.TheVariants as H
 use Rattle.lowering_relation.specs.Known.{Known, used}
 use Rattle.lowering_relation.specs.Describing.{Holding, held_at, kinds_of, setting, is_tree}
-use Rattle.lowering_relation.specs.Labels.{told, Quiet}
+use Rattle.lowering_relation.specs.Labels.{reported, Quiet}
 use Rattle.lowering_relation.specs.GivenUp.{EndsBare, Drops, Frees, GivesOne, GivesUp}
 use Rattle.lowering_soundness.specs.Covering.{using}
 use Rattle.lowering_soundness.specs.Giving.{is_credit_of}
@@ -101,8 +101,8 @@ module _ (c : PlainCode) (f : PlainFunction) (s : Scope) (B : ℕ → Bool) (K :
 
   pub record Shed (at : ℕ) (k : Known) (end : ℕ) (l : Known) : Type 0 where
     pub grows : at ≤ end
-    pub still : at ≡ end → (r : ℕ) → told c k r ≡ told c l r
-    pub part : Part c f at (told c k) end (told c l)
+    pub still : at ≡ end → (r : ℕ) → reported c k r ≡ reported c l r
+    pub part : Part c f at (reported c k) end (reported c l)
     pub names : l.names ≡ k.names
     pub next : l.next ≡ k.next
     pub width : length l.held ≡ length k.held
@@ -128,12 +128,12 @@ module _ (c : PlainCode) (f : PlainFunction) (s : Scope) (B : ℕ → Bool) (K :
       other : H.Bare h.type h.constructor ≡ H.Nothing → ⊥
       other z = absurd (cc)
 
-  drop_one : (at : ℕ) (k l : Known) → (h : Drops f at k l) → Ties false c.types s B K T e k → counts k h.register ≡ 0 → Quiet f at (suc at) (told c k) → Shed at k (suc at) l
+  drop_one : (at : ℕ) (k l : Known) → (h : Drops f at k l) → Ties false c.types s B K T e k → counts k h.register ≡ 0 → Quiet f at (suc at) (reported c k) → Shed at k (suc at) l
   drop_one at k l h ties none quiet = subst (Shed at k (suc at)) (sym h.known) (record {
     grows = omega arith;
     still = λ z q. absurd (let y : ⊥ = omega (arith, z) in y);
-    part = subst (λ x. Part c f at (told c k) (suc at) (kinds_of c.types x)) (sym held)
-        (one_row c f at (told c k) (kinds_of c.types (using g r)) (I.Drop r) h.written refl (drop_row c f g r h.tree) (quiet.first (omega arith)));
+    part = subst (λ x. Part c f at (reported c k) (suc at) (kinds_of c.types x)) (sym held)
+        (one_row c f at (reported c k) (kinds_of c.types (using g r)) (I.Drop r) h.written refl (drop_row c f g r h.tree) (quiet.first (omega arith)));
     names = refl;
     next = refl;
     width = length_used k.held r;
@@ -167,12 +167,12 @@ module _ (c : PlainCode) (f : PlainFunction) (s : Scope) (B : ℕ → Bool) (K :
       stays : Stays (held_at k.held) (using (held_at k.held) h.register) (λ q. owners k.names (own T) q + e q)
       stays = use_stays false (held_at k.held) h.register (counts k) balanced
 
-  free_one : (at : ℕ) (k l : Known) → (h : Frees f at k l) → Ties false c.types s B K T e k → ((n : ℕ) → T (Credit n) ≤ sized n h.rest) → Quiet f at (suc at) (told c k) → Shed at k (suc at) l
+  free_one : (at : ℕ) (k l : Known) → (h : Frees f at k l) → Ties false c.types s B K T e k → ((n : ℕ) → T (Credit n) ≤ sized n h.rest) → Quiet f at (suc at) (reported c k) → Shed at k (suc at) l
   free_one at k l h ties enough quiet = subst (Shed at k (suc at)) (sym h.known) (record {
     grows = omega arith;
     still = λ z q. absurd (let y : ⊥ = omega (arith, z) in y);
-    part = subst (λ x. Part c f at (told c k) (suc at) (kinds_of c.types x)) (sym held)
-        (one_row c f at (told c k) (kinds_of c.types (setting g r H.Nothing)) (I.Free r) h.written refl (free_row c f g r h.size (ap (is_credit_of h.size) credit ∙ itself h.size)) (quiet.first (omega arith)));
+    part = subst (λ x. Part c f at (reported c k) (suc at) (kinds_of c.types x)) (sym held)
+        (one_row c f at (reported c k) (kinds_of c.types (setting g r H.Nothing)) (I.Free r) h.written refl (free_row c f g r h.size (ap (is_credit_of h.size) credit ∙ itself h.size)) (quiet.first (omega arith)));
     names = refl;
     next = refl;
     width = length_set k.held r H.Nothing;
@@ -232,7 +232,7 @@ module _ (c : PlainCode) (f : PlainFunction) (s : Scope) (B : ℕ → Bool) (K :
     | inr z ↦ omega (arith, z)
   ]
 
-  one_shed : (at : ℕ) (k m l : Known) → GivesOne false f at k m → Holds (held_at m.held) (held_at l.held) → ((n : ℕ) → sized n l.credits ≤ sized n m.credits) → Kept' k l → Ties false c.types s B K T e k → Quiet f at (suc at) (told c k) → Shed at k (suc at) m
+  one_shed : (at : ℕ) (k m l : Known) → GivesOne false f at k m → Holds (held_at m.held) (held_at l.held) → ((n : ℕ) → sized n l.credits ≤ sized n m.credits) → Kept' k l → Ties false c.types s B K T e k → Quiet f at (suc at) (reported c k) → Shed at k (suc at) m
   one_shed at k m l (inl h) holds fewer x ties quiet = of_bared at k (suc at) m (bared_one c f false s B K T e kept at k m h ties quiet) h
   one_shed at k m l (inr h) holds fewer x ties quiet = elim h.1 as (λ v. Shed at k (suc at) m) [
     | inl d ↦ drop_one at k m d ties (not_kept k l d.register x (gone_tree d)) quiet
@@ -254,7 +254,7 @@ module _ (c : PlainCode) (f : PlainFunction) (s : Scope) (B : ℕ → Bool) (K :
       record {
         grows = omega (arith, a, b);
         still = λ z r. (let p : at ≡ mid = omega (arith, a, b, z) in let q : mid ≡ end = omega (arith, a, b, z) in x.still p r ∙ y.still q r);
-        part = both_parts c f at mid end (told c k) (told c m) (told c l) x.part y.part;
+        part = both_parts c f at mid end (reported c k) (reported c m) (reported c l) x.part y.part;
         names = y.names ∙ x.names;
         next = y.next ∙ x.next;
         width = y.width ∙ x.width;
@@ -263,11 +263,11 @@ module _ (c : PlainCode) (f : PlainFunction) (s : Scope) (B : ℕ → Bool) (K :
         stays = stays_on (held_at k.held) (held_at m.held) (held_at l.held) (counts k) x.stays (subst (λ ns. Stays (held_at m.held) (held_at l.held) (λ q. owners ns (own T) q + e q)) x.names y.stays);
       }
 
-  shed_by : (n at : ℕ) (k : Known) (end : ℕ) (l : Known) → GivesUp false f n at k end l → Kept' k l → Ties false c.types s B K T e k → Quiet f at end (told c k) → Shed at k end l
+  shed_by : (n at : ℕ) (k : Known) (end : ℕ) (l : Known) → GivesUp false f n at k end l → Kept' k l → Ties false c.types s B K T e k → Quiet f at end (reported c k) → Shed at k end l
   shed_by zero at k end l h x ties quiet = subst₂ (Shed at k) (sym h.0) (sym h.1) (record {
     grows = omega arith;
     still = λ z q. refl;
-    part = no_row c f at (told c k) (told c k) (λ q. refl);
+    part = no_row c f at (reported c k) (reported c k) (λ q. refl);
     names = refl;
     next = refl;
     width = refl;
@@ -277,9 +277,9 @@ module _ (c : PlainCode) (f : PlainFunction) (s : Scope) (B : ℕ → Bool) (K :
   })
   shed_by (suc n) at k end l (m, one, rest) x ties quiet =
       let grows = gives_grow f false n (suc at) m end l rest in
-      let first = one_shed at k m l one (gives_holds f false n (suc at) m end l rest) (λ i. gives_fewer f false n (suc at) m end l i rest) x ties (quiet_front f at (suc at) end (told c k) grows quiet) in
+      let first = one_shed at k m l one (gives_holds f false n (suc at) m end l rest) (λ i. gives_fewer f false n (suc at) m end l i rest) x ties (quiet_front f at (suc at) end (reported c k) grows quiet) in
       shed_on at k (suc at) m end l first
-      (shed_by n (suc at) m end l rest (record { trees = λ r more. x.trees r (subst (λ ns. 1 ≤ owners ns (own T) r + e r) first.names more); enough = x.enough }) first.ties (quiet_back f at (suc at) end (told c k) (told c m) first.grows quiet first.still))
+      (shed_by n (suc at) m end l rest (record { trees = λ r more. x.trees r (subst (λ ns. 1 ≤ owners ns (own T) r + e r) first.names more); enough = x.enough }) first.ties (quiet_back f at (suc at) end (reported c k) (reported c m) first.grows quiet first.still))
 
-  pub shed : (n at : ℕ) (k : Known) (end : ℕ) (l : Known) → GivesUp false f n at k end l → ((r : ℕ) → 1 ≤ owners k.names (own T) r + e r → is_tree (held_at l.held r) ≡ true) → ((n : ℕ) → T (Credit n) ≤ sized n l.credits) → Ties false c.types s B K T e k → Quiet f at end (told c k) → Shed at k end l
+  pub shed : (n at : ℕ) (k : Known) (end : ℕ) (l : Known) → GivesUp false f n at k end l → ((r : ℕ) → 1 ≤ owners k.names (own T) r + e r → is_tree (held_at l.held r) ≡ true) → ((n : ℕ) → T (Credit n) ≤ sized n l.credits) → Ties false c.types s B K T e k → Quiet f at end (reported c k) → Shed at k end l
   shed n at k end l h trees enough ties quiet = shed_by n at k end l h (record { trees = trees; enough = enough }) ties quiet

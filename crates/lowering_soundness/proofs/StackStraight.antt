@@ -1,4 +1,4 @@
--- Which instructions of a sound code are reached: the first one, those with a label, and those behind one that is
+-- Which instructions of a sound code are reached: the first one, those with a label, and those after one that is
 -- reached and neither ends nor jumps. So the end of a straight part is reached where its start is.
 use Rattle.std.proofs.Common.{◌≡◌, inl, inr, ℕ, zero, suc, Bool, true, false, List, [], ◌∷◌, Option, Some, None, is_some, refl, sym, subst, true≢false}
 use Rattle.std.proofs.lemmas.Bool.{and_from}
@@ -89,8 +89,8 @@ pub at_label : (c : PlainCode) (f : PlainFunction) (i : ℕ) (map : List Kind) �
 at_label c f i map e = (map, subst (λ o. Holds o (Comes c f i) map) (sym e) refl)
 
 module _ (c : PlainCode) (n : ℕ) (f : PlainFunction) (sound : IsSound c) (is : function_at c n ≡ Some f) where
-  behind : (i : ℕ) (x : Instr) → IsInstr f i x → goes_on x ≡ true → Reached c f i → Reached c f (suc i)
-  behind i x there on (ks, known) = arrives (label_at f.labels (suc i)) (Comes c f (suc i)) left.0 (ks, x, known, there, asked, left.1)
+  following : (i : ℕ) (x : Instr) → IsInstr f i x → goes_on x ≡ true → Reached c f i → Reached c f (suc i)
+  following i x there on (ks, known) = arrives (label_at f.labels (suc i)) (Comes c f (suc i)) left.0 (ks, x, known, there, asked, left.1)
     where
       good : sources c f ks x ≡ true
       good = asked_sources c n i f ks x sound is (record { known = known; instr = there })
@@ -107,7 +107,7 @@ module _ (c : PlainCode) (n : ℕ) (f : PlainFunction) (sound : IsSound c) (is :
   none a b e r = subst (Reached c f) (sym e) r
 
   pub one : (a b : ℕ) (x : Instr) → IsInstr f a x → b ≡ suc a → goes_on x ≡ true → Reached c f a → Reached c f b
-  one a b x there e on r = subst (Reached c f) (sym e) (behind a x there on r)
+  one a b x there e on r = subst (Reached c f) (sym e) (following a x there on r)
 
   built : (st : Setting) (at : ℕ) (k : Known) (t d : ℕ) (rs : List ℕ) (r end : ℕ) (after : Known) → BuiltAt st f.instrs at k t d rs r end after → Reached c f at → Reached c f end
   built st at k t d [] r end after (inl h) = none at end h.nothing
@@ -127,9 +127,9 @@ module _ (c : PlainCode) (n : ℕ) (f : PlainFunction) (sound : IsSound c) (is :
     arguments st at k (MoreArguments a as') (r ∷ rs) end after h here = arguments st h.0 h.1 as' rs end after h.3 (argument st at k a r h.0 h.1 h.2 here)
 
   given_one : (fip : Bool) (at : ℕ) (k l : Known) → GivesOne fip f at k l → Reached c f at → Reached c f (suc at)
-  given_one fip at k l (inl h) = behind at (I.Take h.register []) h.written refl
-  given_one fip at k l (inr (weak, inl h)) = behind at (I.Drop h.register) h.written refl
-  given_one fip at k l (inr (weak, inr h)) = behind at (I.Free h.register) h.written refl
+  given_one fip at k l (inl h) = following at (I.Take h.register []) h.written refl
+  given_one fip at k l (inr (weak, inl h)) = following at (I.Drop h.register) h.written refl
+  given_one fip at k l (inr (weak, inr h)) = following at (I.Free h.register) h.written refl
 
   pub given_up : (fip : Bool) (m at : ℕ) (k : Known) (end : ℕ) (l : Known) → GivesUp fip f m at k end l → Reached c f at → Reached c f end
   given_up fip zero at k end l h here = none at end h.0 here
@@ -145,4 +145,4 @@ module _ (c : PlainCode) (n : ℕ) (f : PlainFunction) (sound : IsSound c) (is :
   moves at k (r ∷ rs) (d ∷ ds) end after h here = moves h.0 h.1 rs ds end after h.3 (move at k r d h.0 h.1 h.2 here)
 
   pub operation : (fip : Bool) (at : ℕ) (k : Known) (o : Operator) (p : Place) (x y : ℕ) (ds : List ℕ) (end : ℕ) (after : Known) → OperationLaid fip f at k o p x y (Into ds) end after → Reached c f at → Reached c f end
-  operation fip at k o p x y ds end after h here = moves (suc at) h.holds (h.destination ∷ []) ds end after h.given (behind at (I.Arith h.destination o x y p.line p.col) h.written refl here)
+  operation fip at k o p x y ds end after h here = moves (suc at) h.holds (h.destination ∷ []) ds end after h.given (following at (I.Arith h.destination o x y p.line p.col) h.written refl here)

@@ -249,7 +249,7 @@ module _ (fip : Bool) (w : Table) (st : Setting) (B : ℕ → Bool) (K : ℕ →
   append_none [] = refl
   append_none (e ∷ s) = ap (λ s. e ∷ s) (append_none s)
 
-  -- what is known behind the parameters
+  -- what is known after the parameters
   pub record Entered (s : Scope) (T : Item → ℕ) (n m : ℕ) (k : Known) (ps : List Param) (bs : List Binder) : Type 0 where
     pub ties : Ties fip w (s ++ entries_of bs (types_of ps)) B K (λ i. T i + takens w n ps i) (λ q. 0) (with_params st k ps bs)
     pub next : (with_params st k ps bs).next ≡ n + length ps
@@ -551,7 +551,7 @@ module _ (c : PlainCode) (w : R.World) (scalars : (t : ℕ) → is_type c.types 
               by false true y = y
               by false false y = sym (ap (λ b. b || has (owned_parameters w (suc m) qs ds) x) (unequal_is m x (λ e. absurd (let z : ⊥ = omega (arith, e, low) in z)))) ∙ y
 
-          -- behind what was borrowed it isn't owned
+          -- after what was borrowed it isn't owned
           not_owned_here : q.lent ≡ true → has (owned_parameters w n ps bs) m ≡ false
           not_owned_here e = elim (or_not (has (owned_parameters w n ps bs) m)) as (λ v. has (owned_parameters w n ps bs) m ≡ false) [
             | inl h ↦ absurd (true≢false (sym (back m (omega arith) h) ∙ none (w.scalar q.ty)))

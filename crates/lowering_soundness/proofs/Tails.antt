@@ -22,10 +22,10 @@ use Rattle.lowering_relation.specs.LoweredBodies.{Return}
 use Rattle.lowering_relation.specs.LoweredBodies as Bodies
 use Rattle.lowering_relation.specs.Describing.{Holding, held_at, kinds_of, setting, is_tree}
 use Rattle.lowering_soundness.specs.Covering.{using, using_all}
-use Rattle.lowering_soundness.specs.Giving.{is_credit_of, can_pass_one, passing, can_pass, passing_all, can_hand, handing_all, can_lend_one, can_lend, behind_call, NothingLeft}
+use Rattle.lowering_soundness.specs.Giving.{is_credit_of, can_pass_one, passing, can_pass, passing_all, can_hand, handing_all, can_lend_one, can_lend, after_call, NothingLeft}
 use Rattle.lowering_soundness.specs.Parts.{Onward, LastPart}
 use Rattle.lowering_soundness.specs.Ties.{one_if, owners, own, is_read_of, HoldsValue, LiesIn}
-use Rattle.lowering_relation.specs.Labels.{told, Quiet}
+use Rattle.lowering_relation.specs.Labels.{reported, Quiet}
 use Rattle.lowering_soundness.specs.Laid.{Shares, IsFunctionOf}
 use Rattle.lowering_relation.specs.GivenUp.{spending}
 use Rattle.lowering_relation.specs.Handed.{CallLaid, TailLaid}
@@ -36,11 +36,11 @@ use Rattle.lowering_soundness.proofs.Parts.{last_row, part_and_last}
 use Rattle.lowering_soundness.proofs.Owners.{owners_none}
 use Rattle.lowering_soundness.proofs.Arguments.{quiet_front, quiet_back}
 use Rattle.lowering_soundness.proofs.Cells.{credit_is}
-use Rattle.lowering_soundness.proofs.GivingUp.{NoTrees, behind, behind_was, using_all_either}
+use Rattle.lowering_soundness.proofs.GivingUp.{NoTrees, following, after_was, using_all_either}
 use Rattle.lowering_soundness.proofs.Leaving.{Safe, Leaves, gives}
 use Rattle.lowering_soundness.proofs.Returning.{Agree, agree_using, no_tree_using_all, used_no_tree, no_tree_of, value_no_bare, value_no_lent, value_not_credit, nothing_left, no_credit_left}
 use Rattle.lowering_soundness.proofs.Passing.{PassedOn}
-use Rattle.lowering_soundness.proofs.Calling.{passing_more, drop_front, CanCallBy, can_call_by, behind_by, owned_of, passing_using, Called, called}
+use Rattle.lowering_soundness.proofs.Calling.{passing_more, drop_front, CanCallBy, can_call_by, after_by, owned_of, passing_using, Called, called}
 
 -- ---- registers that hold the same
 
@@ -195,7 +195,7 @@ tree_among w n g (p ∷ ps) (q ∷ rs) r none h (inl e) tree = by (is_scalar_typ
 
 module _ (c : PlainCode) (f : PlainFunction) (st : Setting) (wd : W.World) (fip : Bool) (s : Scope) (B : ℕ → Bool) (K : ℕ → Item → ℕ) (shares : Shares c st wd) where
   -- registers of arguments and credits are kept
-  call_safe : (m : Known) (d : Instance) (rs cs : List ℕ) (l : Known) → Called c f fip s B K true (λ i. 0) (λ q. 0) m d rs cs l → behind (owned_of d.params rs) cs (held_at m.held) ≡ held_at l.held → (r : ℕ) → Among r (rs ++ cs) → Safe (held_at m.held r) (held_at l.held r)
+  call_safe : (m : Known) (d : Instance) (rs cs : List ℕ) (l : Known) → Called c f fip s B K true (λ i. 0) (λ q. 0) m d rs cs l → following (owned_of d.params rs) cs (held_at m.held) ≡ held_at l.held → (r : ℕ) → Among r (rs ++ cs) → Safe (held_at m.held r) (held_at l.held r)
   call_safe m d rs cs l cl known r m2 = elim (among_split r rs cs m2) as (λ v. Safe (held_at m.held r) (held_at l.held r)) [
     | inl a ↦ elim (argument_among c.types n g d.params rs r cl.hold a) as (λ v. Safe (held_at m.held r) (held_at l.held r)) [
       | inl v ↦ of_value a v.0 v.1
@@ -216,17 +216,17 @@ module _ (c : PlainCode) (f : PlainFunction) (st : Setting) (wd : W.World) (fip 
       none : (q : ℕ) → owners m.names (own (λ i. 0)) q ≡ 0
       none q = owners_none m.names (own (λ i. 0)) q (λ x. refl)
 
-      at_r : behind (owned_of d.params rs) cs (held_at m.held) r ≡ held_at l.held r
+      at_r : following (owned_of d.params rs) cs (held_at m.held) r ≡ held_at l.held r
       at_r = ap (λ x. x r) known
 
       no_credit : (k : ℕ) → H.Nothing ≡ H.Credit k → ⊥
       no_credit k z = absurd (cc)
 
-      some : (k : ℕ) → held_at l.held r ≡ H.Credit k → behind (owned_of d.params rs) cs (held_at m.held) r ≡ H.Nothing → ⊥
+      some : (k : ℕ) → held_at l.held r ≡ H.Credit k → following (owned_of d.params rs) cs (held_at m.held) r ≡ H.Nothing → ⊥
       some k e z = no_credit k (sym z ∙ (at_r ∙ e))
 
       was_credit : (k : ℕ) → held_at l.held r ≡ H.Credit k → held_at m.held r ≡ H.Credit k
-      was_credit k e = sym (behind_was (owned_of d.params rs) cs (held_at m.held) r (some k e)) ∙ (at_r ∙ e)
+      was_credit k e = sym (after_was (owned_of d.params rs) cs (held_at m.held) r (some k e)) ∙ (at_r ∙ e)
 
       of_value : Among r rs → (t : ℕ) → HoldsValue c.types t (held_at m.held r) → Safe (held_at m.held r) (held_at l.held r)
       of_value a t v = record {
@@ -289,7 +289,7 @@ module _ (c : PlainCode) (f : PlainFunction) (st : Setting) (wd : W.World) (fip 
   types_same [] = refl
   types_same (x ∷ xs) = and_to (x == x) (same_types xs xs) (itself x) (types_same xs)
 
-  pub tail_part : (at : ℕ) (k : Known) (d : Instance) (rs : List ℕ) (mid : ℕ) (m : Known) (g : ℕ) (end : ℕ) (l : Known) → PassedOn c f fip s B K d.credits (λ i. 0) (λ q. 0) at k d.params rs mid m → (h : CallLaid st fip f mid m g rs Return end l) → h.instance ≡ d → f.results ≡ d.results → ((z y : ℕ) → K z (Own y) ≤ 0) → Quiet f at end (told c k) → LastPart c f at (told c k) end
+  pub tail_part : (at : ℕ) (k : Known) (d : Instance) (rs : List ℕ) (mid : ℕ) (m : Known) (g : ℕ) (end : ℕ) (l : Known) → PassedOn c f fip s B K d.credits (λ i. 0) (λ q. 0) at k d.params rs mid m → (h : CallLaid st fip f mid m g rs Return end l) → h.instance ≡ d → f.results ≡ d.results → ((z y : ℕ) → K z (Own y) ≤ 0) → Quiet f at end (reported c k) → LastPart c f at (reported c k) end
   tail_part at k d rs mid m g end l p h is types kept quiet =
       let fn = h.function in
       let cs = h.credits in
@@ -299,7 +299,7 @@ module _ (c : PlainCode) (f : PlainFunction) (st : Setting) (wd : W.World) (fip 
       let cl : Called c f fip s B K true (λ i. 0) (λ q. 0) m d rs cs h.m = called c f fip s B K true (λ i. 0) (λ q. 0) m d rs cs h.m (λ e x. refl) p.ties p.hold kept (subst (λ (d : Instance). Bodies.AreTaken (record m { held = Bodies.handed m.held d.params rs }) d.credits cs h.m) is h.taken) in
       let us = owned_of d.params rs in
       let w = held_at m.held in
-      let known : behind us cs w ≡ held_at h.m.held = ap (λ x. spending x cs) (sym (passing_using d.params rs w)) ∙ (sym (handing_spending d.credits cs (passing_all w d.params rs) cl.many_credits) ∙ cl.short) in
+      let known : following us cs w ≡ held_at h.m.held = ap (λ x. spending x cs) (sym (passing_using d.params rs w)) ∙ (sym (handing_spending d.credits cs (passing_all w d.params rs) cl.many_credits) ∙ cl.short) in
       let leaves : Leaves c.types us cs (λ r. Among r as') w h.m = record {
         known = known;
         trees = subst (λ x. NoTrees x cs) (passing_using d.params rs w) cl.none;
@@ -309,9 +309,9 @@ module _ (c : PlainCode) (f : PlainFunction) (st : Setting) (wd : W.World) (fip 
         safe = call_safe m d rs cs h.m cl known;
       } in
       let stops : t.stop < end = (let z = t.one in omega (arith, z)) in
-      let quiet2 = quiet_back f at mid end (told c k) (told c m) p.grows quiet p.still in
-      let gave = gives c f us cs (λ r. Among r as') fip t.steps w mid h.m t.stop t.left leaves t.gives (quiet_front f mid t.stop end (told c m) (omega (arith, stops)) quiet2) in
-      let behind_short : (x : Holding) → handing_all (passing_all x d.params as') d.credits (drop (length d.params) as') ≡ handing_all (passing_all x d.params rs) d.credits cs = λ x. ap₂ (λ x y. handing_all x d.credits y) (passing_more d.params rs cs x cl.many) (drop_front rs cs (length d.params) cl.many) in
+      let quiet2 = quiet_back f at mid end (reported c k) (reported c m) p.grows quiet p.still in
+      let gave = gives c f us cs (λ r. Among r as') fip t.steps w mid h.m t.stop t.left leaves t.gives (quiet_front f mid t.stop end (reported c m) (omega (arith, stops)) quiet2) in
+      let following_short : (x : Holding) → handing_all (passing_all x d.params as') d.credits (drop (length d.params) as') ≡ handing_all (passing_all x d.params rs) d.credits cs = λ x. ap₂ (λ x y. handing_all x d.credits y) (passing_more d.params rs cs x cl.many) (drop_front rs cs (length d.params) cl.many) in
       let can : CanCallBy c.types true gave.held d.params d.credits as' = record {
         many = cl.can.many;
         passes = pass_agree (λ r. Among r as') c.types d.params as' w gave.held (λ r x. x) gave.agree cl.can.passes;
@@ -319,17 +319,17 @@ module _ (c : PlainCode) (f : PlainFunction) (st : Setting) (wd : W.World) (fip 
         lends = lend_agree (λ r. Among r as') c.types true d.params as' (handing_all (passing_all w d.params as') d.credits (drop (length d.params) as')) (handing_all (passing_all gave.held d.params as') d.credits (drop (length d.params) as')) (λ r x. x)
             (handing_agree (λ r. Among r as') d.credits (drop (length d.params) as') (passing_all w d.params as') (passing_all gave.held d.params as') (passing_agree (λ r. Among r as') d.params as' w gave.held (λ r x. x) gave.agree)) cl.can.lends;
       } in
-      let left : behind_call c gave.held fn as' ≡ held_at t.left.held =
-      behind_by c gave.held fn d as' of ∙ (behind_short gave.held ∙ (handing_spending d.credits cs (passing_all gave.held d.params rs) cl.many_credits ∙ (ap (λ x. spending x cs) (passing_using d.params rs gave.held) ∙ gave.leaves.known))) in
-      let nothing : NothingLeft (behind_call c gave.held fn as') = subst NothingLeft (sym left) (nothing_left c f fip s B K (held_at h.m.held) (held_at t.left.held) t.done gave.fewer
+      let left : after_call c gave.held fn as' ≡ held_at t.left.held =
+      after_by c gave.held fn d as' of ∙ (following_short gave.held ∙ (handing_spending d.credits cs (passing_all gave.held d.params rs) cl.many_credits ∙ (ap (λ x. spending x cs) (passing_using d.params rs gave.held) ∙ gave.leaves.known))) in
+      let nothing : NothingLeft (after_call c gave.held fn as') = subst NothingLeft (sym left) (nothing_left c f fip s B K (held_at h.m.held) (held_at t.left.held) t.done gave.fewer
       (λ r x b. true≢false (sym x ∙ no_tree_of (is_tree (held_at h.m.held r)) (subst₂ (λ b n. Fits b (one_if (is_tree (held_at h.m.held r))) n) b (let z = owners_none h.m.names (own (λ i. 0)) r (λ x. refl) in omega (arith, z)) (cl.ties.trees r))))
       (λ r n x b. no_credit_left c f fip s B K h.m cl.ties.credits cl.ties.sizes r n x b)) in
       let row = tail_row c f gave.held fn as' (ap₂ same_types of.results types ∙ types_same d.results) (can_call_by c true gave.held fn d as' of can) nothing in
-      subst (λ e. LastPart c f at (told c k) e) (sym t.one)
-      (part_and_last c f at mid (suc t.stop) (told c k) (told c m) p.part
-      (part_and_last c f mid t.stop (suc t.stop) (told c m) (kinds_of c.types gave.held) gave.part
+      subst (λ e. LastPart c f at (reported c k) e) (sym t.one)
+      (part_and_last c f at mid (suc t.stop) (reported c k) (reported c m) p.part
+      (part_and_last c f mid t.stop (suc t.stop) (reported c m) (kinds_of c.types gave.held) gave.part
       (last_row c f t.stop (kinds_of c.types gave.held) (I.Tail fn as') t.written refl (λ ks j z o. nowhere fn as' t.stop ks j z o) row
-      ((quiet_back f mid t.stop end (told c m) (kinds_of c.types gave.held) gave.grows quiet2 gave.still).first stops))))
+      ((quiet_back f mid t.stop end (reported c m) (kinds_of c.types gave.held) gave.grows quiet2 gave.still).first stops))))
     where
       nowhere : (fn : ℕ) (as' : List ℕ) (stop : ℕ) (ks : List Kind) (j : ℕ) (l : List Kind) → Onward c ks stop (I.Tail fn as') j l → ⊥
       nowhere fn as' stop ks j l (inl o) = o.1

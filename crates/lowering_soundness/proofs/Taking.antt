@@ -1,4 +1,4 @@
--- A cell is taken apart: this is as asked, and these are the kinds behind it.
+-- A cell is taken apart: this is as asked, and these are the kinds after it.
 use Rattle.std.proofs.Common.{◌≡◌, inl, inr, ℕ, suc, ◌<◌, ◌≤◌, true, false, not, ◌&&◌, is_some, List, [], ◌∷◌, length, Option, Some, None, refl, sym, ap, ◌∙◌, subst, true≢false, arith, if◌then◌else◌, ◌==◌}
 use Rattle.separation.specs.fip_language.Table.{Table}
 use Rattle.separation.specs.fip_language.Every.{Among}
@@ -27,7 +27,7 @@ use Rattle.lowering_soundness.proofs.Looking.{whole}
 use Rattle.lowering_soundness.proofs.Positions.{OnePart}
 use Rattle.lowering_soundness.proofs.Heirs.{has_among, not_among, from_at, Fated, below_fated, scalar_gone, owned_kind, Outside, lost, field_owned, gets, gets_gone, gets_below, gets_same}
 
--- ---- what is told behind it
+-- ---- what is reported after it
 
 abbrev pub settled_at : Table → ℕ → List ℕ → Knowns → Spots → ℕ → Kind → Kind
 settled_at w r [] ks ss q own = lost r own
@@ -202,11 +202,11 @@ module _ (c : PlainCode) (f : PlainFunction) where
   take_row m r t n ps ls fs read may = record {
     sources = λ ks cov. ap (can_take c.types (length (as_many ps fs))) (cov.each r ∙ may.own) ∙ equal_is (length (fields c.types t n)) (length (as_many ps fs)) (sym may.many);
     destinations = λ ks cov. and_to (are_places ks (as_many ps fs)) (not (has (as_many ps fs) r)) (places m ks ps fs may.differ may.free (whole c f m ks cov)) (ap not (not_has (as_many ps fs) r (λ a. may.off (as_many_within ps fs r a))));
-    leaves = λ ks l cov e. behind ks l cov (subst (λ ts. IsTaken c.types ks r (as_many ps fs) ts l) (ap (known_fields c.types) (cov.each r ∙ may.own)) e);
+    leaves = λ ks l cov e. following ks l cov (subst (λ ts. IsTaken c.types ks r (as_many ps fs) ts l) (ap (known_fields c.types) (cov.each r ∙ may.own)) e);
   }
     where
-      behind : (ks l : List Kind) → Covered f.registers m ks → IsTaken c.types ks r (as_many ps fs) (fields c.types t n) l → Covered f.registers (taken_at c.types r (length (as_many ps fs)) (fields c.types t n) ls fs m) l
-      behind ks l cov e = record {
+      following : (ks l : List Kind) → Covered f.registers m ks → IsTaken c.types ks r (as_many ps fs) (fields c.types t n) l → Covered f.registers (taken_at c.types r (length (as_many ps fs)) (fields c.types t n) ls fs m) l
+      following ks l cov e = record {
         wide = ap length e.2 ∙ (length_become ks new ∙ cov.wide);
         each = λ q. ap (λ l. at l q) e.2 ∙ (becomes ks new past q ∙ same q);
       }
@@ -214,8 +214,8 @@ module _ (c : PlainCode) (f : PlainFunction) where
           new : ℕ → Kind
           new q = part_or c.types r (at ks q) (part (as_many ps fs) (fields c.types t n) q) (gets c.types ks r (as_many ps fs) (fields c.types t n) e.0 e.1 q)
 
-          told : at ks ≡ m
-          told = whole c f m ks cov
+          reported : at ks ≡ m
+          reported = whole c f m ks cov
 
           parts : AllBelow c.types (Some r) (fields c.types t n) ls fs r 0 read (at ks)
           parts = subst (AllBelow c.types (Some r) (fields c.types t n) ls fs r 0 read) (sym (whole c f m ks cov)) may.parts
@@ -253,7 +253,7 @@ module _ (c : PlainCode) (f : PlainFunction) where
           ]
 
           same : (q : ℕ) → new q ≡ taken_at c.types r (length (as_many ps fs)) (fields c.types t n) ls fs m q
-          same q = same_of q ∙ ap (λ h. taken_at c.types r (length (as_many ps fs)) (fields c.types t n) ls fs h q) told
+          same q = same_of q ∙ ap (λ h. taken_at c.types r (length (as_many ps fs)) (fields c.types t n) ls fs h q) reported
 
           past : (q : ℕ) → length ks ≤ q → new q ≡ K.Gone
           past q far =

@@ -1,4 +1,4 @@
--- A test of what a pattern asks for: it is as asked, and what is told on both of its sides.
+-- A test of what a pattern asks for: it is as asked, and what is reported on both of its sides.
 use Rattle.std.proofs.Common.{◌≡◌, inl, inr, ℕ, zero, suc, ◌<◌, Bool, true, false, List, [], ◌∷◌, Option, Some, refl, sym, ap, ◌∙◌, subst, true≢false, ◌==◌}
 use Rattle.std.proofs.lemmas.Option.{none-some, same_Some}
 use Rattle.separation.specs.fip_language.Table.{Table}
@@ -86,7 +86,7 @@ sided_other (Tag n) r false m q ne = refused (q == r) (narrow (without n (set_of
 narrowed_here : (m : ℕ → Kind) (r : ℕ) (cs : List ℕ) → narrowed m r cs r ≡ narrow cs (m r)
 narrowed_here m r cs = chosen (r == r) (narrow cs (m r)) (m r) (itself r)
 
--- what is told of one register that was tested
+-- what is reported of one register that was tested
 here_sided : (w : Table) (t u : ℕ) (form : Form) (h : Head) (ps : M.Patterns) (out : List Head) (r : ℕ) (m : ℕ → Kind) → IsPattern w t (M.Test u h ps) → is_in h out ≡ false → m r ≡ formed t form (left w t (Open out)) → FormRight w t form → (b : Bool) → sided h r b m r ≡ formed t form (left w t (settle b h ps out))
 here_sided w zero u form (Number i) ps out r m typed none own right b = own ∙ (form_int w form (left w 0 (Open out)) right ∙ sym (form_int w form (left w 0 (settle b (Number i) ps out)) right))
 here_sided w (suc t) u form (Number i) ps out r m typed none own right b = absurd typed.2
@@ -108,13 +108,13 @@ below_settled w root t v (Number i) ps out r fs more l true typed u = u
 below_settled w root t v (Tag n) ps out r fs more l true typed u = all_fresh_below w root (fields w t n) (opens ps) fs r 0 more l (head_fresh w t n typed.1 ps typed.2 typed.3) u
 below_settled w root t v h ps out r fs more l false typed u = u
 
--- Both sides of a test: b tells which.
+-- Both sides of a test: b reports which.
 pub record Tested (w : Table) (P : Bool → (ℕ → Kind) → Type 0) (zs : List ℕ) (found : Asked) (m : ℕ → Kind) : Type 0 where
   pub may : MayTest w found.head (m found.register)
   pub parts : (b : Bool) → P b (sided found.head found.register b m)
   pub within : Among found.register zs
 
--- what is told of a position, and below it
+-- what is reported of a position, and below it
 pub record Here (w : Table) (root : Option ℕ) (t : ℕ) (form : Form) (k : Known) (s : Spot) (more : List ℕ) (m : ℕ → Kind) : Type 0 where
   pub own : m (register s) ≡ formed t form (left w t k)
   pub parts : Below w root t k s more m

@@ -1,4 +1,4 @@
--- What is known of registers goes with the variables as before where what is told of their registers stays.
+-- What is known of registers goes with the variables as before where what is reported of their registers stays.
 use Rattle.std.proofs.Common.{◌≡◌, inl, inr, ℕ, ◌+◌, ◌≤◌, Bool, true, false, Some, None, refl, sym, ap, ◌∙◌, subst, true≢false, arith}
 use Rattle.separation.specs.fip_language.Table.{Table}
 use Rattle.derivation_making.specs.ownership_calculus.Terms.{Item, Own, Credit}

@@ -29,7 +29,7 @@ use Rattle.lowering_relation.specs.Known.{Known, register_of}
 use Rattle.lowering_relation.specs.Values.{Setting}
 use Rattle.lowering_relation.specs.LoweredBodies.{Into}
 use Rattle.lowering_relation.specs.Describing.{Holding, held_at, is_tree}
-use Rattle.lowering_relation.specs.Labels.{told, Quiet}
+use Rattle.lowering_relation.specs.Labels.{reported, Quiet}
 use Rattle.lowering_relation.specs.Uses.{uses, uses_all, takes_of, uses_passed}
 use Rattle.lowering_relation.specs.LaidBodies.{ValuesLaid, GiveLaid, OperatorLaid, CalledLaid}
 use Rattle.lowering_soundness.specs.Ties.{one_if, is_register, owners, own, owed, AllHold, Stays, Ties}
@@ -40,7 +40,7 @@ use Rattle.lowering_soundness.proofs.Owners.{owners_sum}
 use Rattle.lowering_soundness.proofs.Tying.{ties_fits}
 use Rattle.lowering_soundness.proofs.Arguments.{int_scalar}
 use Rattle.lowering_soundness.proofs.Asking.{no_field}
-use Rattle.lowering_soundness.proofs.Leaves.{get_behind, length_more, values_done, give_into, operator_into, called_into}
+use Rattle.lowering_soundness.proofs.Leaves.{get_after, length_more, values_done, give_into, operator_into, called_into}
 
 -- ---- what is just asked
 
@@ -182,7 +182,7 @@ module _ (c : PlainCode) (st : Setting) (wd : W.World) (w : R.World) (shares : S
       by (λ P y some. passed_uses z sc n placed fip B P g d (qs ++ p ∷ []) ps as' x there (parts ∙ sym (append_assoc qs (p ∷ []) ps)) types.1 typed.1 y some) (lends w g (length qs)) refl derived more
     where
       param : slice_get d.params (length qs) ≡ Some p
-      param = ap (λ ps. slice_get ps (length qs)) parts ∙ get_behind qs p ps
+      param = ap (λ ps. slice_get ps (length qs)) parts ∙ get_after qs p ps
 
       lent : lends w g (length qs) ≡ (p.lent && not (w.scalar p.ty))
       lent = ap (λ o. lends_to w o (length qs)) there ∙ ap (R.lends_parameter w) param
@@ -223,7 +223,7 @@ module _ (c : PlainCode) (st : Setting) (wd : W.World) (w : R.World) (shares : S
       | inr none ↦ omega (arith, none)
     ]
 
-    pub values_stay : (fip : Bool) → fip ≡ false → (P X : Item → ℕ) (at : ℕ) (k : Known) (as' : Arguments) (rs : List ℕ) (mid : ℕ) (m : Known) (b : Bool) (ts : List ℕ) → ValuesLaid c st f at k as' rs mid m → HaveTypes true wd s b as' ts → DerivesValues fip P (values sc n.marks as') → ((z y : ℕ) → K z (Own y) ≤ X (Own y)) → Ties fip c.types s B K (λ i. P i + X i) (λ q. 0) k → Quiet f at mid (told c k) → length k.held ≡ f.registers → (r : ℕ) → is_tree (held_at k.held r) ≡ true → ((x : ℕ) → register_of k.names (Some x) ≡ Some r → uses_all x as' ≡ false) → (held_at m.held r ≡ held_at k.held r) × (Among r rs → ⊥)
+    pub values_stay : (fip : Bool) → fip ≡ false → (P X : Item → ℕ) (at : ℕ) (k : Known) (as' : Arguments) (rs : List ℕ) (mid : ℕ) (m : Known) (b : Bool) (ts : List ℕ) → ValuesLaid c st f at k as' rs mid m → HaveTypes true wd s b as' ts → DerivesValues fip P (values sc n.marks as') → ((z y : ℕ) → K z (Own y) ≤ X (Own y)) → Ties fip c.types s B K (λ i. P i + X i) (λ q. 0) k → Quiet f at mid (reported c k) → length k.held ≡ f.registers → (r : ℕ) → is_tree (held_at k.held r) ≡ true → ((x : ℕ) → register_of k.names (Some x) ≡ Some r → uses_all x as' ≡ false) → (held_at m.held r ≡ held_at k.held r) × (Among r rs → ⊥)
     values_stay true weak P X at k as' rs mid m b ts h typed d kept ties quiet wide r tree unused = absurd (true≢false weak)
     values_stay false weak P X at k as' rs mid m b ts h typed d kept ties quiet wide r tree unused = (same, apart)
       where

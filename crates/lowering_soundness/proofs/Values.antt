@@ -20,7 +20,7 @@ use Rattle.lowering_soundness.specs.Giving.{is_owned_of, is_credit_of, atom_held
 use Rattle.lowering_soundness.specs.Rows.{IsRow}
 use Rattle.lowering_soundness.specs.Parts.{Part, is_straight}
 use Rattle.lowering_soundness.specs.Ties.{one_if, owners, sized, own, HoldsValue, owe, owed, Stays, Ties}
-use Rattle.lowering_relation.specs.Labels.{told, Quiet}
+use Rattle.lowering_relation.specs.Labels.{reported, Quiet}
 use Rattle.lowering_soundness.specs.Computed.{Computed}
 use Rattle.lowering_soundness.proofs.SoundStraight.{const_row, atom_row}
 use Rattle.lowering_soundness.proofs.Parts.{one_row, no_row}
@@ -50,7 +50,7 @@ module _ (c : PlainCode) (f : PlainFunction) (fip : Bool) (s : Scope) (B : ℕ �
   scalar_variable P X e at k x r t named typed sc none ties = record {
     grows = omega arith;
     still = λ z q. refl;
-    part = no_row c f at (told c k) (told c k) (λ q. refl);
+    part = no_row c f at (reported c k) (reported c k) (λ q. refl);
     names = refl;
     next = omega arith;
     width = refl;
@@ -68,7 +68,7 @@ module _ (c : PlainCode) (f : PlainFunction) (fip : Bool) (s : Scope) (B : ℕ �
       record {
         grows = omega arith;
         still = λ z q. refl;
-        part = no_row c f at (told c k) (told c k) (λ q. refl);
+        part = no_row c f at (reported c k) (reported c k) (λ q. refl);
         names = refl;
         next = omega arith;
         width = refl;
@@ -116,7 +116,7 @@ module _ (c : PlainCode) (f : PlainFunction) (fip : Bool) (s : Scope) (B : ℕ �
     | inr y ↦ ap (is_credit_of n) (refused (q == d) h (g q) y)
   ]
 
-  pub fresh_value : (X : Item → ℕ) (e : ℕ → ℕ) (at : ℕ) (k : Known) (h : Held) (t : ℕ) (x : Instr) → slice_get f.instrs at ≡ Some x → is_straight x ≡ true → HoldsValue c.types t h → IsRow c f (told c k) x (kinds_of c.types (setting (held_at k.held) k.next h)) → Ties fip c.types s B K X e k → ((z y : ℕ) → K z (Own y) ≤ X (Own y)) → Quiet f at (suc at) (told c k) → suc k.next ≤ length k.held → Comes X e at k k.next t (suc at) (with_next k h)
+  pub fresh_value : (X : Item → ℕ) (e : ℕ → ℕ) (at : ℕ) (k : Known) (h : Held) (t : ℕ) (x : Instr) → slice_get f.instrs at ≡ Some x → is_straight x ≡ true → HoldsValue c.types t h → IsRow c f (reported c k) x (kinds_of c.types (setting (held_at k.held) k.next h)) → Ties fip c.types s B K X e k → ((z y : ℕ) → K z (Own y) ≤ X (Own y)) → Quiet f at (suc at) (reported c k) → suc k.next ≤ length k.held → Comes X e at k k.next t (suc at) (with_next k h)
   fresh_value X e at k h t x there straight v row ties kept quiet room =
       let g = held_at k.held in
       let empty = next_nothing X e k ties in
@@ -124,7 +124,7 @@ module _ (c : PlainCode) (f : PlainFunction) (fip : Bool) (s : Scope) (B : ℕ �
       record {
         grows = omega arith;
         still = λ z q. absurd (let y : ⊥ = omega (arith, z) in y);
-        part = subst (λ y. Part c f at (told c k) (suc at) (kinds_of c.types y)) (sym held) (one_row c f at (told c k) (kinds_of c.types (setting g k.next h)) x there straight row (quiet.first (omega arith)));
+        part = subst (λ y. Part c f at (reported c k) (suc at) (kinds_of c.types y)) (sym held) (one_row c f at (reported c k) (kinds_of c.types (setting g k.next h)) x there straight row (quiet.first (omega arith)));
         names = refl;
         next = omega arith;
         width = length_set k.held k.next h;
@@ -140,22 +140,22 @@ module _ (c : PlainCode) (f : PlainFunction) (fip : Bool) (s : Scope) (B : ℕ �
   int_value : HoldsValue c.types 0 (H.Scalar 0)
   int_value = record { scalar = λ y. refl; owned = λ y. absurd (true≢false (sym (int_scalar c.types) ∙ y)) }
 
-  pub literal_value : (X : Item → ℕ) (e : ℕ → ℕ) (at : ℕ) (k : Known) (i : ℤ) (r end : ℕ) (l : Known) → IsLiteral f.instrs at k i r end l → Ties fip c.types s B K X e k → ((z y : ℕ) → K z (Own y) ≤ X (Own y)) → Quiet f at end (told c k) → l.next ≤ length k.held → length k.held ≡ f.registers → Comes X e at k r 0 end l
+  pub literal_value : (X : Item → ℕ) (e : ℕ → ℕ) (at : ℕ) (k : Known) (i : ℤ) (r end : ℕ) (l : Known) → IsLiteral f.instrs at k i r end l → Ties fip c.types s B K X e k → ((z y : ℕ) → K z (Own y) ≤ X (Own y)) → Quiet f at end (reported c k) → l.next ≤ length k.held → length k.held ≡ f.registers → Comes X e at k r 0 end l
   literal_value X e at k i r end l h ties kept quiet room wide =
       let more : suc k.next ≤ length k.held = (let z = ap (λ (m : Known). m.next) h.known in omega (arith, room, z)) in
       let there : k.next < f.registers = omega (arith, more, wide) in
       comes_there X e at k k.next r 0 (suc at) end (with_next k (H.Scalar 0)) l (sym h.fresh) (sym h.one) (sym h.known)
       (fresh_value X e at k (H.Scalar 0) 0 (I.Const k.next i) (subst (λ r. slice_get f.instrs at ≡ Some (I.Const r i)) h.fresh h.written) refl int_value
-      (const_row c f (held_at k.held) k.next i (ap is_spare (next_nothing X e k ties)) there) ties kept (subst (λ b. Quiet f at b (told c k)) h.one quiet) more)
+      (const_row c f (held_at k.held) k.next i (ap is_spare (next_nothing X e k ties)) there) ties kept (subst (λ b. Quiet f at b (reported c k)) h.one quiet) more)
 
-  pub atom_new : (st : Setting) (X : Item → ℕ) (e : ℕ → ℕ) (at : ℕ) (k : Known) (t d r end : ℕ) (l : Known) → is_scalar st t ≡ is_scalar_type c.types t → IsNewAtom st f.instrs at k t d r end l → length (fields c.types t d) ≡ 0 → Ties fip c.types s B K X e k → ((z y : ℕ) → K z (Own y) ≤ X (Own y)) → Quiet f at end (told c k) → l.next ≤ length k.held → length k.held ≡ f.registers → Comes X e at k r t end l
+  pub atom_new : (st : Setting) (X : Item → ℕ) (e : ℕ → ℕ) (at : ℕ) (k : Known) (t d r end : ℕ) (l : Known) → is_scalar st t ≡ is_scalar_type c.types t → IsNewAtom st f.instrs at k t d r end l → length (fields c.types t d) ≡ 0 → Ties fip c.types s B K X e k → ((z y : ℕ) → K z (Own y) ≤ X (Own y)) → Quiet f at end (reported c k) → l.next ≤ length k.held → length k.held ≡ f.registers → Comes X e at k r t end l
   atom_new st X e at k t d r end l same h bare ties kept quiet room wide =
       let more : suc k.next ≤ length k.held = (let z = ap (λ (m : Known). m.next) h.known in omega (arith, room, z)) in
       let there : k.next < f.registers = omega (arith, more, wide) in
       let made : built st t d ≡ atom_held c.types t d = built_by (is_scalar st t) t d ∙ ap (λ b. if b then H.Scalar t else H.Owned t (Some d)) same in
       comes_there X e at k k.next r t (suc at) end (with_next k (atom_held c.types t d)) l (sym h.fresh) (sym h.one) (ap (with_next k) (sym made) ∙ sym h.known)
       (fresh_value X e at k (atom_held c.types t d) t (I.Atom k.next t d) (subst (λ r. slice_get f.instrs at ≡ Some (I.Atom r t d)) h.fresh h.written) refl (atom_value c.types t d)
-      (atom_row c f (held_at k.held) k.next t d bare (ap is_spare (next_nothing X e k ties)) there) ties kept (subst (λ b. Quiet f at b (told c k)) h.one quiet) more)
+      (atom_row c f (held_at k.held) k.next t d bare (ap is_spare (next_nothing X e k ties)) there) ties kept (subst (λ b. Quiet f at b (reported c k)) h.one quiet) more)
 
   -- ---- a constructor that was matched
 
@@ -173,7 +173,7 @@ module _ (c : PlainCode) (f : PlainFunction) (fip : Bool) (s : Scope) (B : ℕ �
       comes_there X e at k r r t at end there l refl (sym h.nothing) (sym h.known) (record {
         grows = omega arith;
         still = λ z q. kinds q;
-        part = no_row c f at (told c k) (told c there) kinds;
+        part = no_row c f at (reported c k) (reported c there) kinds;
         names = refl;
         next = omega arith;
         width = length_set (slice_set k.held r H.Nothing) r new ∙ length_set k.held r H.Nothing;

@@ -1,5 +1,5 @@
 -- A register gets a value, or the registers of values are given: what is known of registers goes with the variables
--- behind it.
+-- after it.
 use Rattle.std.proofs.Common.{◌≡◌, inl, inr, ℕ, ◌+◌, ◌≤◌, Bool, true, false, List, [], ◌∷◌, length, Option, Some, None, refl, sym, ap, ◌∙◌, subst, true≢false, arith, ◌==◌}
 use Rattle.separation.specs.fip_language.Table.{Table}
 use Rattle.derivation_making.specs.ownership_calculus.Terms.{Item, Own, Credit}

@@ -9,7 +9,7 @@ use Rattle.lowering_relation.specs.Known.{Known, register_of}
 use Rattle.lowering_relation.specs.Describing.{held_at}
 use Rattle.lowering_soundness.specs.Parts.{Part}
 use Rattle.lowering_soundness.specs.Ties.{owners, own, AllHold, owed, Stays, Ties}
-use Rattle.lowering_relation.specs.Labels.{told}
+use Rattle.lowering_relation.specs.Labels.{reported}
 use Rattle.lowering_relation.specs.Matches.{wide_at}
 use Rattle.lowering_relation.specs.Credits.{of_size, LastGone}
 
@@ -35,7 +35,7 @@ pub record Keeps (s : Scope) (X : Item → ℕ) (k l : Known) : Type 0 where
 pub record Settled (c : PlainCode) (f : PlainFunction) (fip : Bool) (s : Scope) (B : ℕ → Bool) (K : ℕ → Item → ℕ)
     (X : Item → ℕ) (e : ℕ → ℕ) (a : ℕ) (k : Known) (ds ts : List ℕ) (b : ℕ) (l : Known) : Type 0 where
   pub grows : a ≤ b
-  pub part : Part c f a (told c k) b (told c l)
+  pub part : Part c f a (reported c k) b (reported c l)
   pub next : k.next ≤ l.next
   pub width : length l.held ≡ length k.held
   pub names : l.names ≡ k.names
@@ -49,7 +49,7 @@ pub record Settled (c : PlainCode) (f : PlainFunction) (fip : Bool) (s : Scope) 
 pub record Delivered (c : PlainCode) (f : PlainFunction) (fip : Bool) (s : Scope) (B : ℕ → Bool)
     (K : ℕ → Item → ℕ) (X : Item → ℕ) (a : ℕ) (k : Known) (ds ts : List ℕ) (b : ℕ) (l : Known) : Type 0 where
   pub grows : a ≤ b
-  pub part : Part c f a (told c k) b (told c l)
+  pub part : Part c f a (reported c k) b (reported c l)
   pub next : k.next ≤ l.next
   pub width : length l.held ≡ length k.held
   pub names : length l.names ≡ length k.names

@@ -48,7 +48,7 @@ can_give g (r ∷ rs) [] = false
 can_give g (r ∷ rs) (t ∷ ts) =
     (is_scalar_of t (g r) || is_owned_of t (g r)) && can_give (using g r) rs ts
 
--- Register r may be handed over for a parameter; whether it may be lent is asked behind all of these.
+-- Register r may be handed over for a parameter; whether it may be lent is asked after all of these.
 abbrev pub can_pass_one : Table → Held → Param → Bool
 can_pass_one w h p =
     if is_scalar_type w p.ty then is_scalar_of p.ty h else (if p.lent then true else is_owned_of p.ty h)
@@ -120,16 +120,16 @@ is_value (H.Lent t root) = true
 is_value (H.Credit n) = false
 is_value (H.Bare t c) = false
 
--- what registers hold behind the arguments of a call of function f
-abbrev pub behind_call : PlainCode → Holding → ℕ → List ℕ → Holding
-behind_call c g f rs = handing_all (passing_all g (params c f) rs) (credits c f) (drop (length (params c f)) rs)
+-- what registers hold after the arguments of a call of function f
+abbrev pub after_call : PlainCode → Holding → ℕ → List ℕ → Holding
+after_call c g f rs = handing_all (passing_all g (params c f) rs) (credits c f) (drop (length (params c f)) rs)
 
 -- the arguments of a call of function f fit
 pub record CanCall (c : PlainCode) (tail : Bool) (g : Holding) (f : ℕ) (rs : List ℕ) : Type 0 where
   pub many : length rs ≡ length (params c f) + length (credits c f)
   pub passes : can_pass c.types g (params c f) rs ≡ true
   pub hands : can_hand (passing_all g (params c f) rs) (credits c f) (drop (length (params c f)) rs) ≡ true
-  pub lends : can_lend c.types tail (behind_call c g f rs) (params c f) rs ≡ true
+  pub lends : can_lend c.types tail (after_call c g f rs) (params c f) rs ≡ true
 
 -- nothing that is owned and no credit is left
 abbrev pub NothingLeft : Holding → Type 0

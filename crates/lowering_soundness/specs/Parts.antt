@@ -1,6 +1,6 @@
 -- It serves the proof that lowered code is sound: a part of a function's code, from one place to another, where the
--- kinds are told at both. What comes to its first instruction is as told there, and a label there takes it; then each
--- instruction of the part keeps the rules, and so it is behind the part.
+-- kinds are reported at both. What comes to its first instruction is as reported there, and a label there takes it; then each
+-- instruction of the part keeps the rules, and so it is after the part.
 use Rattle.std.specs.Prelude.{◌≡◌, ◌⊎◌, ℕ, suc, ◌<◌, ◌≤◌, Bool, true, false, List, Some, None, length}
 use Rattle.separation.specs.cell_code.declared.code.Instr.{Instr}
 use Rattle.separation.specs.cell_code.declared.code.Instr.TheVariants as I
@@ -15,11 +15,11 @@ use Rattle.separation.specs.code_rules.Flow.{Comes, IsReachedAt}
 use Rattle.lowering_relation.specs.Labels.{Takes}
 use Rattle.lowering_soundness.specs.Covering.{Covered}
 
--- kinds that come to instruction p from the one before it, where no label stands there, are as told
+-- kinds that come to instruction p from the one before it, where no label stands there, are as reported
 abbrev pub Arrives : PlainCode → PlainFunction → ℕ → (ℕ → Kind) → Type 0
 Arrives c f p m = label_at f.labels p ≡ None → (ks : List Kind) → Comes c f p ks → Covered f.registers m ks
 
--- a label at p takes what is told
+-- a label at p takes what is reported
 abbrev pub Admits : PlainFunction → ℕ → (ℕ → Kind) → Type 0
 Admits f p m = (map : List Kind) → label_at f.labels p ≡ Some map → Takes f.registers map m
 
@@ -48,14 +48,14 @@ pub record IsRanged (c : PlainCode) (f : PlainFunction) (i : ℕ) (x : Instr) : 
 abbrev pub AreKept : PlainCode → PlainFunction → ℕ → ℕ → Type 0
 AreKept c f a b = (p : ℕ) → a ≤ p → p < b → IsKept c f p
 
--- a part from a, where m is told, up to b, where l is told and the code goes on
+-- a part from a, where m is reported, up to b, where l is reported and the code goes on
 pub record Part (c : PlainCode) (f : PlainFunction) (a : ℕ) (m : ℕ → Kind) (b : ℕ) (l : ℕ → Kind) : Type 0 where
   pub grows : a ≤ b
   pub admits : Admits f b l → Admits f a m
   pub kept : b < length f.instrs → Admits f b l → Arrives c f a m → AreKept c f a b
   pub arrives : Arrives c f a m → Arrives c f b l
 
--- a part from a, where m is told, up to b, to which nothing goes on from before it
+-- a part from a, where m is reported, up to b, to which nothing goes on from before it
 pub record LastPart (c : PlainCode) (f : PlainFunction) (a : ℕ) (m : ℕ → Kind) (b : ℕ) : Type 0 where
   pub grows : a < b
   pub inside : a < length f.instrs

@@ -5,7 +5,7 @@ use Rattle.separation.specs.fip_base.declared.plain.Param.{Param}
 use Rattle.lowering_relation.specs.fip_trees.declared.program.Binder.{Binder}
 use Rattle.lowering_relation.specs.fip_trees.Tree.{Expression, Give, Tuple, Operation, Call, Match, Nested, Block, Last, Let, Instance}
 use Rattle.lowering_relation.specs.fip_trees.Tree.{Clauses, NoClauses, MoreClauses}
-use Rattle.derivation_making.specs.fip_rules.Shapes.{Names, known, behind, shape, binders, takes}
+use Rattle.derivation_making.specs.fip_rules.Shapes.{Names, known, following, shape, binders, takes}
 use Rattle.derivation_making.specs.fip_rules.World as R
 use Rattle.derivation_making.specs.type_check.Scope.{Scope, of_binder}
 use Rattle.derivation_making.specs.type_check.World as W
@@ -47,8 +47,8 @@ abbrev mutual
   pub NumberedBlock : R.World → ℕ → Names → Block → Type 0
   NumberedBlock w m n (Last e) = Numbered w m n e
   NumberedBlock w m n (Let bs e rest) =
-      InOrder (behind n (shape w n e)).next bs × ((behind n (shape w n e)).next + length bs ≤ m) × Numbered w m n e
-      × NumberedBlock w m (inside w true (behind n (shape w n e)) bs) rest
+      InOrder (following n (shape w n e)).next bs × ((following n (shape w n e)).next + length bs ≤ m) × Numbered w m n e
+      × NumberedBlock w m (inside w true (following n (shape w n e)) bs) rest
 
   pub NumberedClauses : R.World → ℕ → Bool → Names → Clauses → Type 0
   NumberedClauses w m taken n NoClauses = Unit {0}

@@ -1,5 +1,5 @@
--- It serves the proof that lowered code is sound: where the kinds before an instruction are told, it is as asked, and
--- these are the kinds behind it.
+-- It serves the proof that lowered code is sound: where the kinds before an instruction are reported, it is as asked, and
+-- these are the kinds after it.
 use Rattle.std.specs.Prelude.{◌≡◌, ℕ, true, List}
 use Rattle.separation.specs.cell_code.declared.code.Instr.{Instr}
 use Rattle.separation.specs.cell_code.declared.kind.Kind.{Kind}
@@ -14,7 +14,7 @@ pub record IsRow (c : PlainCode) (f : PlainFunction) (m : ℕ → Kind) (x : Ins
   pub destinations : (ks : List Kind) → Covered f.registers m ks → destinations c ks x ≡ true
   pub leaves : (ks left : List Kind) → Covered f.registers m ks → Leaves c ks x left → Covered f.registers l left
 
--- the same of an instruction behind which nothing follows, and nothing that is owned and no credit is left
+-- the same of an instruction after which nothing follows, and nothing that is owned and no credit is left
 pub record IsLastRow (c : PlainCode) (f : PlainFunction) (m : ℕ → Kind) (x : Instr) : Type 0 where
   pub sources : (ks : List Kind) → Covered f.registers m ks → sources c f ks x ≡ true
   pub destinations : (ks : List Kind) → Covered f.registers m ks → destinations c ks x ≡ true

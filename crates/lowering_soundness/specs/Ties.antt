@@ -83,7 +83,7 @@ Balanced fip g n = (r : ℕ) → Fits fip (one_if (is_tree (g r))) (n r)
 abbrev pub Rooted : Holding → Type 0
 Rooted g = (r t q : ℕ) → g r ≡ H.Lent t (Some q) → is_tree (g q) ≡ true
 
--- What is told of registers stays: of scalars, of trees that are owned from outside, and of what is lent of these.
+-- What is reported of registers stays: of scalars, of trees that are owned from outside, and of what is lent of these.
 pub record Stays (g h : Holding) (n : ℕ → ℕ) : Type 0 where
   pub scalar : (r t : ℕ) → g r ≡ H.Scalar t → h r ≡ H.Scalar t
   pub tree : (r : ℕ) → 1 ≤ n r → is_tree (g r) ≡ true → h r ≡ g r

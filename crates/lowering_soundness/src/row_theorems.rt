@@ -1,4 +1,4 @@
-// The laws on soundness of lowered code. Each is the contract of a function that does nothing.
+// The theorems on soundness of lowered code. Each is the contract of a function that does nothing.
 ghost use Rattle.std.specs.Prelude.{◌≡◌, ℕ, Bool, Some, slice_get};
 ghost use Rattle.separation.specs.cell_code.declared.code.Instr.{Instr};
 ghost use Rattle.derivation_making.specs.fip_rules.World as R;
@@ -37,7 +37,7 @@ ghost use Rattle.derivation_making.specs.type_check.World as W;
 /// A code with sound tables is sound where each of its functions has the form that is asked, has its numbers in range,
 /// breaks no rule at an instruction, and, where it is fip, waits for none of its own group.
 pub fn functions_make_a_code_sound()
-    ensures law { (c : PlainCode) → AreSoundTables c →
+    ensures theorem { (c : PlainCode) → AreSoundTables c →
         ((n : ℕ) (f : PlainFunction) → function_at c n ≡ Some f → KeepsRules c n f) → IsSound c }
 {}
 
@@ -45,7 +45,7 @@ pub fn functions_make_a_code_sound()
 /// whatever kinds, has its registers as asked, goes on to kinds that labels take, and where it ends the function
 /// nothing that is owned and no credit is left.
 pub fn functions_break_no_rule()
-    ensures law { (c : PlainCode) (f : PlainFunction) (st : Setting) (wd : W.World) (w : R.World) (fip : Bool)
+    ensures theorem { (c : PlainCode) (f : PlainFunction) (st : Setting) (wd : W.World) (w : R.World) (fip : Bool)
         (d : Instance) → Shares c st wd → Callees c st wd w → FunctionLaid c st fip f d → IsNumbered w d →
         Typed Bool.true wd d → ParamsTyped c d.params → Derived fip
         (borrowed_parameters w 0 d.params d.binders) (owned_parameters w 0 d.params d.binders) d.credits
@@ -55,13 +55,13 @@ pub fn functions_break_no_rule()
 /// Each call in the function of an instance is one of the instance's own, and waits just where that one doesn't stand
 /// in tail position; in fip nothing is dropped or freed. For who goes from a code's calls to its program's.
 pub fn calls_come_from_the_body()
-    ensures law { (c : PlainCode) (st : Setting) (fip : Bool) (f : PlainFunction) (d : Instance) →
+    ensures theorem { (c : PlainCode) (st : Setting) (fip : Bool) (f : PlainFunction) (d : Instance) →
         FunctionLaid c st fip f d → (i : ℕ) (x : Instr) → IsInstr f i x → HasOrigin st fip (instance_sites d) x }
 {}
 
 /// Where fip instances call fip ones alone, an instruction of a fip function releases no cell.
 pub fn fip_functions_release_nothing()
-    ensures law { (c : PlainCode) (st : Setting) (p : Program) → AreLaid c st p → FipCallsFip p.instances →
+    ensures theorem { (c : PlainCode) (st : Setting) (p : Program) → AreLaid c st p → FipCallsFip p.instances →
         (n : ℕ) (f : PlainFunction) → function_at c n ≡ Some f → is_fip f.kind ≡ Bool.true →
         (i : ℕ) (x : Instr) → IsInstr f i x → releases c x ≡ Bool.false }
 {}
@@ -69,18 +69,18 @@ pub fn fip_functions_release_nothing()
 /// Where no fip instance calls one of its own group outside tail position, no fip function of the code waits for one of
 /// its own group.
 pub fn fip_functions_wait_for_no_group_member()
-    ensures law { (c : PlainCode) (st : Setting) (p : Program) → AreLaid c st p →
+    ensures theorem { (c : PlainCode) (st : Setting) (p : Program) → AreLaid c st p →
         ((v : Violation) → Violates p v → ⊥) → (n : ℕ) (f : PlainFunction) → function_at c n ≡ Some f →
         is_fip f.kind ≡ Bool.true → (i callee : ℕ) → CallsAt c n i callee Bool.true → SameGroup c n callee → ⊥ }
 {}
 
 /// The label maps of the function of a typed instance of which ownership and credits have a derivation are formed: each
-/// tells of types, constructors and registers that are there, of roots that are owned, and of credits of the sizes of
+/// reports of types, constructors and registers that are there, of roots that are owned, and of credits of the sizes of
 /// cells. Beside a sound table of types this asks that the instance's body builds constructors of their types, that its
 /// header's credits have such sizes, and that the maps stand in order and tell of each tree some constructor, as maps
 /// that are formed do.
 pub fn label_maps_are_formed()
-    ensures law { (c : PlainCode) (f : PlainFunction) (st : Setting) (wd : W.World) (w : R.World) (fip : Bool)
+    ensures theorem { (c : PlainCode) (f : PlainFunction) (st : Setting) (wd : W.World) (w : R.World) (fip : Bool)
         (d : Instance) → Shares c st wd → Callees c st wd w → AreSoundTables c → FunctionLaid c st fip f d →
         IsNumbered w d → Typed Bool.true wd d → ParamsTyped c d.params → Derived fip
         (borrowed_parameters w 0 d.params d.binders) (owned_parameters w 0 d.params d.binders) d.credits
@@ -92,7 +92,7 @@ pub fn label_maps_are_formed()
 /// All numbers of the instructions of an instance's function are in range, where its label maps are formed and the
 /// constructors of the instance's body are of their types.
 pub fn numbers_are_in_range()
-    ensures law { (c : PlainCode) (st : Setting) (wd : W.World) (fip : Bool) (f : PlainFunction) (d : Instance) →
+    ensures theorem { (c : PlainCode) (st : Setting) (wd : W.World) (fip : Bool) (f : PlainFunction) (d : Instance) →
         Shares c st wd → FunctionLaid c st fip f d → BuildsBlock c.types d.body →
         are_good_maps c.types f 0 f.labels ≡ Bool.true → IsInRange c f }
 {}
@@ -101,7 +101,7 @@ pub fn numbers_are_in_range()
 /// and within the limits, with label maps that stand in order; no fip instance calls one that isn't fip, or one of its
 /// own group outside tail position.
 pub fn laid_functions_make_a_code_sound()
-    ensures law { (c : PlainCode) (st : Setting) (p : Program) (wd : W.World) (w : R.World) → AreLaid c st p →
+    ensures theorem { (c : PlainCode) (st : Setting) (p : Program) (wd : W.World) (w : R.World) → AreLaid c st p →
         Shares c st wd → Callees c st wd w → AreSoundTables c → FipCallsFip p.instances →
         ((v : Violation) → Violates p v → ⊥) → ((i : ℕ) (d : Instance) → slice_get p.instances i ≡ Some d →
         has_function d.kind ≡ Bool.true → IsDerived c wd w d) → ((n : ℕ) (f : PlainFunction) (l : IsLaid c st p n f) →

@@ -1,4 +1,4 @@
-// The laws on calls and stack numbers of laid out code. Each is the contract of a function that does nothing.
+// The theorems on calls and stack numbers of laid out code. Each is the contract of a function that does nothing.
 ghost use Rattle.std.specs.Prelude.{◌≡◌, ℕ, List, Some, slice_get, not};
 ghost use Rattle.lowering_relation.specs.fip_trees.declared.groups.Member.{Member};
 ghost use Rattle.lowering_relation.specs.fip_trees.Tree.{Instance, Program};
@@ -19,7 +19,7 @@ ghost use Rattle.lowering_soundness.specs.Alike.{Alike};
 /// at an instruction that is reached; it waits for its callee just where it stands outside tail position. For who asks
 /// whether a code calls all that its program does.
 pub fn calls_of_bodies_are_reached()
-    ensures law { (c : PlainCode) (st : Setting) (p : Program) → AreLaid c st p → IsSound c → (n : ℕ)
+    ensures theorem { (c : PlainCode) (st : Setting) (p : Program) → AreLaid c st p → IsSound c → (n : ℕ)
         (f : PlainFunction) → function_at c n ≡ Some f → (l : IsLaid c st p n f) → (s : Site) →
         In s (instance_sites l.instance) → (g : ℕ) × (joined (slice_get st.functions s.callee) ≡ Some g)
         × Calls c n g (not s.is_tail) }
@@ -29,7 +29,7 @@ pub fn calls_of_bodies_are_reached()
 /// and fip instances call fip ones alone, each function holds of the stack at the most what the groups of the program
 /// tell of its instance. For who gives a run its stack.
 pub fn alike_functions_have_the_stack_numbers()
-    ensures law { (c : PlainCode) (ds : List Instance) (ms : List Member) → Alike c ds → AreMembers ds ms →
+    ensures theorem { (c : PlainCode) (ds : List Instance) (ms : List Member) → Alike c ds → AreMembers ds ms →
         FipCallsFip ds → (i n : ℕ) (m : Member) → function_of ds i ≡ Some n → slice_get ms i ≡ Some m →
         HasStack c n m.stack }
 {}

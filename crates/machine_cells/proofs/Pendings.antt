@@ -100,7 +100,7 @@ entries_less (t ∷ ts) (w ∷ ws) (suc i) =
     let a = length-append (entries ts ws) (in_list (entry t w)) in
     omega (arith, h, a)
 
--- the fields from number k on, where those behind it are pushed
+-- the fields from number k on, where those after it are pushed
 pub push_next : (ts ws pushed now : List ℕ) (i k most : ℕ) → i ≡ k + 1 → k < length ts → length ts ≡ length ws → now ≡ pushed ++ entries (drop i ts) (drop i ws) → length pushed + length (entries ts ws) ≤ most → (length now + length (field_entry ts ws k) ≤ most) × (now ++ field_entry ts ws k ≡ pushed ++ entries (drop k ts) (drop k ws))
 push_next ts ws pushed now i k most e lt same is room =
     let next = entries_next ts ws k lt same in

@@ -1,5 +1,5 @@
--- What an outcome tells: the word of the value that the operator gives, or why it gives none.
--- 3 + 4 is told by the word 7, 3 < 4 by True, whose word is 2, and 3 / 0 by a trap.
+-- What an outcome reports: the word of the value that the operator gives, or why it gives none.
+-- 3 + 4 is reported by the word 7, 3 < 4 by True, whose word is 2, and 3 / 0 by a trap.
 use Rattle.std.specs.Prelude.{◌≡◌, ℕ, Bool, if◌then◌else◌}
 use Rattle.fip_language.specs.Arithmetic.{Operated, Is, Fails}
 use Rattle.machine_semantics.specs.Words.{scalar_word}
@@ -10,10 +10,10 @@ use Rattle.machine_cells.specs.declared.arithmetic.Outcome.TheVariants as O
 abbrev pub truth_word : Bool → ℕ
 truth_word b = if b then 2 else 0
 
-abbrev pub Tells : Operated → Outcome → Type 0
-Tells (Is v) (O.Int w) = scalar_word v ≡ w
-Tells (Is v) (O.Flag b) = scalar_word v ≡ truth_word b
-Tells (Is v) (O.Trap k) = ⊥
-Tells (Fails k) (O.Int w) = ⊥
-Tells (Fails k) (O.Flag b) = ⊥
-Tells (Fails k) (O.Trap j) = j ≡ k
+abbrev pub Reports : Operated → Outcome → Type 0
+Reports (Is v) (O.Int w) = scalar_word v ≡ w
+Reports (Is v) (O.Flag b) = scalar_word v ≡ truth_word b
+Reports (Is v) (O.Trap k) = ⊥
+Reports (Fails k) (O.Int w) = ⊥
+Reports (Fails k) (O.Flag b) = ⊥
+Reports (Fails k) (O.Trap j) = j ≡ k

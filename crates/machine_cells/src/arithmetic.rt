@@ -3,7 +3,7 @@ ghost use Rattle.std.specs.Prelude.{◌≡◌, ℤ, ◌*ℤ◌, FitsSigned, IfSo
 ghost use Rattle.std.specs.Int.{w64};
 ghost use Rattle.fip_language.specs.Arithmetic.{operate, int_or_overflow};
 ghost use Rattle.fip_language.specs.declared.Operator.TheVariants.{Multiply, Divide, Remainder};
-ghost use Rattle.machine_cells.specs.Outcomes.{Tells, truth_word};
+ghost use Rattle.machine_cells.specs.Outcomes.{Reports, truth_word};
 
 use fip_base::plain::{Operator, TrapKind};
 
@@ -26,7 +26,7 @@ pub fn bool_word(holds: bool) -> u64
 #[inline(always)]
 fn in_range(exact: Option<i64>) -> Outcome
     ensures { (i : ℤ) → IfSome exact (λ v. v ≡ i) → IfNone exact (FitsSigned w64 i → ⊥) →
-        Tells (int_or_overflow i) result }
+        Reports (int_or_overflow i) result }
 {
     match exact {
         Some(value) => Outcome::Int(value.cast_unsigned()),
@@ -36,14 +36,14 @@ fn in_range(exact: Option<i64>) -> Outcome
 
 #[inline(never)]
 fn product(left: i64, right: i64) -> Outcome
-    ensures { Tells (operate Multiply left right) result }
+    ensures { Reports (operate Multiply left right) result }
 {
     in_range(left.checked_mul(right))
 }
 
 #[inline(never)]
 fn quotient(left: i64, right: i64) -> Outcome
-    ensures { Tells (operate Divide left right) result }
+    ensures { Reports (operate Divide left right) result }
 {
     if right == 0 {
         return Outcome::Trap(TrapKind::DivideByZero);
@@ -54,7 +54,7 @@ fn quotient(left: i64, right: i64) -> Outcome
 // The remainder has the sign of the dividend; by -1 it is 0, where the quotient may be out of range.
 #[inline(never)]
 fn remainder(left: i64, right: i64) -> Outcome
-    ensures { Tells (operate Remainder left right) result }
+    ensures { Reports (operate Remainder left right) result }
 {
     if right == 0 {
         return Outcome::Trap(TrapKind::DivideByZero);
@@ -68,7 +68,7 @@ fn remainder(left: i64, right: i64) -> Outcome
 /// What an operator comes to.
 #[inline(always)]
 pub fn outcome_of(operator: Operator, left: i64, right: i64) -> Outcome
-    ensures { Tells (operate operator left right) result }
+    ensures { Reports (operate operator left right) result }
 {
     match operator {
         Operator::Add => in_range(left.checked_add(right)),

@@ -5,7 +5,7 @@ ghost use Rattle.fip_language.specs.declared.limits.TheConstants.{MOST_FIELDS};
 ghost use Rattle.fip_language.specs.Table.{Shape, constructors};
 ghost use Rattle.fip_language.specs.Store.{Cell, Placed, places};
 ghost use Rattle.cell_store.specs.Cells.{cell_at, size_in, number};
-ghost use Rattle.cell_store.specs.Told.{Told, Released};
+ghost use Rattle.cell_store.specs.Reported.{Reported, Released};
 ghost use Rattle.machine_semantics.specs.Cells.{Store, Release, changed, changed_by};
 ghost use Rattle.machine_semantics.specs.Trees.{tree_of};
 ghost use Rattle.machine_cells.specs.Live.{work};
@@ -62,9 +62,9 @@ pub fn release_cell<C: Cells>(cells: &mut C, freed: &mut [usize; SIZES], word: u
     ensures pushed { C.pushed cells.new ≡ C.pushed cells.old }
     ensures counted { CountsReleased (C.cells cells.old) (C.released cells.old) freed.old (C.cells cells.new)
         (C.released cells.new) freed.new }
-    ensures told { IsSmall (C.cells cells.old) → (s : Store) → changed (Release (word / 2)) (store_of (C.cells
-        cells.old) (C.released cells.old)) ≡ Some s → (first : C) (ts : List Told) → C.was_told first ts cells.old →
-        C.was_told first (ts ++ Released (word / 2) ∷ []) cells.new }
+    ensures reported { IsSmall (C.cells cells.old) → (s : Store) → changed (Release (word / 2)) (store_of (C.cells
+        cells.old) (C.released cells.old)) ≡ Some s → (first : C) (ts : List Reported) → C.was_reported first ts cells.old →
+        C.was_reported first (ts ++ Released (word / 2) ∷ []) cells.new }
 {
     if let Some(place) = live_cell_at(cells, place_of(word)) {
         count_one(freed, cells.cell_size(place));
@@ -82,7 +82,7 @@ fn push_field<C: Cells>(cells: &mut C, place: u32, types: &[u32], i: usize)
     ensures pushed { (c : Cell) → cell_at (C.cells cells.old) place ≡ Some c → i < length types.now →
         length (C.pushed cells.old) + length (field_entry types.now c.fields i) ≤ number (C.cells cells.old) →
         C.pushed cells.new ≡ C.pushed cells.old ++ field_entry types.now c.fields i }
-    ensures told { (first : C) (ts : List Told) → C.was_told first ts cells.old → C.was_told first ts cells.new }
+    ensures reported { (first : C) (ts : List Reported) → C.was_reported first ts cells.old → C.was_reported first ts cells.new }
 {
     if i < types.len()
         && let Some(entry) = entry_of(types[i], cells.field(place, i))
@@ -101,7 +101,7 @@ fn push_fields<C: Cells>(cells: &mut C, place: u32, types: &[u32])
     ensures pushed { (c : Cell) → cell_at (C.cells cells.old) place ≡ Some c → length types.now ≡ length c.fields →
         length (C.pushed cells.old) + length (entries types.now c.fields) ≤ number (C.cells cells.old) →
         C.pushed cells.new ≡ C.pushed cells.old ++ entries types.now c.fields }
-    ensures told { (first : C) (ts : List Told) → C.was_told first ts cells.old → C.was_told first ts cells.new }
+    ensures reported { (first : C) (ts : List Reported) → C.was_reported first ts cells.old → C.was_reported first ts cells.new }
 {
     let size = cells.cell_size(place);
     for i in (0..size).rev() {
@@ -119,9 +119,9 @@ fn release_root<C: Cells>(types: &TypeTable, cells: &mut C, freed: &mut [usize; 
     ensures released { IsSmall (C.cells cells.old) → (first last : Store) (p : ℕ) (ps : List ℕ) → HeldBut types.now
         first (store_of (C.cells cells.old) (C.released cells.old)) last (C.pushed cells.old) entry p ps → Held
         types.now first (store_of (C.cells cells.new) (C.released cells.new)) last (C.pushed cells.new) ps }
-    ensures told { IsSmall (C.cells cells.old) → (first last : Store) (p : ℕ) (ps : List ℕ) → HeldBut types.now
+    ensures reported { IsSmall (C.cells cells.old) → (first last : Store) (p : ℕ) (ps : List ℕ) → HeldBut types.now
         first (store_of (C.cells cells.old) (C.released cells.old)) last (C.pushed cells.old) entry p ps →
-        (origin : C) (ts : List Told) → C.was_told origin ts cells.old → C.was_told origin
+        (origin : C) (ts : List Reported) → C.was_reported origin ts cells.old → C.was_reported origin
         (ts ++ Released p ∷ []) cells.new }
 {
     let ty = (entry / 4_294_967_296) as u32;
@@ -149,10 +149,10 @@ pub fn release_tree<C: Cells>(
     ensures pushed { C.pushed cells.old ≡ [] → C.pushed cells.new ≡ [] }
     ensures counted { CountsReleased (C.cells cells.old) (C.released cells.old) freed.old (C.cells cells.new)
         (C.released cells.new) freed.new }
-    ensures told { IsSmall (C.cells cells.old) → C.pushed cells.old ≡ [] → (x : Placed) (s : Store) →
+    ensures reported { IsSmall (C.cells cells.old) → C.pushed cells.old ≡ [] → (x : Placed) (s : Store) →
         tree_of types.now (store_of (C.cells cells.old) (C.released cells.old)) ty word ≡ Some x →
         changed_by (map (λ p. Release p) (places x)) (store_of (C.cells cells.old) (C.released cells.old)) ≡ Some s →
-        (first : C) (ts : List Told) → C.was_told first ts cells.old → C.was_told first
+        (first : C) (ts : List Reported) → C.was_reported first ts cells.old → C.was_reported first
         (ts ++ map (λ p. Released p) (places x)) cells.new }
 {
     if let Some(root) = entry_of(ty, word) {

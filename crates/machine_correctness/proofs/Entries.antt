@@ -1,5 +1,5 @@
 -- A function of a code that has a name is that of an instance without static parameters of this name, and is headed as
--- this tells.
+-- this reports.
 -- Idea: the headers of the functions are those of the instances that aren't plain, in their order, and so are numbered
 -- the functions of instances; and only a root gives its function a name.
 use Rattle.std.proofs.Common.{◌≡◌, ◌<◌, ℕ, zero, suc, Bool, true, false, List, [], ◌∷◌, length, map, Some, slice_get, option_map, if◌then◌else◌, refl, sym, ap, ap₂, ◌∙◌, subst, arith}
@@ -27,15 +27,15 @@ record IsHeaded (ds : List Instance) (n : ℕ) (h : Header) : Type 0 where
 here : (d : Instance) (ds : List Instance) (r : ℕ) (h : Header) → has_function d.kind ≡ true → Some (header_of r d) ≡ Some h → IsHeaded (d ∷ ds) 0 h
 here d ds r h k e = record { place = 0; instance = d; there = refl; function = ap if_function k; registers = r; is = sym (same_Some (header_of r d) h e) }
 
-behind : (d : Instance) (ds : List Instance) (n m : ℕ) (h : Header) (b : Bool) → has_function d.kind ≡ b → one_more b (Some n) ≡ Some m → IsHeaded ds n h → IsHeaded (d ∷ ds) m h
-behind d ds n m h b k e x = record { place = suc x.place; instance = x.instance; there = x.there; function = ap₂ one_more k x.function ∙ e; registers = x.registers; is = x.is }
+following : (d : Instance) (ds : List Instance) (n m : ℕ) (h : Header) (b : Bool) → has_function d.kind ≡ b → one_more b (Some n) ≡ Some m → IsHeaded ds n h → IsHeaded (d ∷ ds) m h
+following d ds n m h b k e x = record { place = suc x.place; instance = x.instance; there = x.there; function = ap₂ one_more k x.function ∙ e; registers = x.registers; is = x.is }
 
 one_step : (d : Instance) (ds : List Instance) (r : ℕ) (hs : List Header) (n : ℕ) (h : Header) → ((m : ℕ) → slice_get hs m ≡ Some h → IsHeaded ds m h) → (k : FunKind) → d.kind ≡ k → slice_get (and_if (is_ruled k) (header_of r d) hs) n ≡ Some h → IsHeaded (d ∷ ds) n h
 one_step d ds r hs zero h rest Fip k e = here d ds r h (ap has_function k) e
-one_step d ds r hs (suc n) h rest Fip k e = behind d ds n (suc n) h true (ap has_function k) refl (rest n e)
+one_step d ds r hs (suc n) h rest Fip k e = following d ds n (suc n) h true (ap has_function k) refl (rest n e)
 one_step d ds r hs zero h rest Fbip k e = here d ds r h (ap has_function k) e
-one_step d ds r hs (suc n) h rest Fbip k e = behind d ds n (suc n) h true (ap has_function k) refl (rest n e)
-one_step d ds r hs n h rest Fun k e = behind d ds n n h false (ap has_function k) refl (rest n e)
+one_step d ds r hs (suc n) h rest Fbip k e = following d ds n (suc n) h true (ap has_function k) refl (rest n e)
+one_step d ds r hs n h rest Fun k e = following d ds n n h false (ap has_function k) refl (rest n e)
 
 headed : (ms : List Member) (i : ℕ) (ds : List Instance) (n : ℕ) (h : Header) → slice_get (headers_from ms i ds) n ≡ Some h → IsHeaded ds n h
 headed ms i [] n h e = absurd (none-some h e)

@@ -1,5 +1,5 @@
 -- What a machine answers is what the source means.
--- Idea: a run comes to one end, so the end that the machine tells is the one that stands for the meaning.
+-- Idea: a run comes to one end, so the end that the machine reports is the one that stands for the meaning.
 use Rattle.std.proofs.Common.{◌≡◌, ◌≢◌, ◌<◌, ◌≤◌, ℕ, true, List, [], length, Some, refl, sym, ap, ◌∙◌, subst}
 use Rattle.fip_machine.specs.fip_language.Core.{Core}
 use Rattle.fip_machine.specs.fip_language.Meaning.{Answer, Gives, Trap, Out, Deep, Stuck, meaning}
@@ -99,7 +99,7 @@ pub knows : (v : Checked) (before waits : Kinds) (n : ℕ) (f : PlainFunction) (
 knows v before waits n f vs frames s calls sound kinds b =
     known v before waits n [] s calls (starts v.code before waits n f vs frames s sound kinds b).0
 
--- the end that is told is the end that there is
+-- the end that is reported is the end that there is
 same_end : (tb : Table) (types : List ℕ) (end other : End) (l m : State) (left k steps j : ℕ) (e : Ended) (new : State) (given : List ℕ) (a : Answer) → Over end l left steps ≡ Over other m k j → EndsJustAs other m e new given → IsSameEnd tb types l left end a → IsMeant tb types e new given a
 same_end tb types end other l m left k steps j e new given a is h same =
     let ends : end ≡ other = cc in
@@ -116,8 +116,8 @@ answers_as_meant source core v before waits n f vs frames s calls e new given h 
     let meant = ends_as_meant source core v.code before waits n f vs frames s calls h kinds b some in
     let just = runs_just v before waits n [] s calls e new given start runs in
     let x = ended (after before (R.plain v.code) just.0 (begun s calls)) e new given just.1 in
-    let told : Ends before (run_code c) s calls x.end x.last x.left x.steps = record { enough = just.0; is = ap (λ (q : R.PlainCode). after before q just.0 (begun s calls)) (read v.code) ∙ x.is } in
-    let once = ends_once c before waits before waits n [] s calls meant.end x.end meant.last x.last meant.left x.left meant.steps x.steps start kinds meant.ends told in
+    let reported : Ends before (run_code c) s calls x.end x.last x.left x.steps = record { enough = just.0; is = ap (λ (q : R.PlainCode). after before q just.0 (begun s calls)) (read v.code) ∙ x.is } in
+    let once = ends_once c before waits before waits n [] s calls meant.end x.end meant.last x.last meant.left x.left meant.steps x.steps start kinds meant.ends reported in
     let types : results c n ≡ f.results = ap results_of b.is in
     subst (λ ts. IsMeant v.code.types ts e new given a) types
     (same_end v.code.types (results c n) meant.end x.end meant.last x.last meant.left x.left meant.steps x.steps e new given a once x.as' meant.same)

@@ -1,4 +1,4 @@
--- A fip entry's run in place, and what a gauge tells of it.
+-- A fip entry's run in place, and what a gauge reports of it.
 -- Idea: what is so of the state after each number of steps is so of each state that the gauge sees.
 use Rattle.std.proofs.Common.{◌≡◌, ◌<◌, ◌≤◌, ◌+◌, ℕ, zero, suc, true, List, [], ◌∷◌, length, map, Some, sym, ap, ap₂, ◌∙◌, subst, arith}
 use Rattle.std.specs.Prelude.{min, max}
@@ -23,9 +23,9 @@ use Rattle.run_loading.proofs.separation_bounds.Falling.{fip_count}
 use Rattle.run_loading.specs.tree_refinement.Runs.{BeginsWith}
 use Rattle.fip_machine.specs.code_verify.Checked.{Checked}
 use Rattle.fip_machine.specs.declared.gauge.Gauge.{Gauge}
-use Rattle.fip_machine.specs.GaugeView.{Tells, TellsRun}
-use Rattle.machine_correctness.specs.Ended.{TellsJustOver}
-use Rattle.machine_correctness.proofs.VerifiedEnds.{tells_just_run}
+use Rattle.fip_machine.specs.GaugeView.{Reports, ReportsRun}
+use Rattle.machine_correctness.specs.Ended.{ReportsJustOver}
+use Rattle.machine_correctness.proofs.VerifiedEnds.{reports_just_run}
 use Rattle.machine_correctness.specs.Gauges.{IsFlat, cells_given}
 use Rattle.machine_correctness.specs.Starts.{IsSoundCode, Begins}
 use Rattle.machine_correctness.proofs.Starting.{read, starts, fip, cells_at_start}
@@ -130,20 +130,20 @@ runs_flat c before waits n f vs s calls m stack t b is k number =
 
 -- ---- the gauge
 
-tells : (r : Run) (g : Gauge) (ss : List Seen) → TellsJustOver r g ss → Tells g ss
-tells (Going s left n) g ss h = absurd h
-tells (Over (Value ws) s left n) g ss h = h
-tells (Over (Trap kind line col) s left n) g ss h = h
-tells (Over Out s left n) g ss h = h
-tells (Over Deep s left n) g ss h = h
-tells (Over Unsound s left n) g ss h = absurd h
+reports : (r : Run) (g : Gauge) (ss : List Seen) → ReportsJustOver r g ss → Reports g ss
+reports (Going s left n) g ss h = absurd h
+reports (Over (Value ws) s left n) g ss h = h
+reports (Over (Trap kind line col) s left n) g ss h = h
+reports (Over Out s left n) g ss h = h
+reports (Over Deep s left n) g ss h = h
+reports (Over Unsound s left n) g ss h = absurd h
 
-pub gauge_flat : (v : Checked) (before waits : Kinds) (n : ℕ) (f : PlainFunction) (vs : Values) (frames : ℕ) (s : State) (calls : ℕ) (stack : Stack) (g : Gauge) → IsSoundCode v.code → AreKinds (plain v.code) before waits → Begins v.code n f vs frames s → is_fip f.kind ≡ true → IsStack (plain v.code) n stack → TellsRun before (R.plain v.code) s calls g → IsFlat g vs f.credits stack
+pub gauge_flat : (v : Checked) (before waits : Kinds) (n : ℕ) (f : PlainFunction) (vs : Values) (frames : ℕ) (s : State) (calls : ℕ) (stack : Stack) (g : Gauge) → IsSoundCode v.code → AreKinds (plain v.code) before waits → Begins v.code n f vs frames s → is_fip f.kind ≡ true → IsStack (plain v.code) n stack → ReportsRun before (R.plain v.code) s calls g → IsFlat g vs f.credits stack
 gauge_flat v before waits n f vs frames s calls stack g sound kinds b k number runs =
     let start = (starts v.code before waits n f vs frames s sound kinds b).0 in
-    let just = tells_just_run v before waits n [] s calls g start runs in
+    let just = reports_just_run v before waits n [] s calls g start runs in
     let ss : List Seen = seen before (R.plain v.code) just.0 (begun s calls) in
-    let t = tells (after before (R.plain v.code) just.0 (begun s calls)) g ss just.1 in
+    let t = reports (after before (R.plain v.code) just.0 (begun s calls)) g ss just.1 in
     let flat : IsFlatRun vs f.credits stack ss = flat_run before (R.plain v.code) s calls vs f.credits stack just.0
     (λ j size. each_cells v.code before waits n f vs frames s calls sound kinds b k j size)
     (λ j. each_frames v.code before waits n f vs frames s calls sound kinds b k j stack number)

@@ -14,8 +14,8 @@ use Rattle.run_loading.proofs.separation.Running.{run_sound}
 use Rattle.fip_machine.specs.declared.gauge.Gauge.{Gauge}
 use Rattle.fip_machine.specs.declared.machine.Ended.{Ended}
 use Rattle.fip_machine.specs.Ending.{IsOver, RunsTo}
-use Rattle.fip_machine.specs.GaugeView.{TellsOver, TellsRun}
-use Rattle.machine_correctness.specs.Ended.{IsOverJust, RunsJustTo, TellsJustOver, TellsJustRun}
+use Rattle.fip_machine.specs.GaugeView.{ReportsOver, ReportsRun}
+use Rattle.machine_correctness.specs.Ended.{IsOverJust, RunsJustTo, ReportsJustOver, ReportsJustRun}
 
 over_just : (r : Run) (e : Ended) (new : State) (given : List ℕ) → ((last : State) (left done : ℕ) → r ≡ Over Unsound last left done → ⊥) → IsOver r e new given → IsOverJust r e new given
 over_just (Going s left n) e new given sound h = h
@@ -25,13 +25,13 @@ over_just (Over Out s left n) e new given sound h = h
 over_just (Over Deep s left n) e new given sound h = h
 over_just (Over Unsound s left n) e new given sound h = sound s left n refl
 
-tells_just : (r : Run) (g : Gauge) (ss : List Seen) → ((last : State) (left done : ℕ) → r ≡ Over Unsound last left done → ⊥) → TellsOver r g ss → TellsJustOver r g ss
-tells_just (Going s left n) g ss sound h = h
-tells_just (Over (Value ws) s left n) g ss sound h = h
-tells_just (Over (Trap kind line col) s left n) g ss sound h = h
-tells_just (Over Out s left n) g ss sound h = h
-tells_just (Over Deep s left n) g ss sound h = h
-tells_just (Over Unsound s left n) g ss sound h = sound s left n refl
+reports_just : (r : Run) (g : Gauge) (ss : List Seen) → ((last : State) (left done : ℕ) → r ≡ Over Unsound last left done → ⊥) → ReportsOver r g ss → ReportsJustOver r g ss
+reports_just (Going s left n) g ss sound h = h
+reports_just (Over (Value ws) s left n) g ss sound h = h
+reports_just (Over (Trap kind line col) s left n) g ss sound h = h
+reports_just (Over Out s left n) g ss sound h = h
+reports_just (Over Deep s left n) g ss sound h = h
+reports_just (Over Unsound s left n) g ss sound h = sound s left n refl
 
 sound_run : (v : Checked) (before waits : Kinds) (n : ℕ) (kept : List ℕ) (s : State) (calls steps : ℕ) → IsStart (plain v.code) before waits n kept s → (last : State) (left done : ℕ) → after before (R.plain v.code) steps (begun s calls) ≡ Over Unsound last left done → ⊥
 sound_run v before waits n kept s calls steps t last left done e =
@@ -42,6 +42,6 @@ pub runs_just : (v : Checked) (before waits : Kinds) (n : ℕ) (kept : List ℕ)
 runs_just v before waits n kept s calls e new given t h =
     (h.0, over_just (after before (R.plain v.code) h.0 (begun s calls)) e new given (sound_run v before waits n kept s calls h.0 t) h.1)
 
-pub tells_just_run : (v : Checked) (before waits : Kinds) (n : ℕ) (kept : List ℕ) (s : State) (calls : ℕ) (g : Gauge) → IsStart (plain v.code) before waits n kept s → TellsRun before (R.plain v.code) s calls g → TellsJustRun before (R.plain v.code) s calls g
-tells_just_run v before waits n kept s calls g t h =
-    (h.0, tells_just (after before (R.plain v.code) h.0 (begun s calls)) g (seen before (R.plain v.code) h.0 (begun s calls)) (sound_run v before waits n kept s calls h.0 t) h.1)
+pub reports_just_run : (v : Checked) (before waits : Kinds) (n : ℕ) (kept : List ℕ) (s : State) (calls : ℕ) (g : Gauge) → IsStart (plain v.code) before waits n kept s → ReportsRun before (R.plain v.code) s calls g → ReportsJustRun before (R.plain v.code) s calls g
+reports_just_run v before waits n kept s calls g t h =
+    (h.0, reports_just (after before (R.plain v.code) h.0 (begun s calls)) g (seen before (R.plain v.code) h.0 (begun s calls)) (sound_run v before waits n kept s calls h.0 t) h.1)

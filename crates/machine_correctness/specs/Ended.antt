@@ -11,7 +11,7 @@ use Rattle.fip_machine.specs.fip_language.Gauge.{Seen}
 use Rattle.fip_machine.specs.declared.gauge.Gauge.{Gauge}
 use Rattle.fip_machine.specs.declared.machine.Ended.{Ended}
 use Rattle.fip_machine.specs.Ending.{EndsAs}
-use Rattle.fip_machine.specs.GaugeView.{Tells}
+use Rattle.fip_machine.specs.GaugeView.{Reports}
 
 -- The end in a last state is what was answered, with the state and the words that are left then.
 abbrev pub EndsJustAs : End → State → Ended → State → List ℕ → Type 0
@@ -30,16 +30,16 @@ abbrev pub RunsJustTo : Kinds → PlainCode → State → ℕ → Ended → Stat
 RunsJustTo kinds code first calls e new given =
     (n : ℕ) × IsOverJust (after kinds code n (begun first calls)) e new given
 
--- The run is over, and the gauge tells of these states.
-abbrev pub TellsJustOver : Run → Gauge → List Seen → Type 0
-TellsJustOver (Going s left n) g ss = ⊥
-TellsJustOver (Over (Value ws) s left n) g ss = Tells g ss
-TellsJustOver (Over (Trap kind line col) s left n) g ss = Tells g ss
-TellsJustOver (Over Out s left n) g ss = Tells g ss
-TellsJustOver (Over Deep s left n) g ss = Tells g ss
-TellsJustOver (Over Unsound s left n) g ss = ⊥
+-- The run is over, and the gauge reports of these states.
+abbrev pub ReportsJustOver : Run → Gauge → List Seen → Type 0
+ReportsJustOver (Going s left n) g ss = ⊥
+ReportsJustOver (Over (Value ws) s left n) g ss = Reports g ss
+ReportsJustOver (Over (Trap kind line col) s left n) g ss = Reports g ss
+ReportsJustOver (Over Out s left n) g ss = Reports g ss
+ReportsJustOver (Over Deep s left n) g ss = Reports g ss
+ReportsJustOver (Over Unsound s left n) g ss = ⊥
 
--- The run from the first state, with so many calls, comes to an end, and the gauge tells of all its states.
-abbrev pub TellsJustRun : Kinds → PlainCode → State → ℕ → Gauge → Type 0
-TellsJustRun kinds code first calls g =
-    (n : ℕ) × TellsJustOver (after kinds code n (begun first calls)) g (seen kinds code n (begun first calls))
+-- The run from the first state, with so many calls, comes to an end, and the gauge reports of all its states.
+abbrev pub ReportsJustRun : Kinds → PlainCode → State → ℕ → Gauge → Type 0
+ReportsJustRun kinds code first calls g =
+    (n : ℕ) × ReportsJustOver (after kinds code n (begun first calls)) g (seen kinds code n (begun first calls))

@@ -1,7 +1,7 @@
--- What a gauge tells of a run in place; what is seen of the states of any run that gives values; and how high the stack
+-- What a gauge reports of a run in place; what is seen of the states of any run that gives values; and how high the stack
 -- of any run is.
 --
--- Of rev of Cons(1, Cons(2, Nil)) and Nil it tells 2 as the lowest and the highest number of cells of size 2, and 0 of
+-- Of rev of Cons(1, Cons(2, Nil)) and Nil it reports 2 as the lowest and the highest number of cells of size 2, and 0 of
 -- each other size; no frame, and 9 words.
 use Rattle.std.specs.Prelude.{◌≡◌, ◌≤◌, ◌+◌, ◌-◌, ℕ, List, slice_index_or}
 use Rattle.fip_machine.specs.fip_language.declared.limits.TheConstants.{MOST_FIELDS}

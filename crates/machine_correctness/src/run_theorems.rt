@@ -1,4 +1,4 @@
-// The laws on runs of an accepted source's code. Each is the contract of a function that does nothing.
+// The theorems on runs of an accepted source's code. Each is the contract of a function that does nothing.
 ghost use Rattle.std.specs.Prelude.{◌≡◌, ◌≢◌, ◌<◌, ◌≤◌, ◌+◌, ℕ, List, [], true, length, map, Some};
 ghost use Rattle.fip_machine.specs.fip_language.Core.{Core};
 ghost use Rattle.fip_machine.specs.fip_language.Meaning.{Deep, Gives, meaning};
@@ -24,7 +24,7 @@ ghost use Rattle.fip_machine.specs.code_verify.Checked.{Checked};
 ghost use Rattle.fip_machine.specs.declared.gauge.Gauge.{Gauge};
 ghost use Rattle.fip_machine.specs.declared.machine.Ended.{Ended};
 ghost use Rattle.fip_machine.specs.Ending.{KnowsRun, RunsTo};
-ghost use Rattle.fip_machine.specs.GaugeView.{TellsRun};
+ghost use Rattle.fip_machine.specs.GaugeView.{ReportsRun};
 ghost use Rattle.run_loading.specs.Loading.{first_store, first_words};
 ghost use Rattle.fip_machine.specs.machine_cells.Small.{store_of};
 ghost use Rattle.value_text.specs.Loaded.{types_of, IsLoaded};
@@ -35,7 +35,7 @@ ghost use Rattle.machine_correctness.specs.Starts.{IsSoundCode, IsCodeOf, Begins
 /// A function of sound code begins on any arguments of its parameters' types, where they lie in a new store. For who
 /// doubts that a run can begin.
 pub fn a_loaded_function_begins()
-    ensures law { (code : Code) (n : ℕ) (f : PlainFunction) (vs : Values) (frames : ℕ) (s : State) →
+    ensures theorem { (code : Code) (n : ℕ) (f : PlainFunction) (vs : Values) (frames : ℕ) (s : State) →
         IsSoundCode code → function_at (plain code) n ≡ Some f →
         HaveTypes code.types (map (λ p. p.ty) f.params) vs →
         loaded (R.plain code) n (first_store vs f.credits) (first_words vs f.credits) frames ≡ Some s →
@@ -45,7 +45,7 @@ pub fn a_loaded_function_begins()
 /// A function begins on the values that a text spells, where they were loaded from it into an empty store, with the
 /// cells of its credits. For who runs a function on the text of its arguments.
 pub fn what_is_loaded_from_a_text_begins()
-    ensures law { (code : Code) (n : ℕ) (f : PlainFunction) (bytes : List ℕ) (old new : Loading) (words : List ℕ)
+    ensures theorem { (code : Code) (n : ℕ) (f : PlainFunction) (bytes : List ℕ) (old new : Loading) (words : List ℕ)
         (frames : ℕ) (s : State) → function_at (plain code) n ≡ Some f → old.cells ≡ [] →
         IsStore (store_of new.cells new.released) →
         (l : IsLoaded code.types (types_of f.params) f.credits bytes old new words) →
@@ -74,7 +74,7 @@ pub fn a_machine_ends_as_the_source_means()
 
 /// Words that stand for values in a state can be printed from its cells. For who prints results.
 pub fn meant_words_can_be_printed()
-    ensures law { (tb : Table) (s : State) (types words : List ℕ) (vs : Values) →
+    ensures theorem { (tb : Table) (s : State) (types words : List ℕ) (vs : Values) →
         AreWordsOf tb s.store types words vs → ArePrintable tb s.store.cells types words vs }
 {}
 
@@ -97,13 +97,13 @@ pub fn a_fip_entry_runs_in_place()
         words_held (state_of (after before (R.plain code) steps (begun s calls))) ≤ stack.words }
 {}
 
-/// What the gauge tells of such a run: for each size the lowest and the highest number of held cells are both those of
+/// What the gauge reports of such a run: for each size the lowest and the highest number of held cells are both those of
 /// the arguments and of the header's credits, and its stack is within the stack number. For who prints the gauge.
 pub fn a_gauge_of_a_fip_entry_is_flat()
-    ensures law { (v : Checked) (before waits : Kinds) (n : ℕ) (f : PlainFunction) (vs : Values) (frames : ℕ)
+    ensures theorem { (v : Checked) (before waits : Kinds) (n : ℕ) (f : PlainFunction) (vs : Values) (frames : ℕ)
         (s : State) (calls : ℕ) (stack : Stack) (g : Gauge) → IsSoundCode v.code →
         AreKinds (plain v.code) before waits → Begins v.code n f vs frames s → is_fip f.kind ≡ true →
-        IsStack (plain v.code) n stack → TellsRun before (R.plain v.code) s calls g → IsFlat g vs f.credits stack }
+        IsStack (plain v.code) n stack → ReportsRun before (R.plain v.code) s calls g → IsFlat g vs f.credits stack }
 {}
 
 /// What is seen of the states of a run that gives values, by the evaluation that the source means: as the lowest number
@@ -112,7 +112,7 @@ pub fn a_gauge_of_a_fip_entry_is_flat()
 /// is said of code whose functions have as many registers as the groups of its program tell. For who computes a gauge
 /// without a run, or asks whether two codes of a source differ in it.
 pub fn a_run_is_measured_by_its_evaluation()
-    ensures law { (source : List ℕ) (core : Core) (code : Code) (before waits : Kinds) (n : ℕ) (f : PlainFunction)
+    ensures theorem { (source : List ℕ) (core : Core) (code : Code) (before waits : Kinds) (n : ℕ) (f : PlainFunction)
         (vs results : Values) (frames : ℕ) (s : State) (calls rest : ℕ) (end : End) (last : State) (left steps : ℕ) →
         (h : IsCodeOf source core code) → AreMembers h.program.instances h.members →
         AreKinds (plain code) before waits → Begins code n f vs frames s → 0 < length f.name →
@@ -126,7 +126,7 @@ pub fn a_run_is_measured_by_its_evaluation()
 /// evaluation that the source means, also where that traps or lacks calls or frames: of each run that has a call. For
 /// who asks how much stack a run took that gave no value.
 pub fn a_run_is_as_high_as_its_evaluation()
-    ensures law { (source : List ℕ) (core : Core) (code : Code) (before waits : Kinds) (n : ℕ) (f : PlainFunction)
+    ensures theorem { (source : List ℕ) (core : Core) (code : Code) (before waits : Kinds) (n : ℕ) (f : PlainFunction)
         (vs : Values) (frames : ℕ) (s : State) (calls : ℕ) (end : End) (last : State) (left steps : ℕ) →
         (h : IsCodeOf source core code) → AreMembers h.program.instances h.members →
         AreKinds (plain code) before waits → Begins code n f vs frames s → 0 < length f.name → 0 < calls →

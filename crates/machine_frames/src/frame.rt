@@ -7,7 +7,7 @@ ghost use Rattle.fip_language.specs.declared.limits.TheConstants.{MOST_FIELDS, M
 ghost use Rattle.fip_language.specs.Store.{Cell};
 ghost use Rattle.machine_semantics.specs.cell_code.Runnable.{AreBelow};
 ghost use Rattle.cell_store.specs.Cells.{cell_at, size_in};
-ghost use Rattle.cell_store.specs.Told.{Told, Overwritten};
+ghost use Rattle.cell_store.specs.Reported.{Reported, Overwritten};
 ghost use Rattle.machine_frames.specs.Keeping.{Keeps, Clears};
 ghost use Rattle.machine_frames.specs.Words.{words_from, put_words, laid_at};
 
@@ -103,7 +103,7 @@ fn put_all<C: Cells>(
     })) }
     ensures released { C.released cells.new ≡ C.released cells.old }
     ensures pushed { C.pushed cells.new ≡ C.pushed cells.old }
-    ensures told { (first : C) (ts : List Told) → C.was_told first ts cells.old → C.was_told first
+    ensures reported { (first : C) (ts : List Reported) → C.was_reported first ts cells.old → C.was_reported first
         (ts ++ Overwritten place tag (words_from base words.now registers.now) ∷ []) cells.new }
 {
     let mut fields = [0; MOST_FIELDS];
@@ -135,7 +135,7 @@ pub fn put<C: Cells>(
     })) }
     ensures released { C.released cells.new ≡ C.released cells.old }
     ensures pushed { C.pushed cells.new ≡ C.pushed cells.old }
-    ensures told { (first : C) (ts : List Told) → C.was_told first ts cells.old → C.was_told first
+    ensures reported { (first : C) (ts : List Reported) → C.was_reported first ts cells.old → C.was_reported first
         (ts ++ Overwritten place tag (words_from base words.now registers.now) ∷ []) cells.new }
 {
     if let [a, b] = registers {

@@ -159,8 +159,8 @@ lowers_with : (s : State) (d : R.Done) (o : Option Store) → length d.words ≡
 lowers_with s d None e = tt
 lowers_with s d (Some store) e =
     let before = all_words s.running s.waiting in
-    let behind = all_words (record { function = s.running.function; at = d.at; words = d.words }) s.waiting in
-    (omega arith, omega (arith, before, behind, e))
+    let following = all_words (record { function = s.running.function; at = d.at; words = d.words }) s.waiting in
+    (omega arith, omega (arith, before, following, e))
 
 lowers_went : (s : State) (d : Option R.Done) → HasWords (length s.running.words) d → Lowers s (went s d)
 lowers_went s None h = tt
@@ -191,8 +191,8 @@ lowers_resumed s w below (Some ws) e h =
     let words : words_held s ≡ sum (map words_of_frame (s.running ∷ w ∷ below)) = ap (λ fs. sum (map words_of_frame (s.running ∷ fs))) e in
     let first = all_words s.running (w ∷ below) in
     let second = all_words w below in
-    let behind = all_words (record { function = w.function; at = w.at + 1; words = ws }) below in
-    (omega (arith, frames), omega (arith, words, first, second, behind, h))
+    let following = all_words (record { function = w.function; at = w.at + 1; words = ws }) below in
+    (omega (arith, frames), omega (arith, words, first, second, following, h))
 
 lowers_returned : (code : PlainCode) (s : State) (waiting : List Frame) (ws : Option (List ℕ)) → s.waiting ≡ waiting → Lowers s (returned code s waiting ws)
 lowers_returned code s waiting None e = tt

@@ -1,4 +1,4 @@
--- What a gauge tells of the states of a run, by its first state, its last one, and each step.
+-- What a gauge reports of the states of a run, by its first state, its last one, and each step.
 use Rattle.std.proofs.Common.{◌≡◌, ℕ, zero, suc, ◌≤◌, min, max, refl, sym, ap, ◌∙◌, subst, arith, List, [], ◌∷◌, map}
 use Rattle.cell_code.specs.fip_language.Gauge.{Seen, lowest, highest, highest_frames, highest_words}
 use Rattle.machine_semantics.specs.Codes.{PlainCode}

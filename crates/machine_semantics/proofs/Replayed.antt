@@ -37,20 +37,20 @@ replay_done : (s t : Store) (n : ℕ) (cs : List Change) (i : ℕ) → nat_le n 
 replay_done s t n [] i on is = some_same s t is
 replay_done s t n (c ∷ cs) i on is = ap (λ b. replay (applied_if b (record { step = n; change = c }) s) (events_of n cs) i) on ∙ replay_first n cs i (λ u v. replay_done u v n cs i on) s t (changed c s) is
 
--- a run whose next step is behind step j
-abbrev pub IsBehind : ℕ → Run → Type 0
-IsBehind j (Going s left k) = j ≤ k
-IsBehind j (Over e s left k) = Unit {0}
+-- a run whose next step is after step j
+abbrev pub IsAfter : ℕ → Run → Type 0
+IsAfter j (Going s left k) = j ≤ k
+IsAfter j (Over e s left k) = Unit {0}
 
-comes_behind : (j k : ℕ) → j ≤ k → (s : State) (left : ℕ) (n : Next) → IsBehind j (comes s left k n)
-comes_behind j k le s left (Went t) = le
-comes_behind j k le s zero (Entered t) = tt
-comes_behind j k le s (suc left) (Entered t) = le
-comes_behind j k le s left (Gave ws) = tt
-comes_behind j k le s left (Trapped kind line col) = tt
-comes_behind j k le s zero TooDeep = tt
-comes_behind j k le s (suc left) TooDeep = tt
-comes_behind j k le s left Stuck = tt
+comes_after : (j k : ℕ) → j ≤ k → (s : State) (left : ℕ) (n : Next) → IsAfter j (comes s left k n)
+comes_after j k le s left (Went t) = le
+comes_after j k le s zero (Entered t) = tt
+comes_after j k le s (suc left) (Entered t) = le
+comes_after j k le s left (Gave ws) = tt
+comes_after j k le s left (Trapped kind line col) = tt
+comes_after j k le s zero TooDeep = tt
+comes_after j k le s (suc left) TooDeep = tt
+comes_after j k le s left Stuck = tt
 
 is_later : (j k : ℕ) → j ≤ k → nat_le (suc k) j ≡ false
 is_later j k le = grind (arith, nat_tests)
@@ -58,12 +58,12 @@ is_later j k le = grind (arith, nat_tests)
 is_earlier : (j k i : ℕ) → j ≡ k + suc i → nat_le (suc k) j ≡ true
 is_earlier j k i is = grind (arith, nat_tests)
 
-unreplayed : (kinds : Kinds) (code : PlainCode) (n : ℕ) (r : Run) (u : Store) (j : ℕ) → IsBehind j r → replay u (events kinds code n r) j ≡ u
+unreplayed : (kinds : Kinds) (code : PlainCode) (n : ℕ) (r : Run) (u : Store) (j : ℕ) → IsAfter j r → replay u (events kinds code n r) j ≡ u
 unreplayed kinds code zero r u j le = refl
 unreplayed kinds code (suc n) (Going s left k) u j le =
     replay_append u (events_of (suc k) (done_changes (changes_of kinds code s) (next kinds code s))) (events kinds code n (later kinds code (Going s left k))) j
     ∙ ap (λ v. replay v (events kinds code n (later kinds code (Going s left k))) j) (replay_later u (suc k) (done_changes (changes_of kinds code s) (next kinds code s)) j (is_later j k le))
-    ∙ unreplayed kinds code n (later kinds code (Going s left k)) u j (comes_behind j (suc k) (omega arith) s left (next kinds code s))
+    ∙ unreplayed kinds code n (later kinds code (Going s left k)) u j (comes_after j (suc k) (omega arith) s left (next kinds code s))
 unreplayed kinds code (suc n) (Over e s left k) u j le = refl
 
 over_replayed : (kinds : Kinds) (code : PlainCode) (n i j : ℕ) (e : End) (s : State) (left k : ℕ) → replay s.store (events kinds code n (Over e s left k)) j ≡ (state_of (after kinds code i (Over e s left k))).store

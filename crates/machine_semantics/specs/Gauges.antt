@@ -1,7 +1,7 @@
 -- The gauge of a run: over all its states from the loaded one to the last, for each size the lowest and the highest
 -- number of cells that are live or credited, the most frames beside the entry's, and the most words of all frames.
 -- rev of Cons(1, Cons(2, Nil)) and Nil has two cells of size 2 in each of its states, no frame, and 9 words.
--- What is seen of each state is told by `lowest`, `highest`, `highest_frames` and `highest_words` of the language's own
+-- What is seen of each state is reported by `lowest`, `highest`, `highest_frames` and `highest_words` of the language's own
 -- definitions, over the list below.
 use Rattle.std.specs.Prelude.{ℕ, zero, suc, List, [], ◌∷◌, map}
 use Rattle.cell_code.specs.fip_language.Gauge.{Seen}

@@ -1,7 +1,7 @@
 -- What comes after a state: the instruction of the running frame is done.
 -- A Call takes a free frame: the running frame waits at it, and the called function's frame has its arguments and then
 -- its credits in the first registers, and 0 in the others. A Tail puts that frame in place of the running one. A Ret
--- gives words to the registers that the Call below names, and that frame goes on behind its Call; from the entry's
+-- gives words to the registers that the Call below names, and that frame goes on after its Call; from the entry's
 -- frame it ends the run.
 -- Where rev's frame has 3, 0, 1, 1 in its first registers and is at Tail 0 [3, 0], the next one is at instruction 0 and
 -- has 1, 3, 0, 0, 0, 0, 0.

@@ -1,5 +1,5 @@
 // Runs of code: what words and cells stand for, what each instruction does, and how a run ends. The definitions are in
-// `specs`; their laws are the contracts of functions that do nothing.
+// `specs`; their theorems are the contracts of functions that do nothing.
 #![tactic(auto)]
 
 mod theorems;

@@ -1,4 +1,4 @@
-// The laws of the definitions. Each is the contract of a function that does nothing.
+// The theorems of the definitions. Each is the contract of a function that does nothing.
 ghost use Rattle.std.specs.Prelude.{◌≡◌, ℕ, ◌≤◌, [], ◌∷◌, Some};
 ghost use Rattle.cell_code.specs.fip_language.Table.{Table};
 ghost use Rattle.cell_code.specs.fip_language.Store.{Placed};
@@ -44,7 +44,7 @@ pub fn a_step_keeps_places_and_sizes()
 /// The tree that a Drop reads out of the store, by its word and type, is one that the word stands for. For who asks
 /// which cells a Drop releases.
 pub fn a_drop_reads_the_tree_of_its_word()
-    ensures law { (types : Table) (s : Store) (t w : ℕ) (x : Placed) → tree_of types s t w ≡ Some x →
+    ensures theorem { (types : Table) (s : Store) (t w : ℕ) (x : Placed) → tree_of types s t w ≡ Some x →
         IsTree types s t w x }
 {}
 
@@ -52,14 +52,14 @@ pub fn a_drop_reads_the_tree_of_its_word()
 /// reads a trace in place of the run.
 #[tactic(auto, using(crate::proofs::Replayed::replay_is))]
 pub fn replay_gives_the_cells()
-    ensures law { (kinds : Kinds) (code : PlainCode) (s : State) (calls n i : ℕ) → i ≤ n →
+    ensures theorem { (kinds : Kinds) (code : PlainCode) (s : State) (calls n i : ℕ) → i ≤ n →
         replay s.store (events kinds code n (begun s calls)) i
         ≡ (state_of (after kinds code i (begun s calls))).store }
 {}
 
 /// Replay of no events gives the loaded cells, whatever the number of steps is. For who reads an empty trace.
 pub fn no_events_change_nothing()
-    ensures law { (s : Store) (i : ℕ) → replay s [] i ≡ s }
+    ensures theorem { (s : Store) (i : ℕ) → replay s [] i ≡ s }
 {}
 
 /// `rev` of two items and none, with 3 calls, gives the reversed list after 11 steps, in the same two cells, whether

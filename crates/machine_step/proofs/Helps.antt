@@ -27,7 +27,7 @@ use Rattle.machine_frames.proofs.Viewed.{first_frame_is, rest_below}
 use Rattle.machine_cells.proofs.Pendings.{same_cell}
 use Rattle.machine_cells.specs.declared.arithmetic.Outcome.{Outcome}
 use Rattle.machine_cells.specs.declared.arithmetic.Outcome.TheVariants as O
-use Rattle.machine_cells.specs.Outcomes.{Tells, truth_word}
+use Rattle.machine_cells.specs.Outcomes.{Reports, truth_word}
 use Rattle.machine_step.specs.declared.rows.Stepped.{Stepped}
 use Rattle.machine_step.specs.Coming.{Comes}
 
@@ -49,23 +49,23 @@ int_word_is (negsuc n) = refl
 pub signed_is : (w : ℕ) → cast_signed w64 w ≡ int_of w
 signed_is w = refl
 
-pub tells_int : (o : Operated) (r : Outcome) (w : ℕ) → Tells o r → r ≡ O.Int w → (u : Value) → o ≡ Is u → scalar_word u ≡ w
-tells_int o r w t e u f = subst (λ q. Tells (Is u) q) e (subst (λ p. Tells p r) f t)
+pub reports_int : (o : Operated) (r : Outcome) (w : ℕ) → Reports o r → r ≡ O.Int w → (u : Value) → o ≡ Is u → scalar_word u ≡ w
+reports_int o r w t e u f = subst (λ q. Reports (Is u) q) e (subst (λ p. Reports p r) f t)
 
-pub tells_int_not : (o : Operated) (r : Outcome) (w : ℕ) → Tells o r → r ≡ O.Int w → (k : TrapKind) → o ≡ Fails k → ⊥
-tells_int_not o r w t e k f = subst (λ q. Tells (Fails k) q) e (subst (λ p. Tells p r) f t)
+pub reports_int_not : (o : Operated) (r : Outcome) (w : ℕ) → Reports o r → r ≡ O.Int w → (k : TrapKind) → o ≡ Fails k → ⊥
+reports_int_not o r w t e k f = subst (λ q. Reports (Fails k) q) e (subst (λ p. Reports p r) f t)
 
-pub tells_flag : (o : Operated) (r : Outcome) (b : Bool) → Tells o r → r ≡ O.Flag b → (u : Value) → o ≡ Is u → scalar_word u ≡ truth_word b
-tells_flag o r b t e u f = subst (λ q. Tells (Is u) q) e (subst (λ p. Tells p r) f t)
+pub reports_flag : (o : Operated) (r : Outcome) (b : Bool) → Reports o r → r ≡ O.Flag b → (u : Value) → o ≡ Is u → scalar_word u ≡ truth_word b
+reports_flag o r b t e u f = subst (λ q. Reports (Is u) q) e (subst (λ p. Reports p r) f t)
 
-pub tells_flag_not : (o : Operated) (r : Outcome) (b : Bool) → Tells o r → r ≡ O.Flag b → (k : TrapKind) → o ≡ Fails k → ⊥
-tells_flag_not o r b t e k f = subst (λ q. Tells (Fails k) q) e (subst (λ p. Tells p r) f t)
+pub reports_flag_not : (o : Operated) (r : Outcome) (b : Bool) → Reports o r → r ≡ O.Flag b → (k : TrapKind) → o ≡ Fails k → ⊥
+reports_flag_not o r b t e k f = subst (λ q. Reports (Fails k) q) e (subst (λ p. Reports p r) f t)
 
-pub tells_trap : (o : Operated) (r : Outcome) (j : TrapKind) → Tells o r → r ≡ O.Trap j → (k : TrapKind) → o ≡ Fails k → j ≡ k
-tells_trap o r j t e k f = subst (λ q. Tells (Fails k) q) e (subst (λ p. Tells p r) f t)
+pub reports_trap : (o : Operated) (r : Outcome) (j : TrapKind) → Reports o r → r ≡ O.Trap j → (k : TrapKind) → o ≡ Fails k → j ≡ k
+reports_trap o r j t e k f = subst (λ q. Reports (Fails k) q) e (subst (λ p. Reports p r) f t)
 
-pub tells_trap_not : (o : Operated) (r : Outcome) (j : TrapKind) → Tells o r → r ≡ O.Trap j → (u : Value) → o ≡ Is u → ⊥
-tells_trap_not o r j t e u f = subst (λ q. Tells (Is u) q) e (subst (λ p. Tells p r) f t)
+pub reports_trap_not : (o : Operated) (r : Outcome) (j : TrapKind) → Reports o r → r ≡ O.Trap j → (u : Value) → o ≡ Is u → ⊥
+reports_trap_not o r j t e u f = subst (λ q. Reports (Is u) q) e (subst (λ p. Reports p r) f t)
 
 pub same_place : (o : Option ℕ) (p q : ℕ) → o ≡ Some p → o ≡ Some q → p ≡ q
 same_place o p q e f = same_Some p q (sym e ∙ f)

@@ -31,10 +31,10 @@ use Rattle.machine_step.specs.declared.rows.Stepped.TheVariants as S
 use Rattle.machine_step.specs.View.{words_of, state_of}
 use Rattle.machine_step.specs.Coming.{Comes, moved}
 use Rattle.machine_step.proofs.Nexts.{went_words, went_branch, went_changes, went_operated, frame_moved, odd_place}
-use Rattle.cell_store.specs.Told.{Overwritten, Released}
-use Rattle.machine_cells.specs.Telling.{as_told}
-use Rattle.machine_step.specs.Telling.{IsKnown, act_tells}
-use Rattle.machine_step.proofs.Tellings.{changing, releases_told}
+use Rattle.cell_store.specs.Reported.{Overwritten, Released}
+use Rattle.machine_cells.specs.Telling.{as_reported}
+use Rattle.machine_step.specs.Telling.{IsKnown, act_reports}
+use Rattle.machine_step.proofs.Tellings.{changing, releases_reported}
 use Rattle.machine_step.proofs.Calls.{written_long}
 
 pub record Known {A B : Type 0} (f : A → Option B) (o : Option A) (y : B) : Type 0 where
@@ -214,10 +214,10 @@ module _ (v : Checked) (b : Bounds) (ks : List Kind) (lent : List Typed) (s : St
       let o = owned x (owned_type (slice_get ks x)) refl cs (ap (λ w. dropped v.code.types old w (owned_type (slice_get ks x))) (sym w) ∙ q.gives) in
       to ∙ ap (λ m. moved (c.at + 1) now (state_of v b lent m ws c)) (f o.0 o.1 u o.2 o.3 (ap (λ cs. changed_by cs s) o.4 ∙ g)))
 
-  -- what the store is told
+  -- what the store is reported
 
-  pub put_told : (x ty k : ℕ) (ss : List ℕ) → x < c.registers → c.base + c.registers ≤ length ws → AreBelow c.registers ss → IsKnown (act (plain v.code) ks old (I.Put x ty k ss)) → (u : Cell) × (cell_in s.cells (word x / 2) ≡ Some u) × (length u.fields ≡ length ss) × (act_tells (plain v.code) ks old (I.Put x ty k ss) ≡ Overwritten (word x / 2) k (words_from c.base ws ss) ∷ [])
-  put_told x ty k ss h l below known =
+  pub put_reported : (x ty k : ℕ) (ss : List ℕ) → x < c.registers → c.base + c.registers ≤ length ws → AreBelow c.registers ss → IsKnown (act (plain v.code) ks old (I.Put x ty k ss)) → (u : Cell) × (cell_in s.cells (word x / 2) ≡ Some u) × (length u.fields ≡ length ss) × (act_reports (plain v.code) ks old (I.Put x ty k ss) ≡ Overwritten (word x / 2) k (words_from c.base ws ss) ∷ [])
+  put_reported x ty k ss h l below known =
       let places = option_and_then (λ w. place_of w) (slice_get now x) in
       let args = words_from c.base ws ss in
       let m = changing old (option_and_then (λ p. option_map (λ us. Write p k us ∷ []) (read_all now ss)) places) known in
@@ -229,10 +229,10 @@ module _ (v : Checked) (b : Bounds) (ks : List Kind) (lent : List Typed) (s : St
       let done : changed_by (Write (word x / 2) k args ∷ []) s ≡ Some m.store = ap (λ cs. changed_by cs s) change ∙ m.goes in
       let z = then_known (λ (m : Store). Some m) (changed (Write (word x / 2) k args) s) m.store done in
       let one = write_known (word x / 2) k args z.value z.is in
-      (one.0, one.1, one.2 ∙ words_long c.base ws ss, m.told ∙ ap (map as_told) (sym change))
+      (one.0, one.1, one.2 ∙ words_long c.base ws ss, m.reported ∙ ap (map as_reported) (sym change))
 
-  pub free_told : (x : ℕ) → x < c.registers → c.base + c.registers ≤ length ws → IsKnown (act (plain v.code) ks old (I.Free x)) → (u : Store) × (changed (Release (word x / 2)) s ≡ Some u) × (act_tells (plain v.code) ks old (I.Free x) ≡ Released (word x / 2) ∷ [])
-  free_told x h l known =
+  pub free_reported : (x : ℕ) → x < c.registers → c.base + c.registers ≤ length ws → IsKnown (act (plain v.code) ks old (I.Free x)) → (u : Store) × (changed (Release (word x / 2)) s ≡ Some u) × (act_reports (plain v.code) ks old (I.Free x) ≡ Released (word x / 2) ∷ [])
+  free_reported x h l known =
       let places = option_and_then (λ w. place_of w) (slice_get now x) in
       let m = changing old (option_map (λ p. Release p ∷ []) places) known in
       let q = map_known (λ p. Release p ∷ []) places m.changes m.are in
@@ -240,12 +240,12 @@ module _ (v : Checked) (b : Bounds) (ks : List Kind) (lent : List Typed) (s : St
       let change : Release (word x / 2) ∷ [] ≡ m.changes = ap (λ p. Release p ∷ []) (sym place) ∙ q.gives in
       let done : changed_by (Release (word x / 2) ∷ []) s ≡ Some m.store = ap (λ cs. changed_by cs s) change ∙ m.goes in
       let z = then_known (λ (m : Store). Some m) (changed (Release (word x / 2)) s) m.store done in
-      (z.value, z.is, m.told ∙ ap (map as_told) (sym change))
+      (z.value, z.is, m.reported ∙ ap (map as_reported) (sym change))
 
-  pub drop_told : (x : ℕ) → x < c.registers → c.base + c.registers ≤ length ws → IsKnown (act (plain v.code) ks old (I.Drop x)) → (ty : ℕ) × (y : Placed) × (u : Store) × (owned_type (slice_get ks x) ≡ Some ty) × (tree_of v.code.types s ty (word x) ≡ Some y) × (changed_by (map (λ p. Release p) (places y)) s ≡ Some u) × (act_tells (plain v.code) ks old (I.Drop x) ≡ map (λ p. Released p) (places y))
-  drop_told x h l known =
+  pub drop_reported : (x : ℕ) → x < c.registers → c.base + c.registers ≤ length ws → IsKnown (act (plain v.code) ks old (I.Drop x)) → (ty : ℕ) × (y : Placed) × (u : Store) × (owned_type (slice_get ks x) ≡ Some ty) × (tree_of v.code.types s ty (word x) ≡ Some y) × (changed_by (map (λ p. Release p) (places y)) s ≡ Some u) × (act_reports (plain v.code) ks old (I.Drop x) ≡ map (λ p. Released p) (places y))
+  drop_reported x h l known =
       let m = changing old (option_and_then (λ w. dropped v.code.types old w (owned_type (slice_get ks x))) (slice_get now x)) known in
       let q = then_known (λ w. dropped v.code.types old w (owned_type (slice_get ks x))) (slice_get now x) m.changes m.are in
       let w : q.value ≡ word x = same_Some q.value (word x) (sym q.is ∙ register_is x h l) in
       let o = owned x (owned_type (slice_get ks x)) refl m.changes (ap (λ w. dropped v.code.types old w (owned_type (slice_get ks x))) (sym w) ∙ q.gives) in
-      (o.0, o.1, m.store, o.2, o.3, ap (λ cs. changed_by cs s) o.4 ∙ m.goes, m.told ∙ ap (map as_told) (sym o.4) ∙ releases_told (places o.1))
+      (o.0, o.1, m.store, o.2, o.3, ap (λ cs. changed_by cs s) o.4 ∙ m.goes, m.reported ∙ ap (map as_reported) (sym o.4) ∙ releases_reported (places o.1))

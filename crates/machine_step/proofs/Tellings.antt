@@ -6,7 +6,7 @@ use Rattle.fip_language.specs.Table.{Table}
 use Rattle.cell_code.specs.declared.code.Instr.{Instr}
 use Rattle.cell_code.specs.declared.code.Instr.TheVariants as I
 use Rattle.cell_code.specs.declared.kind.Kind.{Kind}
-use Rattle.cell_store.specs.Told.{Told, Released}
+use Rattle.cell_store.specs.Reported.{Reported, Released}
 use Rattle.machine_frames.specs.machine_semantics.Codes.{PlainCode}
 use Rattle.machine_frames.specs.machine_semantics.Cells.{Store, Change, Release, changed_by}
 use Rattle.machine_frames.specs.machine_semantics.States.{State, Next, Went, Entered, Gave, Trapped, TooDeep, Stuck}
@@ -14,8 +14,8 @@ use Rattle.machine_frames.specs.machine_semantics.Rows.{on, on_with, branch, cal
 use Rattle.machine_frames.specs.machine_semantics.Words.{scalar_word}
 use Rattle.machine_frames.specs.machine_semantics.Steps.{act, changes_in, went_with, went}
 use Rattle.machine_frames.specs.machine_semantics.Traces.{done_changes}
-use Rattle.machine_cells.specs.Telling.{as_told}
-use Rattle.machine_step.specs.Telling.{IsKnown, act_tells, changes_cells}
+use Rattle.machine_cells.specs.Telling.{as_reported}
+use Rattle.machine_step.specs.Telling.{IsKnown, act_reports, changes_cells}
 
 -- instructions that do nothing to cells
 
@@ -58,11 +58,11 @@ none_done (Trapped kind line col) = refl
 none_done TooDeep = refl
 none_done Stuck = refl
 
-tells_nothing : (code : PlainCode) (ks : List Kind) (s : State) (x : Instr) → changes_cells x ≡ false → act_tells code ks s x ≡ []
-tells_nothing code ks s x e = ap (λ cs. map as_told (done_changes cs (act code ks s x))) (unchanged code.types ks s x e) ∙ ap (map as_told) (none_done (act code ks s x))
+reports_nothing : (code : PlainCode) (ks : List Kind) (s : State) (x : Instr) → changes_cells x ≡ false → act_reports code ks s x ≡ []
+reports_nothing code ks s x e = ap (λ cs. map as_reported (done_changes cs (act code ks s x))) (unchanged code.types ks s x e) ∙ ap (map as_reported) (none_done (act code ks s x))
 
-pub told_nothing : (W : List Told → Type 0) (code : PlainCode) (ks : List Kind) (s : State) (x y : Instr) (ts : List Told) → x ≡ y → changes_cells y ≡ false → W ts → W (ts ++ act_tells code ks s x)
-told_nothing W code ks s x y ts e quiet w = subst W (sym (append-nil ts) ∙ ap (λ us. ts ++ us) (sym (ap (act_tells code ks s) e ∙ tells_nothing code ks s y quiet))) w
+pub reported_nothing : (W : List Reported → Type 0) (code : PlainCode) (ks : List Kind) (s : State) (x y : Instr) (ts : List Reported) → x ≡ y → changes_cells y ≡ false → W ts → W (ts ++ act_reports code ks s x)
+reported_nothing W code ks s x y ts e quiet w = subst W (sym (append-nil ts) ∙ ap (λ us. ts ++ us) (sym (ap (act_reports code ks s) e ∙ reports_nothing code ks s y quiet))) w
 
 -- instructions that do something to cells
 
@@ -71,7 +71,7 @@ pub record Changing (s : State) (o : Option (List Change)) : Type 0 where
   pub store : Store
   pub are : o ≡ Some changes
   pub goes : changed_by changes s.store ≡ Some store
-  pub told : map as_told (done_changes (changes_in (on_with s o)) (went s (on_with s o))) ≡ map as_told changes
+  pub reported : map as_reported (done_changes (changes_in (on_with s o)) (went s (on_with s o))) ≡ map as_reported changes
 
 pub changing : (s : State) (o : Option (List Change)) → IsKnown (went s (on_with s o)) → Changing s o
 changing s None h = absurd h
@@ -84,9 +84,9 @@ changing s (Some cs) h = by (changed_by cs s.store) refl h
       store = u;
       are = refl;
       goes = e;
-      told = ap (λ p. map as_told (done_changes cs (went_with s (record { at = s.running.at + 1; words = s.running.words; changes = cs }) p))) e;
+      reported = ap (λ p. map as_reported (done_changes cs (went_with s (record { at = s.running.at + 1; words = s.running.words; changes = cs }) p))) e;
     }
 
-pub releases_told : (ps : List ℕ) → map as_told (map (λ p. Release p) ps) ≡ map (λ p. Released p) ps
-releases_told [] = refl
-releases_told (p ∷ ps) = ap (λ us. Released p ∷ us) (releases_told ps)
+pub releases_reported : (ps : List ℕ) → map as_reported (map (λ p. Release p) ps) ≡ map (λ p. Released p) ps
+releases_reported [] = refl
+releases_reported (p ∷ ps) = ap (λ us. Released p ∷ us) (releases_reported ps)

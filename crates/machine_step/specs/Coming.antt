@@ -38,9 +38,9 @@ IsNext v b x ks s ws c r t us d given = (lent : List Typed) → Comes (state_of 
     (act (plain v.code) ks (state_of v b lent s ws c) x) r (state_of v b lent t us d) given
 
 -- The next instruction was.
-abbrev pub IsTold : Checked → Bounds → Kinds → Store → List ℕ → Cursor → Stepped → Store → List ℕ → Cursor → List ℕ →
+abbrev pub IsReported : Checked → Bounds → Kinds → Store → List ℕ → Cursor → Stepped → Store → List ℕ → Cursor → List ℕ →
     Type 0
-IsTold v b kinds s ws c r t us d given = (lent : List Typed) → Comes (state_of v b lent s ws c)
+IsReported v b kinds s ws c r t us d given = (lent : List Typed) → Comes (state_of v b lent s ws c)
     (next kinds (plain v.code) (state_of v b lent s ws c)) r (state_of v b lent t us d) given
 
 -- What a Drop releases, by the kinds, is what the verifier knows.

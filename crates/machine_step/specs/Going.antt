@@ -47,9 +47,9 @@ IsDone loop v b kinds x ks s ws c r t us d given = (lent : List Typed) →
     × (loop ≡ false → state_of v b lent t us d ≡ m.mid)
 
 -- The next instruction was, and more may have gone after it.
-abbrev pub IsToldWithMore : Checked → Bounds → Kinds → Store → List ℕ → Cursor → Stepped → Store → List ℕ → Cursor →
+abbrev pub IsReportedWithMore : Checked → Bounds → Kinds → Store → List ℕ → Cursor → Stepped → Store → List ℕ → Cursor →
     List ℕ → Type 0
-IsToldWithMore v b kinds s ws c r t us d given = (lent : List Typed) → ComesWithMore kinds (plain v.code)
+IsReportedWithMore v b kinds s ws c r t us d given = (lent : List Typed) → ComesWithMore kinds (plain v.code)
     (state_of v b lent s ws c) (next kinds (plain v.code) (state_of v b lent s ws c)) r (state_of v b lent t us d) given
 
 -- Some instructions went, and changed this store and these words to others.

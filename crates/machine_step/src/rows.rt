@@ -8,7 +8,7 @@ ghost use Rattle.fip_language.specs.declared.limits.TheConstants.{MOST_FIELDS, M
 ghost use Rattle.fip_language.specs.Matching.{same_int};
 ghost use Rattle.fip_language.specs.Store.{Cell, Placed, places};
 ghost use Rattle.cell_store.specs.Cells.{cell_at, size_in};
-ghost use Rattle.cell_store.specs.Told.{Told, Released};
+ghost use Rattle.cell_store.specs.Reported.{Reported, Released};
 ghost use Rattle.cell_code.specs.Runnable.{AreBelow, CanCall, Covers, Row, IsSafe, IsRunnable, body_of};
 ghost use Rattle.cell_code.specs.declared.kind.Kind.{Kind};
 ghost use Rattle.code_verify.specs.code_rules.Codes as V;
@@ -25,10 +25,10 @@ ghost use Rattle.machine_cells.specs.Outcomes.{truth_word};
 ghost use Rattle.machine_cells.specs.Small.{IsSmall, store_of};
 ghost use Rattle.machine_cells.specs.Counting.{CountsReleased};
 ghost use Rattle.machine_step.specs.Bounding.{AreAtMost, Fits};
-ghost use Rattle.machine_step.specs.Coming.{IsNext, IsTold, KnowsDrop, KnowsAt, moved};
-ghost use Rattle.machine_step.specs.Going.{IsDone, IsGone, IsToldWithMore, Names};
+ghost use Rattle.machine_step.specs.Coming.{IsNext, IsReported, KnowsDrop, KnowsAt, moved};
+ghost use Rattle.machine_step.specs.Going.{IsDone, IsGone, IsReportedWithMore, Names};
 ghost use Rattle.machine_step.specs.Placed.{IsPlaced, IsRoomy, Waiting, body_at, weight};
-ghost use Rattle.machine_step.specs.Telling.{IsKnown, act_tells, next_tells};
+ghost use Rattle.machine_step.specs.Telling.{IsKnown, act_reports, next_reports};
 ghost use Rattle.machine_step.specs.Highest.{IsHigh, IsRaised, IsSame};
 ghost use Rattle.machine_step.specs.View.{words_of, state_of};
 
@@ -488,7 +488,7 @@ fn take_next<'a, C: Cells>(
     }
 }
 
-// Goes on where the register has the constructor, else to the target. Instructions behind it that work on the same cell
+// Goes on where the register has the constructor, else to the target. Instructions after it that work on the same cell
 // are done at once in the loop of a run, so that the cell is looked up once.
 #[inline(always)]
 fn test<'a, C: Cells, const IN_LOOP: bool>(
@@ -685,10 +685,10 @@ fn put_cell<C: Cells>(
     ensures next { (ks : List Kind) (given : List ℕ) (ty : ℕ) → IsSmall (C.cells cells.old) → IsNext verified.now
         bounds (Instr.Put register ty constructor fields.now) ks (store_of (C.cells cells.old) (C.released cells.old))
         words.now cursor.old result (store_of (C.cells cells.new) (C.released cells.new)) words.now cursor.new given }
-    ensures told { (ks : List Kind) (lent : List Typed) (ty : ℕ) → IsSmall (C.cells cells.old) → IsKnown (act (plain
+    ensures reported { (ks : List Kind) (lent : List Typed) (ty : ℕ) → IsSmall (C.cells cells.old) → IsKnown (act (plain
         verified.now.code) ks (state_of verified.now bounds lent (store_of (C.cells cells.old) (C.released cells.old))
-        words.now cursor.old) (Instr.Put register ty constructor fields.now)) → (first : C) (ts : List Told) →
-        C.was_told first ts cells.old → C.was_told first (ts ++ act_tells (plain verified.now.code) ks (state_of
+        words.now cursor.old) (Instr.Put register ty constructor fields.now)) → (first : C) (ts : List Reported) →
+        C.was_reported first ts cells.old → C.was_reported first (ts ++ act_reports (plain verified.now.code) ks (state_of
         verified.now bounds lent (store_of (C.cells cells.old) (C.released cells.old)) words.now cursor.old)
         (Instr.Put register ty constructor fields.now)) cells.new }
     ensures counted { (freed : List ℕ) → CountsReleased (C.cells cells.old) (C.released cells.old) freed (C.cells
@@ -1051,11 +1051,11 @@ fn drop_tree<C: Cells>(
         store_of (C.cells cells.new) (C.released cells.new) ≡ s }
     ensures counted { CountsReleased (C.cells cells.old) (C.released cells.old) beside.old.freed (C.cells cells.new)
         (C.released cells.new) beside.new.freed }
-    ensures told { (t : ℕ) → ReleasesAt (V.plain verified.now.code) cursor.now.function cursor.now.at t →
+    ensures reported { (t : ℕ) → ReleasesAt (V.plain verified.now.code) cursor.now.function cursor.now.at t →
         IsSmall (C.cells cells.old) → C.pushed cells.old ≡ [] → (x : Placed) (s : Store) →
         tree_of verified.now.code.types (store_of (C.cells cells.old) (C.released cells.old)) t word ≡ Some x →
         changed_by (map (λ p. Release p) (places x)) (store_of (C.cells cells.old) (C.released cells.old)) ≡ Some s →
-        (first : C) (ts : List Told) → C.was_told first ts cells.old → C.was_told first
+        (first : C) (ts : List Reported) → C.was_reported first ts cells.old → C.was_reported first
         (ts ++ map (λ p. Released p) (places x)) cells.new }
 {
     if let Some(ty) = verified.drop_type(cursor.function, cursor.at) {
@@ -1101,11 +1101,11 @@ fn act<'a, C: Cells, const IN_LOOP: bool>(
         (C.cells cells.old) → C.pushed cells.old ≡ [] → IsDone IN_LOOP verified.now bounds kinds instr.now ks
         (store_of (C.cells cells.old) (C.released cells.old)) words.old cursor.old result (store_of (C.cells
         cells.new) (C.released cells.new)) words.new cursor.new (take beside.new.given beside.new.results) }
-    ensures told { (ks : List Kind) (lent : List Typed) → KnowsDrop verified.now cursor.old instr.now ks → IN_LOOP ≡
+    ensures reported { (ks : List Kind) (lent : List Typed) → KnowsDrop verified.now cursor.old instr.now ks → IN_LOOP ≡
         false → IsSmall (C.cells cells.old) → C.pushed cells.old ≡ [] → IsKnown (act (plain verified.now.code) ks
         (state_of verified.now bounds lent (store_of (C.cells cells.old) (C.released cells.old)) words.old cursor.old)
-        instr.now) → (first : C) (ts : List Told) → C.was_told first ts cells.old → C.was_told first
-        (ts ++ act_tells (plain verified.now.code) ks (state_of verified.now bounds lent (store_of (C.cells
+        instr.now) → (first : C) (ts : List Reported) → C.was_reported first ts cells.old → C.was_reported first
+        (ts ++ act_reports (plain verified.now.code) ks (state_of verified.now bounds lent (store_of (C.cells
         cells.old) (C.released cells.old)) words.old cursor.old) instr.now) cells.new }
     ensures counted { IN_LOOP ≡ false → CountsReleased (C.cells cells.old) (C.released cells.old) beside.old.freed
         (C.cells cells.new) (C.released cells.new) beside.new.freed }
@@ -1257,7 +1257,7 @@ fn act<'a, C: Cells, const IN_LOOP: bool>(
     }
 }
 
-/// Does the instruction that is next; in the loop of a run also some that work on the same register or cell behind it,
+/// Does the instruction that is next; in the loop of a run also some that work on the same register or cell after it,
 /// each of which goes on. The loop and a single step have each a copy of it, so that each copy has one caller and is
 /// inlined there: in the loop the cursor is then registers of the processor.
 #[inline(always)]
@@ -1283,18 +1283,18 @@ pub fn advance<'a, C: Cells, const IN_LOOP: bool>(
     ensures small { IsSmall (C.cells cells.old) → IsSmall (C.cells cells.new) }
     ensures pushed { C.pushed cells.old ≡ [] → C.pushed cells.new ≡ [] }
     ensures next { (kinds : Kinds) → KnowsAt verified.now kinds cursor.old.function cursor.old.at → IN_LOOP ≡ false →
-        IsSmall (C.cells cells.old) → C.pushed cells.old ≡ [] → IsTold verified.now bounds kinds (store_of (C.cells
+        IsSmall (C.cells cells.old) → C.pushed cells.old ≡ [] → IsReported verified.now bounds kinds (store_of (C.cells
         cells.old) (C.released cells.old)) words.old cursor.old result (store_of (C.cells cells.new) (C.released
         cells.new)) words.new cursor.new (take beside.new.given beside.new.results) }
     ensures more { (kinds : Kinds) → KnowsAt verified.now kinds cursor.old.function cursor.old.at →
-        IsSmall (C.cells cells.old) → C.pushed cells.old ≡ [] → IsToldWithMore verified.now bounds kinds (store_of
+        IsSmall (C.cells cells.old) → C.pushed cells.old ≡ [] → IsReportedWithMore verified.now bounds kinds (store_of
         (C.cells cells.old) (C.released cells.old)) words.old cursor.old result (store_of (C.cells cells.new)
         (C.released cells.new)) words.new cursor.new (take beside.new.given beside.new.results) }
-    ensures told { (kinds : Kinds) (lent : List Typed) → KnowsAt verified.now kinds cursor.old.function cursor.old.at →
+    ensures reported { (kinds : Kinds) (lent : List Typed) → KnowsAt verified.now kinds cursor.old.function cursor.old.at →
         IN_LOOP ≡ false → IsSmall (C.cells cells.old) → C.pushed cells.old ≡ [] → IsKnown (next kinds (plain
         verified.now.code) (state_of verified.now bounds lent (store_of (C.cells cells.old) (C.released cells.old))
-        words.old cursor.old)) → (first : C) (ts : List Told) → C.was_told first ts cells.old → C.was_told first
-        (ts ++ next_tells kinds (plain verified.now.code) (state_of verified.now bounds lent (store_of (C.cells
+        words.old cursor.old)) → (first : C) (ts : List Reported) → C.was_reported first ts cells.old → C.was_reported first
+        (ts ++ next_reports kinds (plain verified.now.code) (state_of verified.now bounds lent (store_of (C.cells
         cells.old) (C.released cells.old)) words.old cursor.old)) cells.new }
     ensures counted { IN_LOOP ≡ false → CountsReleased (C.cells cells.old) (C.released cells.old) beside.old.freed
         (C.cells cells.new) (C.released cells.new) beside.new.freed }

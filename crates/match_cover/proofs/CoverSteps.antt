@@ -37,14 +37,14 @@ use Rattle.fip_language.proofs.Facts.{append_nil as append_none}
 
 pub row_reached : (tb : Table) (i : ℕ) (before : List Pattern) (at : Place) (q : Pattern) (b : Bool) (o : Option Violation) → AnswersReached tb before q b → b ≡ true → NotesRow tb i before at q o o
 row_reached tb i before at q b o a e t m =
-    let tells = a t (match_front tb t before (q ∷ []) m) (match_last tb t before q m) in
-    gathers_none o (Unreached tb i at t before q) (Reached tb t before q) (λ v h. h.0 (tells.0 e)) (tells.0 e)
+    let reports = a t (match_front tb t before (q ∷ []) m) (match_last tb t before q m) in
+    gathers_none o (Unreached tb i at t before q) (Reached tb t before q) (λ v h. h.0 (reports.0 e)) (reports.0 e)
 
 pub row_unreached : (r : Result (Unit {0}) NoMemory) (tb : Table) (i : ℕ) (before : List Pattern) (at : Place) (q : Pattern) (b : Bool) (o p : Option Violation) → AnswersReached tb before q b → b ≡ false → OnOk r (p ≡ better o (violation E41 at i 0 [])) → OnOk r (NotesRow tb i before at q o p)
 row_unreached (Err x) tb i before at q b o p a e n = tt
 row_unreached (Ok x) tb i before at q b o p a e n = λ t m.
-    let tells = a t (match_front tb t before (q ∷ []) m) (match_last tb t before q m) in
-    gathers_one o p (violation E41 at i 0 []) (Unreached tb i at t before q) (Reached tb t before q) n (tells.1 e, refl) (λ v h. h.1)
+    let reports = a t (match_front tb t before (q ∷ []) m) (match_last tb t before q m) in
+    gathers_one o p (violation E41 at i 0 []) (Unreached tb i at t before q) (Reached tb t before q) n (reports.1 e, refl) (λ v h. h.1)
 
 -- ---- the clauses of a match
 
@@ -83,8 +83,8 @@ all_fit tb t rows f v h = step (some_fits rows v) refl where
 
 pub none_missed : (tb : Table) (i : ℕ) (at : Place) (t : ℕ) (rows : List Pattern) (b : Bool) (o : Option Violation) → AnswersMissed tb rows b → b ≡ false → NotesMissed tb i at t rows o o
 none_missed tb i at t rows b o a e m =
-    let tells = a t m in
-    gathers_none o (Uncovered tb i at t rows) (AllFit tb t rows) (λ v h. tells.1 e h.0) (all_fit tb t rows (tells.1 e))
+    let reports = a t m in
+    gathers_none o (Uncovered tb i at t rows) (AllFit tb t rows) (λ v h. reports.1 e h.0) (all_fit tb t rows (reports.1 e))
 
 pub some_missed : (r : Result (Unit {0}) NoMemory) (tb : Table) (i : ℕ) (at : Place) (t : ℕ) (rows : List Pattern) (b : Bool) (text : List ℕ) (o p : Option Violation) → AnswersMissed tb rows b → b ≡ true → SaysMissing tb t rows text → OnOk r (p ≡ better o (violation E40 at i 0 text)) → OnOk r (NotesMissed tb i at t rows o p)
 some_missed (Err x) tb i at t rows b text o p a e s n = tt

@@ -11,7 +11,7 @@ use Rattle.match_knowledge.specs.declared.heads.Head.TheVariants.{Number, Tag}
 use Rattle.match_knowledge.specs.ValueHeads.{same_head, IsHead}
 use Rattle.match_knowledge.specs.Patterns.{Pattern, Any, Test}
 use Rattle.match_knowledge.specs.Known.{Known, Open, Is, is_in, agree_all}
-use Rattle.match_knowledge.specs.Left.{Left, IsMatch, IsSearch, Tells}
+use Rattle.match_knowledge.specs.Left.{Left, IsMatch, IsSearch, Reports}
 use Rattle.match_knowledge.proofs.Facts.{same_refl, both_and}
 use Rattle.match_knowledge.proofs.Fewer.{rows_most}
 use Rattle.match_knowledge.proofs.Fresh.{fresh}
@@ -46,7 +46,7 @@ tried_search tb root rows at t here h fs m p i = record {
 }
 
 -- what a try says
-says : (tb : Table) (root : ℕ) (rows : List Pattern) (at : Known → Known) (t : ℕ) (here : List Pattern) (h : Head) (fs : List ℕ) (b : Bool) → IsMatch tb root rows → IsPosition tb root rows at t here → IsHead tb t h fs → Tried tb rows at h fs b → Tells b (Left tb root rows (at (Is h (open_fields fs))))
+says : (tb : Table) (root : ℕ) (rows : List Pattern) (at : Known → Known) (t : ℕ) (here : List Pattern) (h : Head) (fs : List ℕ) (b : Bool) → IsMatch tb root rows → IsPosition tb root rows at t here → IsHead tb t h fs → Tried tb rows at h fs b → Reports b (Left tb root rows (at (Is h (open_fields fs))))
 says tb root rows at t here h fs b m p i a = a root (tried_search tb root rows at t here h fs m p i)
 
 pub record Chosen (tb : Table) (root : ℕ) (rows : List Pattern) (at : Known → Known) (t : ℕ) (h : Head) : Type 0 where

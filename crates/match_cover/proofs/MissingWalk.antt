@@ -144,11 +144,11 @@ same_knowns [] (y ∷ ys) e = cc
 same_knowns (x ∷ xs) [] e = cc
 same_knowns (x ∷ xs) (y ∷ ys) e = ap₂ (λ a b. a ∷ b) (let z : x ≡ y = cc in z) (same_knowns xs ys (let z : knowns_of xs ≡ knowns_of ys = cc in z))
 
-field_context : (fs : List Frame) (f : Frame) (h : Head) (done : List Pattern) (rest : List ℕ) → f.head ≡ h → knowns f.before.items ≡ all_known (patterns_of done) → knowns f.behind.items ≡ open_fields rest → placed (levels (fs ++ f ∷ [])) ≡ (λ k. inner (λ ks. placed (levels fs) (Is h ks)) (knowns_after done) (MoreKnowns k (open_fields rest)))
+field_context : (fs : List Frame) (f : Frame) (h : Head) (done : List Pattern) (rest : List ℕ) → f.head ≡ h → knowns f.before.items ≡ all_known (patterns_of done) → knowns f.following.items ≡ open_fields rest → placed (levels (fs ++ f ∷ [])) ≡ (λ k. inner (λ ks. placed (levels fs) (Is h ks)) (knowns_after done) (MoreKnowns k (open_fields rest)))
 field_context fs f h done rest a b c =
     let at : Head → Knowns → Known = (λ g ks. placed (levels fs) (Is g ks)) in
     let xs = map known f.before.items in
-    let ys = map known f.behind.items in
+    let ys = map known f.following.items in
     let before : xs ≡ knowns_after done = same_knowns xs (knowns_after done) (b ∙ known_parts done) in
     let e1 : placed (levels (fs ++ f ∷ [])) ≡ Around (at f.head) xs ys = ap placed (levels_more fs f) ∙ placed_more (levels fs) (level f) in
     let e2 : Around (at f.head) xs ys ≡ Inside (at f.head) xs (knowns_of ys) = around (at f.head) xs ys in
@@ -158,7 +158,7 @@ field_context fs f h done rest a b c =
     e1 ∙ e2 ∙ e3 ∙ e4 ∙ e5
 
 pub fields_next : (tb : Table) (rows : List Pattern) (fr : List Frame) (f : Frame) (h : Head) (fs : List ℕ) (here below : List Pattern) (done : List Pattern) (j t : ℕ) (q : Pattern) →
-    length done ≡ j → j < length fs → t ≡ get_or fs j t → f.head ≡ h → knowns f.before.items ≡ all_known (patterns_of done) → knowns f.behind.items ≡ open_fields (drop (j + 1) fs) → below ≡ rows_below h j here →
+    length done ≡ j → j < length fs → t ≡ get_or fs j t → f.head ≡ h → knowns f.before.items ≡ all_known (patterns_of done) → knowns f.following.items ≡ open_fields (drop (j + 1) fs) → below ≡ rows_below h j here →
     FindsMissing tb rows (placed (levels (fr ++ f ∷ []))) t below q →
     FindsFirst tb rows (λ ks. placed (levels fr) (Is h ks)) fs (fields_at h here) done (drop j fs) → FindsFirst tb rows (λ ks. placed (levels fr) (Is h ks)) fs (fields_at h here) (done ++ q ∷ []) (drop (j + 1) fs)
 fields_next tb rows fr f h fs here below done j t q n l g a b c w found first =
@@ -207,7 +207,7 @@ row_count (p ∷ ps) = ap suc (row_count ps)
 
 -- one field more, in the code's words
 pub field_found : (tb : Table) (rows : List Pattern) (fr at pushed : List Frame) (f : Frame) (h : Head) (fs : List ℕ) (here : List Pattern) (below lent : List (Bor Row)) (parts next : List Row) (p : Row) (j t : ℕ) →
-    at ≡ fr → pushed ≡ at ++ f ∷ [] → next ≡ parts ++ p ∷ [] → length parts ≡ j → j < length fs → t ≡ get_or fs j t → f.head ≡ h → knowns f.before.items ≡ all_known (patterns_of (map row parts)) → knowns f.behind.items ≡ open_fields (drop (j + 1) fs) → lent_rows below ≡ rows_below h j here → lent ≡ below →
+    at ≡ fr → pushed ≡ at ++ f ∷ [] → next ≡ parts ++ p ∷ [] → length parts ≡ j → j < length fs → t ≡ get_or fs j t → f.head ≡ h → knowns f.before.items ≡ all_known (patterns_of (map row parts)) → knowns f.following.items ≡ open_fields (drop (j + 1) fs) → lent_rows below ≡ rows_below h j here → lent ≡ below →
     FindsMissing tb rows (placed (levels pushed)) t (lent_rows lent) (row p) →
     FindsFirst tb rows (λ ks. placed (levels fr) (Is h ks)) fs (fields_at h here) (map row parts) (drop j fs) → FindsFirst tb rows (λ ks. placed (levels fr) (Is h ks)) fs (fields_at h here) (map row next) (drop (j + 1) fs)
 field_found tb rows fr at pushed f h fs here below lent parts next p j t e1 e2 e3 n l g a b c w v found first =

@@ -109,7 +109,7 @@ has_tail (NoPatterns ∷ here) p ps (inr m) = has_tail here p ps m
 has_tail (MorePatterns q qs ∷ here) p ps (inl x) = inl (let s : ps ≡ qs = cc in s)
 has_tail (MorePatterns q qs ∷ here) p ps (inr m) = inr (has_tail here p ps m)
 
--- the first of some fields, and the fields behind it
+-- the first of some fields, and the fields after it
 pub first_weaker : (here : List Patterns) (w w' : Value) (vs : Values) → Weaker (heads here) w w' → WeakerAll here (More w vs) (More w' vs)
 first_weaker here w w' vs f NoPatterns m e = cc
 first_weaker here w w' vs f (MorePatterns p ps) m e = let r = and_both (fits p w') (fit_all ps vs) e in both_and (fits p w) (fit_all ps vs) (f p (has_head here p ps m) r.0) r.1

@@ -1,4 +1,4 @@
--- The tree grows as its law says.
+-- The tree grows as its theorem says.
 use Rattle.std.proofs.Common.{◌≡◌, ℕ, zero, suc, ◌+◌, ◌-◌, ◌<◌, List, [], ◌∷◌, get_or, Option, Some, None, Bool, true, false, refl, sym, ap, ap₂, ◌∙◌, subst, arith}
 use Rattle.std.specs.Prelude.{if◌then◌else◌, slice_get}
 use Rattle.match_knowledge.specs.declared.rows.Row.{Row}
@@ -45,15 +45,15 @@ fuel (suc f) (suc g) tb rs k a b = by_next (fuel f g tb rs) (first_live 0 rs k) 
 if_same : (b c : Bool) (x y : Decision) → b ≡ c → (if b then x else y) ≡ (if c then x else y)
 if_same b c x y e = ap (λ z. if z then x else y) e
 
-split_law : (tb : Table) (rs : List Pattern) (k : Known) (i : ℕ) (p : Pattern) → slice_get rs i ≡ Some p → compare p k ≡ Asks → first_live 0 rs k ≡ Split p → tree_at tb rs k ≡ (if is_last tb p k then tree_at tb rs (side true p k) else Branch (position p k) (asked (Tag 0) p k) (tree_at tb rs (side true p k)) (tree_at tb rs (side false p k)))
-split_law tb rs k i p s a e =
+split_theorem : (tb : Table) (rs : List Pattern) (k : Known) (i : ℕ) (p : Pattern) → slice_get rs i ≡ Some p → compare p k ≡ Asks → first_live 0 rs k ≡ Split p → tree_at tb rs k ≡ (if is_last tb p k then tree_at tb rs (side true p k) else Branch (position p k) (asked (Tag 0) p k) (tree_at tb rs (side true p k)) (tree_at tb rs (side false p k)))
+split_theorem tb rs k i p s a e =
     ap (tree_from (tree (row_tests rs k) tb rs) tb k) e ∙
     ap₂ (λ x y. if is_last tb p k then x else Branch (position p k) (asked (Tag 0) p k) x y)
     (fuel (row_tests rs k) (suc (row_tests rs (side true p k))) tb rs (side true p k) (rows_fewer true p i rs k s a) (omega arith))
     (fuel (row_tests rs k) (suc (row_tests rs (side false p k))) tb rs (side false p k) (rows_fewer false p i rs k s a) (omega arith))
 
-pub done_law : (tb : Table) (rs : List Pattern) (k : Known) (i : ℕ) → first_live 0 rs k ≡ Done i → tree_at tb rs k ≡ Leaf i
-done_law tb rs k i e = ap (tree_from (tree (row_tests rs k) tb rs) tb k) e
+pub done_theorem : (tb : Table) (rs : List Pattern) (k : Known) (i : ℕ) → first_live 0 rs k ≡ Done i → tree_at tb rs k ≡ Leaf i
+done_theorem tb rs k i e = ap (tree_from (tree (row_tests rs k) tb rs) tb k) e
 
 abbrev pub Splits : List Row → Known → ℕ → Row → Type 0
 Splits ps k i r = (slice_get (rows ps) i ≡ Some (row r)) × (compare (row r) k ≡ Asks) × (first_live 0 (rows ps) k ≡ Split (row r))
@@ -68,11 +68,11 @@ less_arm ps k k' b i r h e s =
     let x = split_row ps k i r h e in
     subst (λ z. row_tests (rows ps) z < row_tests (rows ps) k) (sym s) (rows_fewer b (row r) i (rows ps) k x.0 x.1)
 
-last_law : (tb : Table) (ps : List Row) (k : Known) (i : ℕ) (r : Row) → Splits ps k i r → is_last tb (row r) k ≡ true → tree_at tb (rows ps) k ≡ tree_at tb (rows ps) (side true (row r) k)
-last_law tb ps k i r x l = split_law tb (rows ps) k i (row r) x.0 x.1 x.2 ∙ if_same (is_last tb (row r) k) true (tree_at tb (rows ps) (side true (row r) k)) (Branch (position (row r) k) (asked (Tag 0) (row r) k) (tree_at tb (rows ps) (side true (row r) k)) (tree_at tb (rows ps) (side false (row r) k))) l
+last_theorem : (tb : Table) (ps : List Row) (k : Known) (i : ℕ) (r : Row) → Splits ps k i r → is_last tb (row r) k ≡ true → tree_at tb (rows ps) k ≡ tree_at tb (rows ps) (side true (row r) k)
+last_theorem tb ps k i r x l = split_theorem tb (rows ps) k i (row r) x.0 x.1 x.2 ∙ if_same (is_last tb (row r) k) true (tree_at tb (rows ps) (side true (row r) k)) (Branch (position (row r) k) (asked (Tag 0) (row r) k) (tree_at tb (rows ps) (side true (row r) k)) (tree_at tb (rows ps) (side false (row r) k))) l
 
-branch_law : (tb : Table) (ps : List Row) (k : Known) (i : ℕ) (r : Row) → Splits ps k i r → is_last tb (row r) k ≡ false → tree_at tb (rows ps) k ≡ Branch (position (row r) k) (asked (Tag 0) (row r) k) (tree_at tb (rows ps) (side true (row r) k)) (tree_at tb (rows ps) (side false (row r) k))
-branch_law tb ps k i r x l = split_law tb (rows ps) k i (row r) x.0 x.1 x.2 ∙ if_same (is_last tb (row r) k) false (tree_at tb (rows ps) (side true (row r) k)) (Branch (position (row r) k) (asked (Tag 0) (row r) k) (tree_at tb (rows ps) (side true (row r) k)) (tree_at tb (rows ps) (side false (row r) k))) l
+branch_theorem : (tb : Table) (ps : List Row) (k : Known) (i : ℕ) (r : Row) → Splits ps k i r → is_last tb (row r) k ≡ false → tree_at tb (rows ps) k ≡ Branch (position (row r) k) (asked (Tag 0) (row r) k) (tree_at tb (rows ps) (side true (row r) k)) (tree_at tb (rows ps) (side false (row r) k))
+branch_theorem tb ps k i r x l = split_theorem tb (rows ps) k i (row r) x.0 x.1 x.2 ∙ if_same (is_last tb (row r) k) false (tree_at tb (rows ps) (side true (row r) k)) (Branch (position (row r) k) (asked (Tag 0) (row r) k) (tree_at tb (rows ps) (side true (row r) k)) (tree_at tb (rows ps) (side false (row r) k))) l
 
 is_grown : (tb : Table) (rs : List Pattern) (k k' : Known) (n : ℕ) (o : Option Grown) → tree_at tb rs k ≡ tree_at tb rs k' → IsGrown tb rs k' n o → IsGrown tb rs k n o
 is_grown tb rs k k' n None e h = subst (λ z. n < branches z) (sym e) h
@@ -81,18 +81,18 @@ is_grown tb rs k k' n (Some g) e h = (h.0 ∙ sym e, ap (λ z. g.left + branches
 pub last_arm : (tb : Table) (ps : List Row) (k k' : Known) (i : ℕ) (r : Row) (n : ℕ) (o : Option Grown) (l : Bool) → IsSplit (rows ps) k i → r ≡ get_or ps i r → k' ≡ side true (row r) k → l ≡ is_last tb (row r) k → l ≡ true → IsGrown tb (rows ps) k' n o → IsGrown tb (rows ps) k n o
 last_arm tb ps k k' i r n o l h e s a b g =
     let x = split_row ps k i r h e in
-    is_grown tb (rows ps) k k' n o (last_law tb ps k i r x (sym a ∙ b) ∙ ap (tree_at tb (rows ps)) (sym s)) g
+    is_grown tb (rows ps) k k' n o (last_theorem tb ps k i r x (sym a ∙ b) ∙ ap (tree_at tb (rows ps)) (sym s)) g
 
 -- how many branches there are
 pub count_arm : (tb : Table) (ps : List Row) (k y z : Known) (i : ℕ) (r : Row) (l : Bool) → IsSplit (rows ps) k i → r ≡ get_or ps i r → l ≡ is_last tb (row r) k → l ≡ false → y ≡ side true (row r) k → z ≡ side false (row r) k → branches (tree_at tb (rows ps) k) ≡ suc (branches (tree_at tb (rows ps) y) + branches (tree_at tb (rows ps) z))
 count_arm tb ps k y z i r l h e a b s t =
     let x = split_row ps k i r h e in
-    ap branches (branch_law tb ps k i r x (sym a ∙ b)) ∙ ap₂ (λ u v. suc (branches (tree_at tb (rows ps) u) + branches (tree_at tb (rows ps) v))) (sym s) (sym t)
+    ap branches (branch_theorem tb ps k i r x (sym a ∙ b)) ∙ ap₂ (λ u v. suc (branches (tree_at tb (rows ps) u) + branches (tree_at tb (rows ps) v))) (sym s) (sym t)
 
 pub tree_arm : (tb : Table) (ps : List Row) (k y z : Known) (i : ℕ) (r : Row) (l : Bool) (u v : Decision) (at : Position) (q : Head) → IsSplit (rows ps) k i → r ≡ get_or ps i r → l ≡ is_last tb (row r) k → l ≡ false → y ≡ side true (row r) k → z ≡ side false (row r) k → u ≡ tree_at tb (rows ps) y → v ≡ tree_at tb (rows ps) z → at ≡ position (row r) k → q ≡ asked (Tag 0) (row r) k → Branch at q u v ≡ tree_at tb (rows ps) k
 tree_arm tb ps k y z i r l u v at q h e a b s t f g m n =
     let x = split_row ps k i r h e in
-    ap₂ (λ a b. Branch a b u v) m n ∙ ap₂ (Branch (position (row r) k) (asked (Tag 0) (row r) k)) (f ∙ ap (tree_at tb (rows ps)) s) (g ∙ ap (tree_at tb (rows ps)) t) ∙ sym (branch_law tb ps k i r x (sym a ∙ b))
+    ap₂ (λ a b. Branch a b u v) m n ∙ ap₂ (Branch (position (row r) k) (asked (Tag 0) (row r) k)) (f ∙ ap (tree_at tb (rows ps)) s) (g ∙ ap (tree_at tb (rows ps)) t) ∙ sym (branch_theorem tb ps k i r x (sym a ∙ b))
 
 pub none_arm : (tb : Table) (rs : List Pattern) (k y z : Known) (n : ℕ) (o : Option Grown) → branches (tree_at tb rs k) ≡ suc (branches (tree_at tb rs y) + branches (tree_at tb rs z)) → 0 < n → IsGrown tb rs y (n - 1) o → o ≡ None → n < branches (tree_at tb rs k)
 none_arm tb rs k y z n None e h g x = omega arith

@@ -1,7 +1,7 @@
 -- E40, a match with a value that no clause matches; E41, a clause by which no value is matched first.
 -- Example: data ints { Nil; Cons(int, ints) }. The clauses Nil and Cons(_, Cons(_, _)) leave the values Cons(i, Nil),
 -- so the match breaks E40 with the text Cons(_, Nil). Of _, 1 the second clause breaks E41. Of 0, 1, 2 the match breaks
--- E40 with the text 3: literals never are all of int. Behind Cons(0, _) a clause Cons(_, Nil) is reached.
+-- E40 with the text 3: literals never are all of int. After Cons(0, _) a clause Cons(_, Nil) is reached.
 use Rattle.std.specs.Prelude.{◌⊎◌, ℕ, suc, List, [], ◌∷◌, ◌++◌}
 use Rattle.fip_language.specs.Values.{Value}
 use Rattle.fip_language.specs.Table.{Table, HasType}
@@ -17,7 +17,7 @@ pub use Rattle.match_cover.specs.MatchFaults.{Uncovered, Unreached, AllFit}
 
 -- ---- what is broken, in instance i
 
--- E41 at one of these clauses, each behind those before it
+-- E41 at one of these clauses, each after those before it
 abbrev pub SomeUnreached : Table → ℕ → ℕ → List Pattern → List Named → Violation → Type 0
 SomeUnreached tb i t before [] v = ⊥
 SomeUnreached tb i t before (p ∷ ps) v =

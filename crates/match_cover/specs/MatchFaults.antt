@@ -65,7 +65,7 @@ abbrev pub Uncovered : Table → ℕ → Place → ℕ → List Pattern → Viol
 Uncovered tb i p t rows v =
     Missed tb t rows × (q : Pattern) × IsMissingOf tb t rows q × (v ≡ violation E40 p i 0 (pattern_text tb q))
 
--- E41 at the place of a clause behind these rows
+-- E41 at the place of a clause after these rows
 abbrev pub Unreached : Table → ℕ → Place → ℕ → List Pattern → Pattern → Violation → Type 0
 Unreached tb i at t before p v = (Reached tb t before p → ⊥) × (v ≡ violation E41 at i 0 [])
 

@@ -28,7 +28,7 @@ pub record Match : Type 0 where
 abbrev pub rows_of : Match → List Pattern
 rows_of m = map erased m.clauses
 
--- as they stand in the text: none stands behind a later one
+-- as they stand in the text: none stands after a later one
 abbrev pub NoneBefore : Match → List Match → Type 0
 NoneBefore m [] = Unit {0}
 NoneBefore m (n ∷ ns) = (m.place.at ≤ n.place.at) × NoneBefore m ns

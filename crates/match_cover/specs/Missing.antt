@@ -32,15 +32,15 @@ abbrev pub rows_below : Head → ℕ → List Pattern → List Pattern
 rows_below h j [] = []
 rows_below h j (p ∷ ps) = put_part (part_below h j p) (rows_below h j ps)
 
--- a node above a position: its head, and what is known of its fields before and behind the one that leads there
+-- a node above a position: its head, and what is known of its fields before and after the one that leads there
 pub record Level : Type 0 where
   pub head : Head
   pub before : List Known
-  pub behind : List Known
+  pub following : List Known
 
 -- what is known of the node, with k known of that field
 abbrev pub inside : Level → Known → Known
-inside l k = Is l.head (knowns_of (l.before ++ k ∷ l.behind))
+inside l k = Is l.head (knowns_of (l.before ++ k ∷ l.following))
 
 -- what is known at the root, with k known below these nodes, the outermost first
 abbrev pub placed : List Level → Known → Known

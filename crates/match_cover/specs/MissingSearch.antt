@@ -100,7 +100,7 @@ abbrev pub head_fields : Table → ℕ → Head → List ℕ
 head_fields tb t (Number i) = []
 head_fields tb t (Tag c) = shape_fields (constructors tb t) c
 
--- the fields behind some of which this is known
+-- the fields after some of which this is known
 abbrev pub inner : (Knowns → Known) → List Known → Knowns → Known
 inner at [] = at
 inner at (k ∷ ks) = inner (λ r. at (MoreKnowns k r)) ks

@@ -20,12 +20,12 @@ abbrev pub lent_rows : List (Bor Row) → List Pattern
 lent_rows rs = map (λ r. row r.now) rs
 
 abbrev pub level : Frame → Level
-level f = record { head = f.head; before = map known f.before.items; behind = map known f.behind.items }
+level f = record { head = f.head; before = map known f.before.items; following = map known f.following.items }
 
 abbrev pub levels : List Frame → List Level
 levels fs = map level fs
 
--- the text of the parts of a pattern from the j-th on: what comes before a part, and behind the last of j
+-- the text of the parts of a pattern from the j-th on: what comes before a part, and after the last of j
 abbrev pub part_sign : ℕ → List ℕ
 part_sign zero = 40 ∷ []
 part_sign (suc j) = 44 ∷ 32 ∷ []

@@ -22,7 +22,7 @@ abbrev mutual
   parts_text tb NoPatterns = []
   parts_text tb (MorePatterns p ps) = 40 ∷ pattern_text tb p ++ more_text tb ps
 
-  -- the parts behind a part
+  -- the parts after a part
   pub more_text : Table → Patterns → List ℕ
   more_text tb NoPatterns = 41 ∷ []
   more_text tb (MorePatterns p ps) = 44 ∷ 32 ∷ pattern_text tb p ++ more_text tb ps

@@ -159,7 +159,7 @@ impl Site<'_> {
         Ok(())
     }
 
-    // E41: no value is matched first by the clause. Its pattern is put behind those of the clauses before it.
+    // E41: no value is matched first by the clause. Its pattern is put after those of the clauses before it.
     fn note_clause(
         &self,
         clause: &Clause,

@@ -22,12 +22,12 @@ use fip_base::table::{Constructor, TypeTable};
 use match_knowledge::{Head, Knowledge, Row, all_known, copy, left, open, same_head};
 use std::alloc::Global;
 
-// A node above a position: its head, and what is known of its fields before and behind the one that leads there.
+// A node above a position: its head, and what is known of its fields before and after the one that leads there.
 #[derive(Drop)]
 struct Frame {
     head: Head,
     before: Vec<Knowledge>,
-    behind: Vec<Knowledge>,
+    following: Vec<Knowledge>,
 }
 
 // A match at hand: the types, and the patterns of its clauses.
@@ -110,11 +110,11 @@ impl<'a> Search<'a> {
         let mut parts = Vec::new(self.alloc);
         for (j, field) in fields.iter().enumerate() {
             let before = all_known(self.alloc, &parts)?;
-            let behind = open_fields(self.alloc, behind(fields, j))?;
+            let following = open_fields(self.alloc, following(fields, j))?;
             at.push(Frame {
                 head,
                 before,
-                behind,
+                following,
             })?;
             let below = rows_below(self.alloc, here, &head, j)?;
             let part = self.missing_at(at, *field, &below)?;
@@ -206,8 +206,8 @@ fn fields_of<'a>(types: &'a TypeTable, ty: u32, head: &Head) -> &'a [u32]
     }
 }
 
-// The types of the fields behind the j-th.
-fn behind(fields: &[u32], j: usize) -> &[u32]
+// The types of the fields after the j-th.
+fn following(fields: &[u32], j: usize) -> &[u32]
     requires { j < length fields.now }
     ensures { result.now ≡ drop (j + 1) fields.now }
 {
@@ -291,7 +291,7 @@ fn placed(alloc: Global, at: &[Frame], k: Knowledge) -> Result<Knowledge, NoMemo
     Ok(k)
 }
 
-// Behind these, as much is known as of others.
+// After these, as much is known as of others.
 fn with_copies(
     alloc: Global,
     first: Vec<Knowledge>,
@@ -312,7 +312,7 @@ fn inside(alloc: Global, frame: &Frame, k: Knowledge) -> Result<Knowledge, NoMem
 {
     let mut fields = with_copies(alloc, Vec::new(alloc), &frame.before)?;
     fields.push(k)?;
-    let fields = with_copies(alloc, fields, &frame.behind)?;
+    let fields = with_copies(alloc, fields, &frame.following)?;
     Ok(Knowledge::Is(frame.head, fields))
 }
 
@@ -371,7 +371,7 @@ fn put_sign(j: usize, text: &mut Vec<u8>) -> Result<(), NoMemory>
     Ok(())
 }
 
-// Puts what stands behind so many parts.
+// Puts what stands after so many parts.
 fn put_end(count: usize, text: &mut Vec<u8>) -> Result<(), NoMemory>
     ensures { OnOk result (text.new.items ≡ text.old.items ++ last_sign count) }
 {

@@ -77,7 +77,7 @@ fn is_large(first: &Clause, others: &[Clause]) -> bool
     }
 }
 
-// How many more nodes there may be behind a pattern; none where it has more than so many itself.
+// How many more nodes there may be after a pattern; none where it has more than so many itself.
 #[cycle(nodes)]
 fn nodes_left(pattern: &Pattern, most: usize) -> Option<usize>
     ensures { MatchOption result (most < pattern_nodes (erased pattern.now))

@@ -1,4 +1,4 @@
-// Laws of coverage.
+// Theorems of coverage.
 ghost use Rattle.std.specs.Prelude.{◌≡◌, ℕ, List};
 ghost use Rattle.fip_language.specs.Table.{Table};
 ghost use Rattle.match_knowledge.specs.ValueHeads.{IsTidy};

@@ -10,9 +10,9 @@ use Rattle.fip_base.specs.fip_language.Table.{Table}
 use Rattle.match_knowledge.specs.ValueHeads.{IsTidy}
 use Rattle.match_knowledge.specs.Patterns.{Pattern, AreRows}
 use Rattle.match_knowledge.specs.Known.{Known, compare, side, is_last, row_tests}
-use Rattle.match_knowledge.specs.Left.{Left, Tells, HasVerdict, AllMiss, IsChoice, next, HasRoom, IsSearch}
+use Rattle.match_knowledge.specs.Left.{Left, Reports, HasVerdict, AllMiss, IsChoice, next, HasRoom, IsSearch}
 use Rattle.match_knowledge.specs.View.{row, rows}
-use Rattle.match_knowledge.proofs.RowFacts.{next_is, next_nothing, nothing_left, covered_left, side_left, split_tells, last_left, side_room}
+use Rattle.match_knowledge.proofs.RowFacts.{next_is, next_nothing, nothing_left, covered_left, side_left, split_reports, last_left, side_room}
 use Rattle.match_knowledge.proofs.Fewer.{rows_fewer}
 use Rattle.match_knowledge.proofs.Steps.{at_row, row_at}
 
@@ -37,27 +37,27 @@ less_arm ps k k' b i r h e s =
     let x = same_row ps k i r h e in
     subst (λ z. row_tests (rows ps) z < row_tests (rows ps) k) (sym s) (rows_fewer b (row r) i (rows ps) k x.0 x.1)
 
-pub covered_arm : (tb : Table) (t : ℕ) (rs : List Pattern) (k : Known) → AreRows tb t rs → HasRoom tb t rs k → (i : ℕ) × HasVerdict Fits rs k i → Tells false (Left tb t rs k)
+pub covered_arm : (tb : Table) (t : ℕ) (rs : List Pattern) (k : Known) → AreRows tb t rs → HasRoom tb t rs k → (i : ℕ) × HasVerdict Fits rs k i → Reports false (Left tb t rs k)
 covered_arm tb t rs k q m h = (λ e. absurd (let z : false ≡ true = e in cc), λ e. covered_left tb t rs k h.0 q m h.1)
 
-pub nothing_arm : (tb : Table) (t : ℕ) (rs : List Pattern) (k : Known) → HasRoom tb t rs k → AllMiss rs k → Tells true (Left tb t rs k)
+pub nothing_arm : (tb : Table) (t : ℕ) (rs : List Pattern) (k : Known) → HasRoom tb t rs k → AllMiss rs k → Reports true (Left tb t rs k)
 nothing_arm tb t rs k m h = (λ e. nothing_left tb t rs k m h, λ e. absurd (let z : true ≡ false = e in cc))
 
-pub yes_arm : (tb : Table) (t : ℕ) (ps : List Row) (k k' : Known) (i : ℕ) (r : Row) (f : Bool) → HasVerdict Asks (rows ps) k i → r ≡ get_or ps i r → k' ≡ side true (row r) k → Tells f (Left tb t (rows ps) k') → f ≡ true → Tells true (Left tb t (rows ps) k)
+pub yes_arm : (tb : Table) (t : ℕ) (ps : List Row) (k k' : Known) (i : ℕ) (r : Row) (f : Bool) → HasVerdict Asks (rows ps) k i → r ≡ get_or ps i r → k' ≡ side true (row r) k → Reports f (Left tb t (rows ps) k') → f ≡ true → Reports true (Left tb t (rows ps) k)
 yes_arm tb t ps k k' i r f h e s g z =
     let x = same_row ps k i r h e in
     (λ w. side_left tb t (rows ps) true (row r) k x.1 (subst (Left tb t (rows ps)) s (g.0 z)), λ w. absurd (let z : true ≡ false = w in cc))
 
-pub last_arm : (tb : Table) (t : ℕ) (ps : List Row) (k k' : Known) (i : ℕ) (r : Row) (f l : Bool) → AreRows tb t (rows ps) → HasRoom tb t (rows ps) k → HasVerdict Asks (rows ps) k i → r ≡ get_or ps i r → k' ≡ side true (row r) k → Tells f (Left tb t (rows ps) k') → f ≡ false → l ≡ is_last tb (row r) k → l ≡ true → Tells false (Left tb t (rows ps) k)
+pub last_arm : (tb : Table) (t : ℕ) (ps : List Row) (k k' : Known) (i : ℕ) (r : Row) (f l : Bool) → AreRows tb t (rows ps) → HasRoom tb t (rows ps) k → HasVerdict Asks (rows ps) k i → r ≡ get_or ps i r → k' ≡ side true (row r) k → Reports f (Left tb t (rows ps) k') → f ≡ false → l ≡ is_last tb (row r) k → l ≡ true → Reports false (Left tb t (rows ps) k)
 last_arm tb t ps k k' i r f l q m h e s g z a b =
     let x = same_row ps k i r h e in
-    split_tells tb t (rows ps) (row r) k false x.1 (λ u. g.1 z (subst (Left tb t (rows ps)) (sym s) u))
+    split_reports tb t (rows ps) (row r) k false x.1 (λ u. g.1 z (subst (Left tb t (rows ps)) (sym s) u))
     (λ w. absurd (let z : false ≡ true = w in cc), λ w. last_left tb t (rows ps) i (row r) k q m x.0 x.1 (sym a ∙ b))
 
-pub no_arm : (tb : Table) (t : ℕ) (ps : List Row) (k k' k'' : Known) (i : ℕ) (r : Row) (f b : Bool) → HasVerdict Asks (rows ps) k i → r ≡ get_or ps i r → k' ≡ side true (row r) k → Tells f (Left tb t (rows ps) k') → f ≡ false → k'' ≡ side false (row r) k → Tells b (Left tb t (rows ps) k'') → Tells b (Left tb t (rows ps) k)
+pub no_arm : (tb : Table) (t : ℕ) (ps : List Row) (k k' k'' : Known) (i : ℕ) (r : Row) (f b : Bool) → HasVerdict Asks (rows ps) k i → r ≡ get_or ps i r → k' ≡ side true (row r) k → Reports f (Left tb t (rows ps) k') → f ≡ false → k'' ≡ side false (row r) k → Reports b (Left tb t (rows ps) k'') → Reports b (Left tb t (rows ps) k)
 no_arm tb t ps k k' k'' i r f b h e s g z n o =
     let x = same_row ps k i r h e in
-    split_tells tb t (rows ps) (row r) k b x.1 (λ u. g.1 z (subst (Left tb t (rows ps)) (sym s) u)) (subst (λ y. Tells b (Left tb t (rows ps) y)) n o)
+    split_reports tb t (rows ps) (row r) k b x.1 (λ u. g.1 z (subst (Left tb t (rows ps)) (sym s) u)) (subst (λ y. Reports b (Left tb t (rows ps) y)) n o)
 
 pub next_arm : (ps : List Row) (k : Known) (c d : Choice) (w : Verdict) (i j n : ℕ) (r : Row) → j < length ps → i ≡ j → r ≡ get_or ps j r → w ≡ compare (row r) k → d ≡ next c w i n → IsChoice (rows ps) k c → IsChoice (rows ps) k d
 next_arm ps k c d w i j n r l p e v s h =

@@ -7,7 +7,7 @@ use Rattle.fip_base.specs.fip_language.Table.{Table, HasType}
 use Rattle.match_knowledge.specs.ValueHeads.{IsTidy, AllHaveValues, head, children, same_head}
 use Rattle.match_knowledge.specs.Patterns.{Pattern, Any, Test, Patterns, NoPatterns, MorePatterns, fits, fit_all, IsPattern, ArePatterns}
 use Rattle.match_knowledge.specs.Known.{Known, Open, agrees, agree_all, both, compare, compare_all, Alive, AllAlive}
-use Rattle.match_knowledge.specs.Left.{Left, Tells, HasRoom, IsSearch, Missed, Reached, known_of, all_known, IsMatch}
+use Rattle.match_knowledge.specs.Left.{Left, Reports, HasRoom, IsSearch, Missed, Reached, known_of, all_known, IsMatch}
 use Rattle.match_knowledge.proofs.Facts.{same_refl, and_both, both_and}
 use Rattle.match_knowledge.proofs.VerdictFacts.{fit}
 use Rattle.match_knowledge.proofs.Living.{head_values}
@@ -55,14 +55,14 @@ open_search tb t rows k m e = record { tidy = m.tidy; typed = m.typed; room = op
 pub pattern_search : (tb : Table) (t : ℕ) (rows : List Pattern) (p : Pattern) (k : Known) → IsMatch tb t rows → IsPattern tb t p → k ≡ known_of p → IsSearch tb t rows k
 pattern_search tb t rows p k m q e = record { tidy = m.tidy; typed = m.typed; room = pattern_room tb t rows p k m q e }
 
-pub missed_tells : (tb : Table) (t : ℕ) (rows : List Pattern) (k : Known) (b : Bool) → k ≡ Open [] → Tells b (Left tb t rows k) → Tells b (Missed tb t rows)
-missed_tells tb t rows k b e h = (
+pub missed_reports : (tb : Table) (t : ℕ) (rows : List Pattern) (k : Known) (b : Bool) → k ≡ Open [] → Reports b (Left tb t rows k) → Reports b (Missed tb t rows)
+missed_reports tb t rows k b e h = (
   λ z. let u = h.0 z in (u.0, u.1, u.3),
   λ z u. h.1 z (u.0, u.1, subst (λ k. agrees k u.0 ≡ true) (sym e) refl, u.2),
 )
 
-pub reached_tells : (tb : Table) (t : ℕ) (rows : List Pattern) (p : Pattern) (k : Known) (b : Bool) → IsMatch tb t rows → IsPattern tb t p → k ≡ known_of p → Tells b (Left tb t rows k) → Tells b (Reached tb t rows p)
-reached_tells tb t rows p k b m q e h = (
+pub reached_reports : (tb : Table) (t : ℕ) (rows : List Pattern) (p : Pattern) (k : Known) (b : Bool) → IsMatch tb t rows → IsPattern tb t p → k ≡ known_of p → Reports b (Left tb t rows k) → Reports b (Reached tb t rows p)
+reached_reports tb t rows p k b m q e h = (
   λ z. let u = h.0 z in (u.0, u.1, fit tb 0 t p (known_of p) u.0 q (known_alive tb 0 t p m.tidy m.inhabited q) u.1 (self p) (subst (λ k. agrees k u.0 ≡ true) e u.2), u.3),
   λ z u. h.1 z (u.0, u.1, subst (λ k. agrees k u.0 ≡ true) (sym e) (fit_agrees p u.0 u.2), u.3),
 )

@@ -10,7 +10,7 @@ use Rattle.fip_base.specs.fip_language.Table.{Table}
 use Rattle.match_knowledge.specs.ValueHeads.{IsTidy}
 use Rattle.match_knowledge.specs.Patterns.{Pattern, fits, some_fits, IsPattern, AreRows}
 use Rattle.match_knowledge.specs.Known.{Known, agrees, compare, side, has_asked, is_last}
-use Rattle.match_knowledge.specs.Left.{Left, Tells, HasVerdict, AllMiss, IsChoice, better, next, HasRoom}
+use Rattle.match_knowledge.specs.Left.{Left, Reports, HasVerdict, AllMiss, IsChoice, better, next, HasRoom}
 use Rattle.match_knowledge.proofs.Facts.{not_both}
 use Rattle.match_knowledge.proofs.VerdictFacts.{misses, fit}
 use Rattle.match_knowledge.proofs.Split.{to_side, from_side}
@@ -101,8 +101,8 @@ side_room tb t rows b i p k y q r s e d =
     (suc r.0, omega (arith, r.1, f), side_alive tb r.0 t b p k y (omega (arith, r.1, f)) (row_typed tb t rows i p q s) r.2 e d)
 
 -- what the two sides tell together
-pub split_tells : (tb : Table) (t : ℕ) (rows : List Pattern) (p : Pattern) (k : Known) (b : Bool) → compare p k ≡ Asks → (Left tb t rows (side true p k) → ⊥) → Tells b (Left tb t rows (side false p k)) → Tells b (Left tb t rows k)
-split_tells tb t rows p k b e f g = (λ z. side_left tb t rows false p k e (g.0 z), λ z u. elim_sides (sides_left tb t rows p k e u) (g.1 z)) where
+pub split_reports : (tb : Table) (t : ℕ) (rows : List Pattern) (p : Pattern) (k : Known) (b : Bool) → compare p k ≡ Asks → (Left tb t rows (side true p k) → ⊥) → Reports b (Left tb t rows (side false p k)) → Reports b (Left tb t rows k)
+split_reports tb t rows p k b e f g = (λ z. side_left tb t rows false p k e (g.0 z), λ z u. elim_sides (sides_left tb t rows p k e u) (g.1 z)) where
   elim_sides : (Left tb t rows (side true p k) ⊎ Left tb t rows (side false p k)) → (Left tb t rows (side false p k) → ⊥) → ⊥
   elim_sides (inl h) n = f h
   elim_sides (inr h) n = n h

@@ -12,8 +12,8 @@ use Rattle.match_knowledge.specs.declared.unmatched.Choice.TheVariants.{Covered,
 use Rattle.match_knowledge.specs.Known.{Known, compare, row_tests, Alive}
 pub use Rattle.match_knowledge.specs.Unmatched.{Left, Missed, Reached, known_of, all_known}
 
-abbrev pub Tells : Bool → Type 0 → Type 0
-Tells b P = (b ≡ true → P) × (b ≡ false → P → ⊥)
+abbrev pub Reports : Bool → Type 0 → Type 0
+Reports b P = (b ≡ true → P) × (b ≡ false → P → ⊥)
 
 -- a row with this verdict
 abbrev pub HasVerdict : Verdict → List Pattern → Known → ℕ → Type 0
@@ -56,7 +56,7 @@ pub record IsSearch (tb : Table) (t : ℕ) (rows : List Pattern) (k : Known) : T
 
 -- an answer to the search
 abbrev pub AnswersLeft : Table → List Pattern → Known → Bool → Type 0
-AnswersLeft tb rows k b = (t : ℕ) → IsSearch tb t rows k → Tells b (Left tb t rows k)
+AnswersLeft tb rows k b = (t : ℕ) → IsSearch tb t rows k → Reports b (Left tb t rows k)
 
 -- what is asked of a match before its rows are looked at
 pub record IsMatch (tb : Table) (t : ℕ) (rows : List Pattern) : Type 0 where
@@ -67,8 +67,8 @@ pub record IsMatch (tb : Table) (t : ℕ) (rows : List Pattern) : Type 0 where
 
 -- whether a match misses a value
 abbrev pub AnswersMissed : Table → List Pattern → Bool → Type 0
-AnswersMissed tb rows b = (t : ℕ) → IsMatch tb t rows → Tells b (Missed tb t rows)
+AnswersMissed tb rows b = (t : ℕ) → IsMatch tb t rows → Reports b (Missed tb t rows)
 
--- whether a pattern is reached behind some rows
+-- whether a pattern is reached after some rows
 abbrev pub AnswersReached : Table → List Pattern → Pattern → Bool → Type 0
-AnswersReached tb before p b = (t : ℕ) → IsMatch tb t before → IsPattern tb t p → Tells b (Reached tb t before p)
+AnswersReached tb before p b = (t : ℕ) → IsMatch tb t before → IsPattern tb t p → Reports b (Reached tb t before p)

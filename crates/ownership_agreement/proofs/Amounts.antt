@@ -10,7 +10,7 @@ use Rattle.credit_check.specs.fip_trees.Tree.{Pattern, BinderPattern, LiteralPat
 use Rattle.credit_check.specs.fip_trees.Tree.{Expression, Give, Tuple, Operation, Call, Match, Nested, Block, Last, Let, Clauses, NoClauses, MoreClauses}
 use Rattle.fip_rules.specs.Marks.{Mark}
 use Rattle.fip_rules.specs.World.{world, lends}
-use Rattle.fip_rules.specs.Shapes.{Names, behind, binders, shape}
+use Rattle.fip_rules.specs.Shapes.{Names, following, binders, shape}
 use Rattle.credit_check.specs.Needs as N
 use Rattle.credit_check.specs.Needs.{made, made_all, marked, asked, takes, need, need_block, need_clauses}
 use Rattle.ownership_calculus.specs.Terms as T
@@ -168,7 +168,7 @@ lent_seen_none : (sc : Scalars) (o : Option ℕ) (k : ℕ) → lent_used_up (var
 lent_seen_none sc None k = refl
 lent_seen_none sc (Some i) k = lent_var_none i k (sc i)
 
--- a constructor in a borrowed position: b tells whether its type is scalar
+-- a constructor in a borrowed position: b reports whether its type is scalar
 built_made : (k : ℕ) → 0 < k → (b : Bool) (sc : Scalars) (ms : List Mark) (as' : Arguments) → (b ≡ true → as' ≡ NoArguments) → lent_used_up (if b then T.Scalar else T.Built (values sc ms as')) (Credit k) ≡ one_if (count as' == k) + made_all k as'
 built_made k h true sc ms as' f = sym (ap (λ xs. one_if (count xs == k) + made_all k xs) (f refl) ∙ zero_none k h)
 built_made k h false sc ms as' f = same_sum (paid (size (values sc ms as')) (Credit k)) (all_used_up (values sc ms as') (Credit k)) (one_if (count as' == k)) (made_all k as') (ap (λ m. paid m (Credit k)) (size_values sc ms as') ∙ paid_at (count as') k h) (values_made k h sc ms as')
@@ -252,7 +252,7 @@ mutual
   block_need k h p f sc c (Last e) s = term_need k h p f sc c e s
   block_need k h p f sc c (Let bs e rest) s =
       let w = world p f in
-      let d = behind c (shape w c e) in
+      let d = following c (shape w c e) in
       let l = term_need k h p f sc c e s.0 in
       let r = block_need k h p f (entering w d.next sc bs) (inside w true d bs) rest s.1 in
       omega arith
@@ -286,7 +286,7 @@ mutual
   block_out k h p f sc c (Last e) s = term_out k h p f sc c e s
   block_out k h p f sc c (Let bs e rest) s =
       let w = world p f in
-      let d = behind c (shape w c e) in
+      let d = following c (shape w c e) in
       let l = term_out k h p f sc c e s.0 in
       let r = block_out k h p f (entering w d.next sc bs) (inside w true d bs) rest s.1 in
       omega arith

@@ -8,7 +8,7 @@ use Rattle.fip_rules.specs.Shape as S
 use Rattle.fip_rules.specs.Rules.{owns, Ordered}
 use Rattle.fip_rules.specs.Notes.{always}
 use Rattle.fip_rules.specs.World.{World}
-use Rattle.fip_rules.specs.Shapes.{Names, Bind, mark, binds, within, behind, taking, binders, clause_shape, shape_block, shape_clauses}
+use Rattle.fip_rules.specs.Shapes.{Names, Bind, mark, binds, within, following, taking, binders, clause_shape, shape_block, shape_clauses}
 use Rattle.ownership_calculus.specs.Terms as C
 use Rattle.ownership_calculus.specs.Terms.{has, paid, Own}
 use Rattle.ownership_calculus.specs.Clean.{used_up, asks_lent, asks_taken}
@@ -122,7 +122,7 @@ all_inside w taken c sc bs f x l = all_past w c.next sc bs f x (let e = past_ins
 
 pub done_ordered : (w : World) (taken : Bool) (c : Names) (done : S.Shape) (cs : Clauses) → Ordered c.next (shape_clauses w taken c done cs) → Ordered c.next done
 done_ordered w taken c done NoClauses h = h
-done_ordered w taken c done (MoreClauses q body cs) h = (done_ordered w taken c (S.Either done (clause_shape (behind c done) (taking w taken (binders q)) (λ d. shape_block w d body))) cs h).0
+done_ordered w taken c done (MoreClauses q body cs) h = (done_ordered w taken c (S.Either done (clause_shape (following c done) (taking w taken (binders q)) (λ d. shape_block w d body))) cs h).0
 
 pub binds_owns : (n x : ℕ) (bs : List Bind) (e : S.Shape) → owns x (binds n bs e) ≡ owns x e
 binds_owns n x [] e = refl

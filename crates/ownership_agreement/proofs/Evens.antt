@@ -11,7 +11,7 @@ use Rattle.credit_check.specs.fip_trees.Least.{violation}
 use Rattle.credit_check.specs.fip_trees.Tree.{Expression, Give, Tuple, Operation, Call, Match, Nested, Block, Last, Let, Clauses, NoClauses, MoreClauses, Pattern, Instance, Program, pattern_place, Argument}
 use Rattle.fip_rules.specs.Marks.{Mark}
 use Rattle.fip_rules.specs.World.{world, is_fip}
-use Rattle.fip_rules.specs.Shapes.{Names, behind, binders, shape}
+use Rattle.fip_rules.specs.Shapes.{Names, following, binders, shape}
 use Rattle.credit_check.specs.Needs as N
 use Rattle.credit_check.specs.Needs.{marked, takes, need_block, need_clause}
 use Rattle.credit_check.specs.Credits.{Less, Unused, Differ, Breaks, BreaksBlock, BreaksClauses, BreaksInstance}
@@ -88,13 +88,13 @@ even_asks b m (T.MoreClauses ys ks e cs) d k = let z = (even_more b m ys ks e cs
 -- ---- one clause
 
 -- m is what f says of sizes, and 0 elsewhere
-abbrev Tells : (ℕ → ℕ) → (ℕ → ℕ) → Type 0
-Tells m f = ((k : ℕ) → 0 < k → k < 17 → m k ≡ f k) × ((k : ℕ) → IsOut k → m k ≡ 0)
+abbrev Reports : (ℕ → ℕ) → (ℕ → ℕ) → Type 0
+Reports m f = ((k : ℕ) → 0 < k → k < 17 → m k ≡ f k) × ((k : ℕ) → IsOut k → m k ≡ 0)
 
 abbrev OnSizes : (ℕ → Type 0) → Type 0
 OnSizes P = (k : ℕ) → 0 < k → k < 17 → P k
 
-alike_forth : (a g m A G F : ℕ → ℕ) → Tells a A → Tells g G → Tells m F → ((k : ℕ) → (g k ≤ a k) × (a k - g k ≡ m k)) → OnSizes (λ k. G k ≤ A k) × (OnSizes (λ k. A k - G k ≤ F k) × OnSizes (λ k. F k ≤ A k - G k))
+alike_forth : (a g m A G F : ℕ → ℕ) → Reports a A → Reports g G → Reports m F → ((k : ℕ) → (g k ≤ a k) × (a k - g k ≡ m k)) → OnSizes (λ k. G k ≤ A k) × (OnSizes (λ k. A k - G k ≤ F k) × OnSizes (λ k. F k ≤ A k - G k))
 alike_forth a g m A G F ta tg tm h = (
   λ k l u. let x = ta.0 k l u in let y = tg.0 k l u in let z = (h k).0 in omega arith,
   (
@@ -103,7 +103,7 @@ alike_forth a g m A G F ta tg tm h = (
   ),
 )
 
-alike_back : (a g m A G F : ℕ → ℕ) → Tells a A → Tells g G → Tells m F → OnSizes (λ k. G k ≤ A k) → OnSizes (λ k. A k - G k ≤ F k) → OnSizes (λ k. F k ≤ A k - G k) → (k : ℕ) → (g k ≤ a k) × (a k - g k ≡ m k)
+alike_back : (a g m A G F : ℕ → ℕ) → Reports a A → Reports g G → Reports m F → OnSizes (λ k. G k ≤ A k) → OnSizes (λ k. A k - G k ≤ F k) → OnSizes (λ k. F k ≤ A k - G k) → (k : ℕ) → (g k ≤ a k) × (a k - g k ≡ m k)
 alike_back a g m A G F ta tg tm h n r k = elim (in_or_out k) as (λ z. (g k ≤ a k) × (a k - g k ≡ m k)) [
   | inl w ↦
       let x = ta.0 k w.0 w.1 in let y = tg.0 k w.0 w.1 in let z = tm.0 k w.0 w.1 in
@@ -115,24 +115,24 @@ alike_back a g m A G F ta tg tm h n r k = elim (in_or_out k) as (λ z. (g k ≤ 
 abbrev body_of : Program → FunKind → Scalars → Bool → Names → Pattern → Block → Term
 body_of p f sc b c r body = term_block (world p f) (entering (world p f) c.next sc (binders r)) (inside (world p f) b c (binders r)) body
 
-asks_tell : (p : Program) (f : FunKind) (sc : Scalars) (b : Bool) (c : Names) (r : Pattern) (body : Block) → SizedBlock p body → Tells (λ k. asks (Credit k) (body_of p f sc b c r body)) (λ k. need_block p k body)
-asks_tell p f sc b c r body s = (
+asks_report : (p : Program) (f : FunKind) (sc : Scalars) (b : Bool) (c : Names) (r : Pattern) (body : Block) → SizedBlock p body → Reports (λ k. asks (Credit k) (body_of p f sc b c r body)) (λ k. need_block p k body)
+asks_report p f sc b c r body s = (
   λ k l u. block_need k l p f (entering (world p f) c.next sc (binders r)) (inside (world p f) b c (binders r)) body s,
   λ k o. block_out k o p f (entering (world p f) c.next sc (binders r)) (inside (world p f) b c (binders r)) body s,
 )
 
-gives_tell : (b : Bool) (r : Pattern) → SizedPattern r → Tells (λ k. given k (gives b (nodes r))) (λ k. N.given k b r)
-gives_tell b r s = (λ k l u. gives_given k b r l, λ k o. gives_out k b r o s)
+gives_report : (b : Bool) (r : Pattern) → SizedPattern r → Reports (λ k. given k (gives b (nodes r))) (λ k. N.given k b r)
+gives_report b r s = (λ k l u. gives_given k b r l, λ k o. gives_out k b r o s)
 
-clause_is : (p : Program) (f : FunKind) (q : Place) (i : ℕ) (sc : Scalars) (b : Bool) (c : Names) (r : Pattern) (body : Block) (m F : ℕ → ℕ) → SizedPattern r → SizedBlock p body → Tells m F → Alike (gives b (nodes r)) (body_of p f sc b c r body) m ↔ (None (Unused p i b r body) × (None (Less E58 q i F (λ k. need_clause p k b r body)) × None (Less E58 q i (λ k. need_clause p k b r body) F)))
+clause_is : (p : Program) (f : FunKind) (q : Place) (i : ℕ) (sc : Scalars) (b : Bool) (c : Names) (r : Pattern) (body : Block) (m F : ℕ → ℕ) → SizedPattern r → SizedBlock p body → Reports m F → Alike (gives b (nodes r)) (body_of p f sc b c r body) m ↔ (None (Unused p i b r body) × (None (Less E58 q i F (λ k. need_clause p k b r body)) × None (Less E58 q i (λ k. need_clause p k b r body) F)))
 clause_is p f q i sc b c r body m F sr sb t =
     let A : ℕ → ℕ = λ k. need_block p k body in
     let G : ℕ → ℕ = λ k. N.given k b r in
     let C : ℕ → ℕ = λ k. need_clause p k b r body in
     let a : ℕ → ℕ = λ k. asks (Credit k) (body_of p f sc b c r body) in
     let g : ℕ → ℕ = λ k. given k (gives b (nodes r)) in
-    let ta = asks_tell p f sc b c r body sb in
-    let tg = gives_tell b r sr in
+    let ta = asks_report p f sc b c r body sb in
+    let tg = gives_report b r sr in
     let u = less_none E57 (pattern_place r) i A G in
     let n = less_none E58 q i F C in
     let l = less_none E58 q i C F in (
@@ -188,9 +188,9 @@ mutual
       let ds = clauses w sc b c1 ys (nodes r) e1 cs in
       let m : ℕ → ℕ = λ k. asks (Credit k) e1 - given k (gives b (nodes r)) in
       let F : ℕ → ℕ = λ k. need_clause p k b r body in
-      let ta = asks_tell p f sc b c r body s.2 in
-      let tg = gives_tell b r s.1 in
-      let t : Tells m F = (
+      let ta = asks_report p f sc b c r body s.2 in
+      let tg = gives_report b r s.1 in
+      let t : Reports m F = (
         λ k l u. ap (λ j. j - given k (gives b (nodes r))) (ta.0 k l u) ∙ ap (λ j. need_block p k body - j) (tg.0 k l u),
         λ k o. let z = ta.1 k o in let y = tg.1 k o in omega arith,
       ) in
@@ -214,12 +214,12 @@ mutual
   block_even p f i sc c (Last e) s = term_even p f i sc c e s
   block_even p f i sc c (Let bs e rest) s =
       let w = world p f in
-      let d = behind c (shape w c e) in
+      let d = following c (shape w c e) in
       none_both (Even (term w sc c e)) (Even (term_block w (entering w d.next sc bs) (inside w true d bs) rest)) (Breaks p i e) (BreaksBlock p i rest)
       (term_even p f i sc c e s.0) (block_even p f i (entering w d.next sc bs) (inside w true d bs) rest s.1)
 
   -- one clause, and the others, each of which differs nowhere from F
-  rest_even : (p : Program) (f : FunKind) (q : Place) (i : ℕ) (sc : Scalars) (b : Bool) (c : Names) (ys ks : List ℕ) (e : Term) (cs : Clauses) (m F : ℕ → ℕ) → Tells m F → SizedClauses p cs → EvenOf b m (clauses (world p f) sc b c ys ks e cs) ↔ ((Alike (gives b ks) e m × Even e) × None (λ v. BreaksClauses p i b cs v ⊎ Differ p q i b F cs v))
+  rest_even : (p : Program) (f : FunKind) (q : Place) (i : ℕ) (sc : Scalars) (b : Bool) (c : Names) (ys ks : List ℕ) (e : Term) (cs : Clauses) (m F : ℕ → ℕ) → Reports m F → SizedClauses p cs → EvenOf b m (clauses (world p f) sc b c ys ks e cs) ↔ ((Alike (gives b ks) e m × Even e) × None (λ v. BreaksClauses p i b cs v ⊎ Differ p q i b F cs v))
   rest_even p f q i sc b c ys ks e NoClauses m F t s = let l = even_last b m ys ks e in (λ d. (l.0 d, none_two), λ h. l.1 h.0)
   rest_even p f q i sc b c ys ks e (MoreClauses r body cs) m F t s =
       let w = world p f in
@@ -243,7 +243,7 @@ mutual
 -- ---- instances
 
 -- what the header gives and the body asks: g and a, on sizes G and A
-exact_is : (r t : Rule) (q : Place) (i : ℕ) (g a G A : ℕ → ℕ) → Tells g G → Tells a A → ((k : ℕ) → g k ≡ a k) ↔ None (λ v. Less r q i G A v ⊎ Less t q i A G v)
+exact_is : (r t : Rule) (q : Place) (i : ℕ) (g a G A : ℕ → ℕ) → Reports g G → Reports a A → ((k : ℕ) → g k ≡ a k) ↔ None (λ v. Less r q i G A v ⊎ Less t q i A G v)
 exact_is r t q i g a G A tg ta =
     let n = less_none r q i G A in
     let l = less_none t q i A G in (
@@ -259,7 +259,7 @@ exact_is r t q i g a G A tg ta =
       ],
     )
 
-enough_is : (r : Rule) (q : Place) (i : ℕ) (g a G A : ℕ → ℕ) → Tells g G → Tells a A → ((k : ℕ) → a k ≤ g k) ↔ None (Less r q i G A)
+enough_is : (r : Rule) (q : Place) (i : ℕ) (g a G A : ℕ → ℕ) → Reports g G → Reports a A → ((k : ℕ) → a k ≤ g k) ↔ None (Less r q i G A)
 enough_is r q i g a G A tg ta =
     let n = less_none r q i G A in (
       λ h. n.0 (λ k lo hi. let x = tg.0 k lo hi in let y = ta.0 k lo hi in let w = h k in omega arith),
@@ -277,8 +277,8 @@ credits_is p f i sc c d k sh sb n =
     let a : ℕ → ℕ = λ j. asks (Credit j) e in
     let G : ℕ → ℕ = λ j. marked j d.credits in
     let A : ℕ → ℕ = λ j. need_block p j d.body in
-    let tg : Tells g G = (λ j l u. header_given j d.credits, λ j o. header_out j d.credits o sh) in
-    let ta : Tells a A = (λ j l u. block_need j l p f sc c d.body sb, λ j o. block_out j o p f sc c d.body sb) in
+    let tg : Reports g G = (λ j l u. header_given j d.credits, λ j o. header_out j d.credits o sh) in
+    let ta : Reports a A = (λ j l u. block_need j l p f sc c d.body sb, λ j o. block_out j o p f sc c d.body sb) in
     let l = block_even p f i sc c d.body sb in
     let x = exact_is E56 E62 d.place i g a G A tg ta in
     let y = enough_is E56 d.place i g a G A tg ta in

@@ -5,7 +5,7 @@ use Rattle.credit_check.specs.fip_language.declared.FunKind.{FunKind}
 use Rattle.credit_check.specs.fip_language.declared.FunKind.TheVariants.{Fip, Fbip, Fun}
 use Rattle.credit_check.specs.fip_trees.declared.least.Violation.{Violation}
 use Rattle.credit_check.specs.fip_trees.Tree.{Instance, Program}
-use Rattle.fip_rules.specs.Marks.{Breach, told}
+use Rattle.fip_rules.specs.Marks.{Breach, reported}
 use Rattle.fip_rules.specs.Checks as O
 use Rattle.fip_rules.specs.Rules.{Ordered}
 use Rattle.fip_rules.specs.World.{World, world, is_fip, is_ruled}
@@ -121,6 +121,6 @@ all_agree p i (d ∷ ds) s =
 pub programs_agree : (p : Program) → AreSized p p.instances → IsAccepted p ↔ AreDerived p p.instances
 programs_agree p s =
     let g = all_agree p 0 p.instances s in (
-      λ h. g.0 (λ b z. h.owned (told b) (b, z, refl), λ v z. h.credited v z),
+      λ h. g.0 (λ b z. h.owned (reported b) (b, z, refl), λ v z. h.credited v z),
       λ h. let c = g.1 h in record { owned = λ v z. c.0 z.0 z.1; credited = λ v z. c.1 v z },
     )

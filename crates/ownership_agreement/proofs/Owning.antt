@@ -11,7 +11,7 @@ use Rattle.fip_rules.specs.Shape as S
 use Rattle.fip_rules.specs.Rules.{owns, Ordered}
 use Rattle.fip_rules.specs.World.{World, lends, weaker}
 use Rattle.fip_rules.specs.Shapes as H
-use Rattle.fip_rules.specs.Shapes.{Names, known, used_at, lent_at, used_by, lent_by, token, owning, owning_all, lending, passing, passing_all, binds, behind, taking, binders, clause_shape, shape, shape_block, shape_clauses}
+use Rattle.fip_rules.specs.Shapes.{Names, known, used_at, lent_at, used_by, lent_by, token, owning, owning_all, lending, passing, passing_all, binds, following, taking, binders, clause_shape, shape, shape_block, shape_clauses}
 use Rattle.fip_rules.proofs.Agree.{next_le}
 use Rattle.fip_rules.proofs.Orders.{next_passing}
 use Rattle.ownership_calculus.specs.Terms as C
@@ -100,7 +100,7 @@ mutual
       let od : Ordered c.next (shape_clauses w b c D cs) = subst (λ n. Ordered n (shape_clauses w b c D cs)) (next_passing c.next w c.marks (not b) a) o.1 in
       let oc : Ordered c.next D = done_ordered w b c D cs od in
       let e1 = term_block w (entering w c.next sc (binders q)) (inside w b c (binders q)) body in
-      scrutinee_owns w x sc c.marks b (owns x (shape_clauses w b c D cs)) a (clauses w sc b (behind c D) (variables w c.next (binders q)) (nodes q) e1 cs) h
+      scrutinee_owns w x sc c.marks b (owns x (shape_clauses w b c D cs)) a (clauses w sc b (following c D) (variables w c.next (binders q)) (nodes q) e1 cs) h
       (clauses_owns w c x sc b D (variables w c.next (binders q)) (nodes q) e1 cs false od l h
       (inner_owns w b c x sc (binders q) (nodes q) body oc l h (block_owns w (inside w b c (binders q)) x (entering w c.next sc (binders q)) body)))
   expr_owns w c x sc (Nested b) o l h = block_owns w c x sc b o l h
@@ -108,17 +108,17 @@ mutual
   pub block_owns : (w : World) (c : Names) (x : ℕ) (sc : Scalars) (b : Block) → Ordered c.next (shape_block w c b) → x < c.next → sc x ≡ false → owns x (shape_block w c b) ≡ pos (asks (Own x) (term_block w sc c b))
   block_owns w c x sc (Last e) o l h = expr_owns w c x sc e o l h
   block_owns w c x sc (Let bs e rest) o l h =
-      let d = behind c (shape w c e) in
+      let d = following c (shape w c e) in
       let le = next_le c.next (shape w c e) o.0 in
       let m : x < d.next = omega arith in
       both (owns x (shape w c e)) (owns x (clause_shape d (taking w true bs) (λ z. shape_block w z rest))) (asks (Own x) (term w sc c e)) (outside (variables w d.next bs) [] (Own x) (asks (Own x) (term_block w (entering w d.next sc bs) (inside w true d bs) rest)))
       (expr_owns w c x sc e o.0 l h)
       (inner_owns w true d x sc bs [] rest o.1 m h (block_owns w (inside w true d bs) x (entering w d.next sc bs) rest))
 
-  clauses_owns : (w : World) (c : Names) (x : ℕ) (sc : Scalars) (b : Bool) (done : S.Shape) (ys ks : List ℕ) (e : Term) (cs : Clauses) (r : Bool) → Ordered c.next (shape_clauses w b c done cs) → x < c.next → sc x ≡ false → owns x done ≡ (r || pos (outside ys ks (Own x) (asks (Own x) e))) → owns x (shape_clauses w b c done cs) ≡ (r || pos (asks_taken (Own x) (clauses w sc b (behind c done) ys ks e cs)))
+  clauses_owns : (w : World) (c : Names) (x : ℕ) (sc : Scalars) (b : Bool) (done : S.Shape) (ys ks : List ℕ) (e : Term) (cs : Clauses) (r : Bool) → Ordered c.next (shape_clauses w b c done cs) → x < c.next → sc x ≡ false → owns x done ≡ (r || pos (outside ys ks (Own x) (asks (Own x) e))) → owns x (shape_clauses w b c done cs) ≡ (r || pos (asks_taken (Own x) (clauses w sc b (following c done) ys ks e cs)))
   clauses_owns w c x sc b done ys ks e NoClauses r o l h f = f
   clauses_owns w c x sc b done ys ks e (MoreClauses q body cs) r o l h f =
-      let d = behind c done in
+      let d = following c done in
       let D = clause_shape d (taking w b (binders q)) (λ z. shape_block w z body) in
       let oc = done_ordered w b c (S.Either done D) cs o in
       let le = next_le c.next done oc.0 in
@@ -126,6 +126,6 @@ mutual
       let e1 = term_block w (entering w d.next sc (binders q)) (inside w b d (binders q)) body in
       let g : owns x D ≡ pos (outside (variables w d.next (binders q)) (nodes q) (Own x) (asks (Own x) e1)) = inner_owns w b d x sc (binders q) (nodes q) body oc.1 m h (block_owns w (inside w b d (binders q)) x (entering w d.next sc (binders q)) body) in
       let out = outside ys ks (Own x) (asks (Own x) e) in
-      let rest = asks_taken (Own x) (clauses w sc b (behind c (S.Either done D)) (variables w d.next (binders q)) (nodes q) e1 cs) in
+      let rest = asks_taken (Own x) (clauses w sc b (following c (S.Either done D)) (variables w d.next (binders q)) (nodes q) e1 cs) in
       clauses_owns w c x sc b (S.Either done D) (variables w d.next (binders q)) (nodes q) e1 cs (r || pos out) o l h (same_or (owns x done) (owns x D) (r || pos out) (pos (outside (variables w d.next (binders q)) (nodes q) (Own x) (asks (Own x) e1))) f g)
       ∙ or_assoc r (pos out) (pos rest) ∙ ap (λ q. r || q) (sym (pos_max out rest))

@@ -12,7 +12,7 @@ use Rattle.fip_rules.specs.Shape as S
 use Rattle.fip_rules.specs.Rules.{owns, Misses, Ordered}
 use Rattle.fip_rules.specs.World.{World, weaker}
 use Rattle.fip_rules.specs.Shapes as H
-use Rattle.fip_rules.specs.Shapes.{Names, token, owning, lending, passing, passing_all, binds, behind, taking, binders, clause_shape, shape, shape_block, shape_clauses}
+use Rattle.fip_rules.specs.Shapes.{Names, token, owning, lending, passing, passing_all, binds, following, taking, binders, clause_shape, shape, shape_block, shape_clauses}
 use Rattle.fip_rules.proofs.Agree.{next_le, misses, missing}
 use Rattle.fip_rules.proofs.Orders.{next_passing}
 use Rattle.ownership_calculus.specs.Terms as T
@@ -120,22 +120,22 @@ lent_is fip w c sc s bs body f = let e = shape_block w (inside w false c bs) bod
 -- the clauses after one
 abbrev LaterTaken : Bool → World → Names → Scalars → (ℕ → C.Status) → Clauses → Type 0
 LaterTaken fip w c sc s NoClauses = Unit {0}
-LaterTaken fip w c sc s (MoreClauses q body cs) = (C.AllUsed fip (variables w c.next (binders q)) (body_of w sc true c (binders q) body) × C.Clean fip (C.binding (variables w c.next (binders q)) true s) (body_of w sc true c (binders q) body)) × LaterTaken fip w (behind c (clause_of w true c (binders q) body)) sc s cs
+LaterTaken fip w c sc s (MoreClauses q body cs) = (C.AllUsed fip (variables w c.next (binders q)) (body_of w sc true c (binders q) body) × C.Clean fip (C.binding (variables w c.next (binders q)) true s) (body_of w sc true c (binders q) body)) × LaterTaken fip w (following c (clause_of w true c (binders q) body)) sc s cs
 
 abbrev LaterLent : Bool → World → Names → Scalars → (ℕ → C.Status) → Clauses → Type 0
 LaterLent fip w c sc s NoClauses = Unit {0}
-LaterLent fip w c sc s (MoreClauses q body cs) = C.Clean fip (C.binding (variables w c.next (binders q)) false s) (body_of w sc false c (binders q) body) × LaterLent fip w (behind c (clause_of w false c (binders q) body)) sc s cs
+LaterLent fip w c sc s (MoreClauses q body cs) = C.Clean fip (C.binding (variables w c.next (binders q)) false s) (body_of w sc false c (binders q) body) × LaterLent fip w (following c (clause_of w false c (binders q) body)) sc s cs
 
 later_taken : (fip : Bool) (w : World) (c : Names) (sc : Scalars) (s : ℕ → C.Status) (ys ks : List ℕ) (e : Term) (cs : Clauses) → C.CleanTaken fip s (clauses w sc true c ys ks e cs) ↔ ((C.AllUsed fip ys e × C.Clean fip (C.binding ys true s) e) × LaterTaken fip w c sc s cs)
 later_taken fip w c sc s ys ks e NoClauses = (λ h. (h, tt), λ h. h.0)
 later_taken fip w c sc s ys ks e (MoreClauses q body cs) =
-    let r = later_taken fip w (behind c (clause_of w true c (binders q) body)) sc s (variables w c.next (binders q)) (nodes q) (body_of w sc true c (binders q) body) cs in
+    let r = later_taken fip w (following c (clause_of w true c (binders q) body)) sc s (variables w c.next (binders q)) (nodes q) (body_of w sc true c (binders q) body) cs in
     (λ h. ((h.0, h.1), r.0 h.2), λ h. (h.0.0, h.0.1, r.1 h.1))
 
 later_lent : (fip : Bool) (w : World) (c : Names) (sc : Scalars) (s : ℕ → C.Status) (ys ks : List ℕ) (e : Term) (cs : Clauses) → C.CleanLent fip s (clauses w sc false c ys ks e cs) ↔ (C.Clean fip (C.binding ys false s) e × LaterLent fip w c sc s cs)
 later_lent fip w c sc s ys ks e NoClauses = (λ h. (h, tt), λ h. h.0)
 later_lent fip w c sc s ys ks e (MoreClauses q body cs) =
-    let r = later_lent fip w (behind c (clause_of w false c (binders q) body)) sc s (variables w c.next (binders q)) (nodes q) (body_of w sc false c (binders q) body) cs in
+    let r = later_lent fip w (following c (clause_of w false c (binders q) body)) sc s (variables w c.next (binders q)) (nodes q) (body_of w sc false c (binders q) body) cs in
     (λ h. (h.0, r.0 h.1), λ h. (h.0, r.1 h.1))
 
 mutual
@@ -156,21 +156,21 @@ mutual
       let D : Bool → S.Shape = λ r. shape_clauses w r c (clause_of w r c (binders q) body) cs in
       let od : Ordered c.next (D b) = subst (λ n. Ordered n (D b)) (next_passing c.next w c.marks (not b) a) o.1 in
       let ys = variables w c.next (binders q) in
-      let cases : Bool → T.Clauses = λ r. clauses w sc r (behind c (clause_of w r c (binders q) body)) ys (nodes q) (body_of w sc r c (binders q) body) cs in
+      let cases : Bool → T.Clauses = λ r. clauses w sc r (following c (clause_of w r c (binders q) body)) ys (nodes q) (body_of w sc r c (binders q) body) cs in
       match_is fip w sc s c.marks b a (D b) (cases b)
       (λ z. subst (λ r. Ordered c.next (D r) → (u : ℕ → C.Status) → G.Good fip (mix sc u) (D r) ↔ C.CleanTaken fip u (cases r)) (sym z)
       (λ og u.
       let oc = done_ordered w true c (clause_of w true c (binders q) body) cs og in
       let m = taken_is fip w c sc u (binders q) body oc (block_is fip w (inside w true c (binders q)) (entering w c.next sc (binders q)) (C.binding ys true u) body (ordered_inside w true c (binders q) body oc) (all_inside w true c sc (binders q) f)) in
       let r = taken_cases fip w c sc u (clause_of w true c (binders q) body) cs og f in
-      let l = later_taken fip w (behind c (clause_of w true c (binders q) body)) sc u ys (nodes q) (body_of w sc true c (binders q) body) cs in
+      let l = later_taken fip w (following c (clause_of w true c (binders q) body)) sc u ys (nodes q) (body_of w sc true c (binders q) body) cs in
       (λ h. let z = r.0 h in l.1 (m.0 z.0, z.1), λ h. let z = l.0 h in r.1 (m.1 z.0, z.1))) od)
       (λ z. subst (λ r. Ordered c.next (D r) → (u : ℕ → C.Status) → G.Good fip (mix sc u) (D r) ↔ C.CleanLent fip u (cases r)) (sym z)
       (λ og u.
       let oc = done_ordered w false c (clause_of w false c (binders q) body) cs og in
       let m = lent_is fip w c sc u (binders q) body (block_is fip w (inside w false c (binders q)) (entering w c.next sc (binders q)) (C.binding ys false u) body (ordered_inside w false c (binders q) body oc) (all_inside w false c sc (binders q) f)) in
       let r = lent_cases fip w c sc u (clause_of w false c (binders q) body) cs og f in
-      let l = later_lent fip w (behind c (clause_of w false c (binders q) body)) sc u ys (nodes q) (body_of w sc false c (binders q) body) cs in
+      let l = later_lent fip w (following c (clause_of w false c (binders q) body)) sc u ys (nodes q) (body_of w sc false c (binders q) body) cs in
       (λ h. let z = r.0 h in l.1 (m.0 z.0, z.1), λ h. let z = l.0 h in r.1 (m.1 z.0, z.1))) od)
 
   pub block_is : (fip : Bool) (w : World) (c : Names) (sc : Scalars) (s : ℕ → C.Status) (b : Block) → Ordered c.next (shape_block w c b) → Above sc c.next → C.Clean fip s (term_block w sc c b) ↔ G.Good fip (mix sc s) (shape_block w c b)
@@ -178,7 +178,7 @@ mutual
   block_is fip w c sc s (Let bs e rest) o f =
       let A = shape w c e in
       let a1 = term w sc c e in
-      let d = behind c A in
+      let d = following c A in
       let R = clause_of w true d bs rest in
       let le = next_le c.next A o.0 in
       let up : Above sc d.next = λ x l. f x (omega arith) in
@@ -193,10 +193,10 @@ mutual
         λ h. let z = k.0 (subst (λ g. G.Good fip g R) q h.1) in (i.1 (subst (λ g. G.Good fip g A) p h.0), z.0, z.1),
       )
 
-  taken_cases : (fip : Bool) (w : World) (c : Names) (sc : Scalars) (s : ℕ → C.Status) (done : S.Shape) (cs : Clauses) → Ordered c.next (shape_clauses w true c done cs) → Above sc c.next → G.Good fip (mix sc s) (shape_clauses w true c done cs) ↔ (G.Good fip (mix sc s) done × LaterTaken fip w (behind c done) sc s cs)
+  taken_cases : (fip : Bool) (w : World) (c : Names) (sc : Scalars) (s : ℕ → C.Status) (done : S.Shape) (cs : Clauses) → Ordered c.next (shape_clauses w true c done cs) → Above sc c.next → G.Good fip (mix sc s) (shape_clauses w true c done cs) ↔ (G.Good fip (mix sc s) done × LaterTaken fip w (following c done) sc s cs)
   taken_cases fip w c sc s done NoClauses o f = (λ h. (h, tt), λ h. h.0)
   taken_cases fip w c sc s done (MoreClauses q body cs) o f =
-      let d = behind c done in
+      let d = following c done in
       let P = clause_of w true d (binders q) body in
       let oc = done_ordered w true c (S.Either done P) cs o in
       let le = next_le c.next done oc.0 in
@@ -206,10 +206,10 @@ mutual
       let r = taken_cases fip w c sc s (S.Either done P) cs o f in
       (λ h. let z = r.0 h in (z.0.0, (k.0 z.0.1, z.1)), λ h. r.1 ((h.0, k.1 h.1.0), h.1.1))
 
-  lent_cases : (fip : Bool) (w : World) (c : Names) (sc : Scalars) (s : ℕ → C.Status) (done : S.Shape) (cs : Clauses) → Ordered c.next (shape_clauses w false c done cs) → Above sc c.next → G.Good fip (mix sc s) (shape_clauses w false c done cs) ↔ (G.Good fip (mix sc s) done × LaterLent fip w (behind c done) sc s cs)
+  lent_cases : (fip : Bool) (w : World) (c : Names) (sc : Scalars) (s : ℕ → C.Status) (done : S.Shape) (cs : Clauses) → Ordered c.next (shape_clauses w false c done cs) → Above sc c.next → G.Good fip (mix sc s) (shape_clauses w false c done cs) ↔ (G.Good fip (mix sc s) done × LaterLent fip w (following c done) sc s cs)
   lent_cases fip w c sc s done NoClauses o f = (λ h. (h, tt), λ h. h.0)
   lent_cases fip w c sc s done (MoreClauses q body cs) o f =
-      let d = behind c done in
+      let d = following c done in
       let P = clause_of w false d (binders q) body in
       let oc = done_ordered w false c (S.Either done P) cs o in
       let le = next_le c.next done oc.0 in

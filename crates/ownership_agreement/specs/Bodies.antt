@@ -17,7 +17,7 @@ use Rattle.credit_check.specs.fip_trees.Tree.{Expression, Give, Tuple, Operation
 use Rattle.credit_check.specs.fip_trees.Tree.{Clauses, NoClauses, MoreClauses}
 use Rattle.fip_rules.specs.Marks.{Mark}
 use Rattle.fip_rules.specs.World.{World, lends, weaker}
-use Rattle.fip_rules.specs.Shapes.{Names, known, within, behind, taking, binders, takes, parameters, no_names}
+use Rattle.fip_rules.specs.Shapes.{Names, known, within, following, taking, binders, takes, parameters, no_names}
 use Rattle.fip_rules.specs.Shapes.{clause_shape, shape, shape_block}
 use Rattle.ownership_calculus.specs.Terms as C
 
@@ -102,10 +102,10 @@ abbrev mutual
 abbrev pub inside : World → Bool → Names → List Binder → Names
 inside w taken c bs = within c (taking w taken bs)
 
--- the names behind it
+-- the names after it
 abbrev pub past_clause : World → Bool → Names → Pattern → Block → Names
 past_clause w taken c q body =
-    behind c (clause_shape c (taking w taken (binders q)) (λ d. shape_block w d body))
+    following c (clause_shape c (taking w taken (binders q)) (λ d. shape_block w d body))
 
 abbrev pub matched : World → Scalars → List Mark → Bool → Argument → C.Clauses → C.Term
 matched w sc ms taken a cs =
@@ -127,10 +127,10 @@ abbrev mutual
   pub term_block : World → Scalars → Names → Block → C.Term
   term_block w sc c (Last e) = term w sc c e
   term_block w sc c (Let bs e rest) =
-      C.Let (variables w (behind c (shape w c e)).next bs) (term w sc c e)
-      (term_block w (entering w (behind c (shape w c e)).next sc bs) (inside w true (behind c (shape w c e)) bs) rest)
+      C.Let (variables w (following c (shape w c e)).next bs) (term w sc c e)
+      (term_block w (entering w (following c (shape w c e)).next sc bs) (inside w true (following c (shape w c e)) bs) rest)
 
-  -- one clause, with its variables, nodes and body, and those behind it, where the names are c
+  -- one clause, with its variables, nodes and body, and those after it, where the names are c
   pub clauses : World → Scalars → Bool → Names → List ℕ → List ℕ → C.Term → Clauses → C.Clauses
   clauses w sc taken c ys ks e NoClauses = C.LastClause ys ks e
   clauses w sc taken c ys ks e (MoreClauses q body cs) =

@@ -11,7 +11,7 @@ ghost use Rattle.ownership_agreement.specs.Agreement.{BreaksNone, IsDerived, Are
 /// where the calculus derives its body from its parameters and the credits of its header. So `check_owned` and
 /// `check_credits` accept a program exactly where each of its fip and fbip instances is derived.
 pub fn agreement()
-    ensures law { (p : Program) (i : ℕ) (d : Instance) → is_ruled d.kind ≡ true → IsSized p d →
+    ensures theorem { (p : Program) (i : ℕ) (d : Instance) → is_ruled d.kind ≡ true → IsSized p d →
         (BreaksNone p i d ↔ IsDerived p d) }
     ensures programs { (p : Program) → AreSized p p.instances → (IsAccepted p ↔ AreDerived p p.instances) }
 {}

@@ -1,8 +1,8 @@
--- The calculus, rule by rule. A term is judged under what is borrowed, B, which tells of each variable whether it is,
+-- The calculus, rule by rule. A term is judged under what is borrowed, B, which reports of each variable whether it is,
 -- and what is owned, O, which counts variables and credits. O splits in two parts where of each variable and of each
 -- size the parts have together what O has.
 --
--- `fip` tells whether the function is fip or fbip. The rules are the same but for one: in fbip any variables and
+-- `fip` reports whether the function is fip or fbip. The rules are the same but for one: in fbip any variables and
 -- credits may be left over (WEAKEN).
 use Rattle.std.specs.Prelude.{◌≡◌, ◌≤◌, ℕ, List, [], Bool, true, false, ◌+◌, ◌||◌, nat_lt, if◌then◌else◌}
 use Rattle.ownership_calculus.specs.Terms.{Value, Values, Named, Scalar, Built, NoValues, MoreValues, size}

@@ -16,7 +16,7 @@ mutual
     NoValues : Values
     MoreValues : (a : Value) (rest : Values) → Values
 
--- The arguments of a call from left to right, each in a borrowed or in an owned position; behind them the sizes of
+-- The arguments of a call from left to right, each in a borrowed or in an owned position; after them the sizes of
 -- the credits that the callee's header states.
 pub data Passed : Type 0 where
   Header : (credits : List ℕ) → Passed

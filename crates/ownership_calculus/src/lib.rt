@@ -7,6 +7,6 @@ ghost use Rattle.ownership_calculus.specs.Functions.{Accepted, Derived};
 
 /// A function is derived exactly where it breaks none of the rules that are said without environments.
 pub fn derived()
-    ensures law { (fip : Bool) (lent own header : List ℕ) (e : Term) →
+    ensures theorem { (fip : Bool) (lent own header : List ℕ) (e : Term) →
         (Accepted fip lent own header e ↔ Derived fip lent own header e) }
 {}

@@ -33,7 +33,7 @@ pub fn block_start(alloc: Global, body: Body, token: Token) -> Result<Next, Allo
     }
 }
 
-/// Behind `let`.
+/// After `let`.
 pub fn let_start(alloc: Global, body: Body, token: Token) -> Result<Next, AllocError>
     requires well { view.IsWellBody body }
     ensures next { Follows false token.entry result (machine.step_body machine.LetStart (view.body body)) }
@@ -76,7 +76,7 @@ pub fn bind_start(alloc: Global, binds: Binds, body: Body, token: Token) -> Resu
     }
 }
 
-/// Behind a bind's name.
+/// After a bind's name.
 pub fn bind_named(
     alloc: Global,
     binds: Binds,
@@ -113,7 +113,7 @@ pub fn bind_named(
     }
 }
 
-/// Behind a bind.
+/// After a bind.
 pub fn end_bind(
     alloc: Global,
     body: Body,
@@ -160,7 +160,7 @@ fn end_bracketed_bind(
     }
 }
 
-/// Behind the binds of a let.
+/// After the binds of a let.
 pub fn let_equals(
     alloc: Global,
     binds: Vec<Bind>,
@@ -249,7 +249,7 @@ fn open_match(destructive: bool, place: Place, body: Body) -> Result<Next, Alloc
     stays_in_body(BodyPosition::Operand, body)
 }
 
-/// Behind the static arguments of a call.
+/// After the static arguments of a call.
 pub fn call_open(
     name: Name,
     place: Place,
@@ -313,7 +313,7 @@ pub fn argument_first(
     }
 }
 
-/// A literal, behind its minus.
+/// A literal, after its minus.
 pub fn minus(place: Place, body: Body, token: Token) -> Result<Next, AllocError>
     requires well { view.IsWellBody body }
     ensures next { Follows true token.entry result (machine.step_body (machine.Minus place) (view.body body)) }
@@ -327,7 +327,7 @@ pub fn minus(place: Place, body: Body, token: Token) -> Result<Next, AllocError>
     }
 }
 
-/// Behind `(` where an operand begins.
+/// After `(` where an operand begins.
 pub fn parenthesis(
     alloc: Global,
     place: Place,
@@ -367,7 +367,7 @@ pub fn clause_next(
     }
 }
 
-/// Behind the first block of an if.
+/// After the first block of an if.
 pub fn else_keyword(place: Place, yes: Block, body: Body, token: Token) -> Result<Next, AllocError>
     requires well { view.IsWellUnder body }
     ensures next { Follows false token.entry result (machine.step_body
@@ -379,7 +379,7 @@ pub fn else_keyword(place: Place, yes: Block, body: Body, token: Token) -> Resul
     }
 }
 
-/// Behind `else`.
+/// After `else`.
 pub fn else_open(
     alloc: Global,
     place: Place,

@@ -16,7 +16,7 @@ use parser_state::moves::{enter, name_of, refused, stays_in_body, stays_in_patte
 use parser_state::state::{Body, BodyPosition, Next, OpenMatch, OpenPattern, PatternPosition, Use};
 use std::alloc::{AllocError, Global};
 
-// Behind a pattern.
+// After a pattern.
 fn pattern_read(
     pattern: Pattern,
     open: Vec<OpenPattern>,
@@ -205,7 +205,7 @@ fn pattern_part(
     }
 }
 
-// Behind a clause's pattern.
+// After a clause's pattern.
 fn after_pattern(
     alloc: Global,
     pattern: Pattern,

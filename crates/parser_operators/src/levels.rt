@@ -144,9 +144,9 @@ fn end_level(
     block: Block,
     sign: Sign,
 ) -> Result<Next, AllocError>
-    requires well { view.IsWellWith body (view.behind_purpose purpose (view.operands body)) }
+    requires well { view.IsWellWith body (view.after_purpose purpose (view.operands body)) }
     ensures next { Leads result (machine.end_level (view.body_with body
-        (view.behind_purpose purpose (view.operands body))) (view.purpose purpose (view.operands body))
+        (view.after_purpose purpose (view.operands body))) (view.purpose purpose (view.operands body))
         (block_view block) sign) }
 {
     match purpose {

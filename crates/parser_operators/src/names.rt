@@ -1,4 +1,4 @@
-//! Behind a name in an expression: the brackets of a call, or the end of the operand.
+//! After a name in an expression: the brackets of a call, or the end of the operand.
 
 ghost use Rattle.std.specs.Prelude.{false};
 ghost use Rattle.fip_grammar.specs.Machine as machine;
@@ -15,7 +15,7 @@ use parser_state::moves::{enter, stays_in_body, wants_type};
 use parser_state::state::{Body, BodyPosition, Next, TypeUse, Use};
 use std::alloc::{AllocError, Global};
 
-/// Behind a lower name: the brackets of a call, or the end of a variable.
+/// After a lower name: the brackets of a call, or the end of a variable.
 pub fn lower_name(
     alloc: Global,
     name: Name,
@@ -53,7 +53,7 @@ pub fn lower_name(
     }
 }
 
-/// Behind an upper name: a constructor's arguments, or the end of one without.
+/// After an upper name: a constructor's arguments, or the end of one without.
 pub fn upper_name(
     alloc: Global,
     name: Name,

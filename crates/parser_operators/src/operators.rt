@@ -1,4 +1,4 @@
-//! Behind an operand: operators, and the end of an expression.
+//! After an operand: operators, and the end of an expression.
 
 ghost use Rattle.std.specs.Prelude.{◌≡◌, false, OnOk};
 ghost use Rattle.fip_base.specs.SurfaceView.{top, below};
@@ -46,7 +46,7 @@ fn apply(steps: &mut Vec<Step>, pending: Option<Pending>) -> Result<(), AllocErr
         ≡ machine.applied (view.pending pending (below (view.left steps.old.items)))
         (top (view.left steps.old.items))) }
     ensures below { OnOk result (below (view.left steps.new.items)
-        ≡ view.behind_pending pending (below (view.left steps.old.items))) }
+        ≡ view.after_pending pending (below (view.left steps.old.items))) }
 {
     match pending {
         None => Ok(()),
@@ -66,14 +66,14 @@ fn apply_all(steps: &mut Vec<Step>, waiting: Waiting) -> Result<(), AllocError>
         ≡ machine.all_applied (view.waiting waiting (below (view.left steps.old.items)))
         (top (view.left steps.old.items))) }
     ensures below { OnOk result (below (view.left steps.new.items)
-        ≡ view.behind_waiting waiting (below (view.left steps.old.items))) }
+        ≡ view.after_waiting waiting (below (view.left steps.old.items))) }
 {
     apply(steps, waiting.product)?;
     apply(steps, waiting.sum)?;
     apply(steps, waiting.comparison)
 }
 
-/// Behind an operand.
+/// After an operand.
 pub fn after_operand(alloc: Global, body: Body, token: Token) -> Result<Next, AllocError>
     requires well { view.IsWellUnder body }
     ensures next { Follows false token.entry result (machine.after_operand (view.under_operand body)
@@ -86,7 +86,7 @@ pub fn after_operand(alloc: Global, body: Body, token: Token) -> Result<Next, Al
     }
 }
 
-// An operator behind an operand: by how tightly it binds.
+// An operator after an operand: by how tightly it binds.
 fn after_operator(body: Body, operator: Operator, place: Place) -> Result<Next, AllocError>
     requires well { view.IsWellUnder body }
     ensures next { Leads result (machine.after_operator (machine.tightness_of operator) (view.under_operand body)

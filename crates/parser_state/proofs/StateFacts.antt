@@ -80,7 +80,7 @@ partial_of p os w es =
     record {
       lets = view.bindings p.lets.items;
       binds = view.bound_binds p.binds;
-      openers = view.openers (reverse os) (view.behind_waiting w es);
+      openers = view.openers (reverse os) (view.after_waiting w es);
       waiting = view.waiting w es;
     }
 
@@ -90,12 +90,12 @@ partial_opened p os w o es h n k =
     ap (λ z. partial_of p z w es) h
     ∙ ap (λ z. partial_of p (p.openers.items ++ o ∷ []) z es) n
     ∙ ap (λ z. record (view.partial p es) { openers = view.openers z es; waiting = M.none_waits }) (reverse_push p.openers.items o)
-    ∙ ap (λ z. record (view.partial p es) { openers = view.opener o es ∷ view.openers (reverse p.openers.items) (view.behind_waiting z es); waiting = M.none_waits }) k
+    ∙ ap (λ z. record (view.partial p es) { openers = view.opener o es ∷ view.openers (reverse p.openers.items) (view.after_waiting z es); waiting = M.none_waits }) k
 
 pub well_opened : (p : Partial) (os : Vec Opener Global) (w : Waiting) (o : Opener) (es : List S.Expression) → os.items ≡ p.openers.items ++ o ∷ [] → w ≡ view.nothing_waits → view.waits_outside o ≡ p.waiting → view.IsWellPartial p es → view.IsWellPartial (record p { openers = os; waiting = w }) es
 well_opened p os w o es h n k well =
-    ap (λ z. view.behind_openers (reverse z) (view.behind_waiting w es)) h
-    ∙ ap (λ z. view.behind_openers (reverse (p.openers.items ++ o ∷ [])) (view.behind_waiting z es)) n
-    ∙ ap (λ z. view.behind_openers z es) (reverse_push p.openers.items o)
-    ∙ ap (λ z. view.behind_openers (reverse p.openers.items) (view.behind_waiting z es)) k
+    ap (λ z. view.after_openers (reverse z) (view.after_waiting w es)) h
+    ∙ ap (λ z. view.after_openers (reverse (p.openers.items ++ o ∷ [])) (view.after_waiting z es)) n
+    ∙ ap (λ z. view.after_openers z es) (reverse_push p.openers.items o)
+    ∙ ap (λ z. view.after_openers (reverse p.openers.items) (view.after_waiting z es)) k
     ∙ well

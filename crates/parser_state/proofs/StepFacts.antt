@@ -27,37 +27,37 @@ pub map_twice : (cs : List Clause) → view.clauses cs ≡ map view.clause_of (m
 map_twice [] = refl
 map_twice (c ∷ cs) = ap (λ z. view.clause_of (surface.clause c) ∷ z) (map_twice cs)
 
--- Behind a step, the machine's operand is what the step leaves.
+-- After a step, the machine's operand is what the step leaves.
 
 pub pushed : (new old : List Step) (s : Step) (a : surface.Action) → new ≡ old ++ s ∷ [] → action s ≡ a → view.left new ≡ acted a (view.left old) ∷ kept a (view.left old)
 pushed new old s a h k = ap view.left h ∙ left_push old s ∙ ap (λ z. acted z (view.left old) ∷ kept z (view.left old)) k
 
-abbrev Behind : Body → surface.Action → M.Next
-Behind b a = M.in_body (M.AtOperator (acted a (view.operands b))) (view.body_with b (kept a (view.operands b)))
+abbrev After : Body → surface.Action → M.Next
+After b a = M.in_body (M.AtOperator (acted a (view.operands b))) (view.body_with b (kept a (view.operands b)))
 
-pub at_literal : (b : Body) (i j : ℤ) (p : Place) → i ≡ j → Behind b (surface.Leaves (S.Literal j p)) ≡ Behind b (action (V.Literal i p))
-at_literal b i j p h = ap (λ z. Behind b (surface.Leaves (S.Literal z p))) (sym h) ∙ ap (Behind b) (sym (action_literal i p))
+pub at_literal : (b : Body) (i j : ℤ) (p : Place) → i ≡ j → After b (surface.Leaves (S.Literal j p)) ≡ After b (action (V.Literal i p))
+at_literal b i j p h = ap (λ z. After b (surface.Leaves (S.Literal z p))) (sym h) ∙ ap (After b) (sym (action_literal i p))
 
-pub at_call : (b : Body) (x : List ℕ) (p : Place) (ts : Vec Written Global) (es : Vec Expression Global) (done : List S.Expression) → done ≡ map surface.expression es.items → M.in_body (M.AtOperator (S.Call x p (M.onto_types (map core.written ts.items) C.NoWritten) (M.onto_expressions done S.NoExpressions))) (view.body b) ≡ Behind b (action (V.Call x p ts es))
+pub at_call : (b : Body) (x : List ℕ) (p : Place) (ts : Vec Written Global) (es : Vec Expression Global) (done : List S.Expression) → done ≡ map surface.expression es.items → M.in_body (M.AtOperator (S.Call x p (M.onto_types (map core.written ts.items) C.NoWritten) (M.onto_expressions done S.NoExpressions))) (view.body b) ≡ After b (action (V.Call x p ts es))
 at_call b x p ts es done h =
-    ap (λ z. Behind b (surface.Leaves (S.Call x p z (M.onto_expressions done S.NoExpressions)))) (types_as (map core.written ts.items))
-    ∙ ap (λ z. Behind b (surface.Leaves (S.Call x p (core.writtens ts.items) z))) (expressions_as done ∙ ap surface.expressions_of h)
-    ∙ ap (Behind b) (sym (action_call x p ts es))
+    ap (λ z. After b (surface.Leaves (S.Call x p z (M.onto_expressions done S.NoExpressions)))) (types_as (map core.written ts.items))
+    ∙ ap (λ z. After b (surface.Leaves (S.Call x p (core.writtens ts.items) z))) (expressions_as done ∙ ap surface.expressions_of h)
+    ∙ ap (After b) (sym (action_call x p ts es))
 
-pub at_constructor : (b : Body) (x : List ℕ) (p : Place) (es : Vec Expression Global) (done : List S.Expression) → done ≡ map surface.expression es.items → M.in_body (M.AtOperator (S.Constructor x p (M.onto_expressions done S.NoExpressions))) (view.body b) ≡ Behind b (action (V.Constructor x p es))
+pub at_constructor : (b : Body) (x : List ℕ) (p : Place) (es : Vec Expression Global) (done : List S.Expression) → done ≡ map surface.expression es.items → M.in_body (M.AtOperator (S.Constructor x p (M.onto_expressions done S.NoExpressions))) (view.body b) ≡ After b (action (V.Constructor x p es))
 at_constructor b x p es done h =
-    ap (λ z. Behind b (surface.Leaves (S.Constructor x p z))) (expressions_as done ∙ ap surface.expressions_of h)
-    ∙ ap (Behind b) (sym (action_constructor x p es))
+    ap (λ z. After b (surface.Leaves (S.Constructor x p z))) (expressions_as done ∙ ap surface.expressions_of h)
+    ∙ ap (After b) (sym (action_constructor x p es))
 
-pub at_tuple : (b : Body) (p : Place) (es : Vec Expression Global) (done : List S.Expression) → done ≡ map surface.expression es.items → M.in_body (M.AtOperator (S.Tuple p (M.onto_expressions done S.NoExpressions))) (view.body b) ≡ Behind b (action (V.Tuple p es))
+pub at_tuple : (b : Body) (p : Place) (es : Vec Expression Global) (done : List S.Expression) → done ≡ map surface.expression es.items → M.in_body (M.AtOperator (S.Tuple p (M.onto_expressions done S.NoExpressions))) (view.body b) ≡ After b (action (V.Tuple p es))
 at_tuple b p es done h =
-    ap (λ z. Behind b (surface.Leaves (S.Tuple p z))) (expressions_as done ∙ ap surface.expressions_of h)
-    ∙ ap (Behind b) (sym (action_tuple p es))
+    ap (λ z. After b (surface.Leaves (S.Tuple p z))) (expressions_as done ∙ ap surface.expressions_of h)
+    ∙ ap (After b) (sym (action_tuple p es))
 
-pub at_match : (b : Body) (d : Bool) (p : Place) (cs : Vec Clause Global) → M.close_match (record { destructive = d; place = p; scrutinee = view.operand b; clauses = view.clauses cs.items }) (view.under_operand b) ≡ Behind b (action (V.Match d p cs))
+pub at_match : (b : Body) (d : Bool) (p : Place) (cs : Vec Clause Global) → M.close_match (record { destructive = d; place = p; scrutinee = view.operand b; clauses = view.clauses cs.items }) (view.under_operand b) ≡ After b (action (V.Match d p cs))
 at_match b d p cs =
     ap (λ z. M.in_body (M.AtOperator (S.Match d p (view.operand b) z)) (view.under_operand b)) (ap (λ z. M.onto_clauses z S.NoClauses) (map_twice cs.items) ∙ clauses_as (map surface.clause cs.items))
-    ∙ ap (Behind b) (sym (action_match d p cs))
+    ∙ ap (After b) (sym (action_match d p cs))
 
 -- a part more, and a let more
 

@@ -4,7 +4,7 @@
 -- if that waits doesn't hold its operand: the operand is one of the expressions that the steps leave, the last one
 -- first. In the machine it stands beside what waits for it. So what waits takes its operand here from what the steps
 -- left: first what an ended operand or a bracket takes, then the product, the sum and the comparison, then the openers
--- from the innermost outwards. Nothing is over behind them: that is IsWell.
+-- from the innermost outwards. Nothing is over after them: that is IsWell.
 --
 -- Each function that takes a token says that its result Follows a row of the machine, at that token. A function that
 -- takes none says to what it Leads, whatever the token was.
@@ -154,15 +154,15 @@ abbrev pub pending : Option Pending → List S.Expression → Option M.Pending
 pending None es = None
 pending (Some q) es = Some (record { left = top es; operator = q.operator; place = q.place })
 
-abbrev pub behind_pending : Option Pending → List S.Expression → List S.Expression
-behind_pending None es = es
-behind_pending (Some q) es = below es
+abbrev pub after_pending : Option Pending → List S.Expression → List S.Expression
+after_pending None es = es
+after_pending (Some q) es = below es
 
 abbrev pub waiting : Waiting → List S.Expression → M.Waiting
 waiting w es =
     record {
-      comparison = pending w.comparison (behind_pending w.sum (behind_pending w.product es));
-      sum = pending w.sum (behind_pending w.product es);
+      comparison = pending w.comparison (after_pending w.sum (after_pending w.product es));
+      sum = pending w.sum (after_pending w.product es);
       product = pending w.product es;
     }
 
@@ -170,8 +170,8 @@ abbrev pub nothing_waits : Waiting
 nothing_waits = record { comparison = None; sum = None; product = None }
 
 -- what is left behind the operators that wait
-abbrev pub behind_waiting : Waiting → List S.Expression → List S.Expression
-behind_waiting w es = behind_pending w.comparison (behind_pending w.sum (behind_pending w.product es))
+abbrev pub after_waiting : Waiting → List S.Expression → List S.Expression
+after_waiting w es = after_pending w.comparison (after_pending w.sum (after_pending w.product es))
 
 abbrev pub opener : Opener → List S.Expression → M.Opener
 opener (O.Match w d p) es = M.MatchOpener (waiting w es) d p
@@ -184,11 +184,11 @@ waits_outside (O.If w p) = w
 -- the innermost first
 abbrev pub openers : List Opener → List S.Expression → List M.Opener
 openers [] es = []
-openers (o ∷ os) es = opener o es ∷ openers os (behind_waiting (waits_outside o) es)
+openers (o ∷ os) es = opener o es ∷ openers os (after_waiting (waits_outside o) es)
 
-abbrev pub behind_openers : List Opener → List S.Expression → List S.Expression
-behind_openers [] es = es
-behind_openers (o ∷ os) es = behind_openers os (behind_waiting (waits_outside o) es)
+abbrev pub after_openers : List Opener → List S.Expression → List S.Expression
+after_openers [] es = es
+after_openers (o ∷ os) es = after_openers os (after_waiting (waits_outside o) es)
 
 abbrev pub bound_binds : Option (Vec Bind Global) → Option (List S.Bind)
 bound_binds bs = option_map (λ b. map bind b.items) bs
@@ -202,13 +202,13 @@ partial p es =
     record {
       lets = bindings p.lets.items;
       binds = bound_binds p.binds;
-      openers = openers (reverse p.openers.items) (behind_waiting p.waiting es);
+      openers = openers (reverse p.openers.items) (after_waiting p.waiting es);
       waiting = waiting p.waiting es;
     }
 
 -- All that waits has its operand, and nothing is over.
 abbrev pub IsWellPartial : Partial → List S.Expression → Type 0
-IsWellPartial p es = behind_openers (reverse p.openers.items) (behind_waiting p.waiting es) ≡ []
+IsWellPartial p es = after_openers (reverse p.openers.items) (after_waiting p.waiting es) ≡ []
 
 abbrev pub open_match : OpenMatch → S.Expression → M.OpenMatch
 open_match m e = record {
@@ -230,31 +230,31 @@ purpose (E.Clause m q) es = M.ForClause (open_match m (top es)) (pattern q)
 purpose (E.Yes p) es = M.ForYes p (top es)
 purpose (E.No p y) es = M.ForNo p (top es) (block y)
 
-abbrev pub behind_purpose : Use → List S.Expression → List S.Expression
-behind_purpose (E.Arguments n p ts done) es = es
-behind_purpose (E.Fields n p done) es = es
-behind_purpose (E.Parenthesis p) es = es
-behind_purpose E.Bracket es = es
-behind_purpose (E.Tuple p done) es = es
-behind_purpose (E.Clause m q) es = below es
-behind_purpose (E.Yes p) es = below es
-behind_purpose (E.No p y) es = below es
+abbrev pub after_purpose : Use → List S.Expression → List S.Expression
+after_purpose (E.Arguments n p ts done) es = es
+after_purpose (E.Fields n p done) es = es
+after_purpose (E.Parenthesis p) es = es
+after_purpose E.Bracket es = es
+after_purpose (E.Tuple p done) es = es
+after_purpose (E.Clause m q) es = below es
+after_purpose (E.Yes p) es = below es
+after_purpose (E.No p y) es = below es
 
 abbrev pub level : Level → M.Level
 level l =
     record {
-      before = partial l.before (behind_purpose l.purpose (left l.before.steps.items));
+      before = partial l.before (after_purpose l.purpose (left l.before.steps.items));
       purpose = purpose l.purpose (left l.before.steps.items);
     }
 
 abbrev pub IsWellLevel : Level → Type 0
-IsWellLevel l = IsWellPartial l.before (behind_purpose l.purpose (left l.before.steps.items))
+IsWellLevel l = IsWellPartial l.before (after_purpose l.purpose (left l.before.steps.items))
 
 -- the innermost first
 abbrev pub levels : List Level → List M.Level
 levels ls = reverse (map level ls)
 
--- a body behind whose open brackets these expressions wait
+-- a body after whose open brackets these expressions wait
 abbrev pub body_with : Body → List S.Expression → M.Body
 body_with b es =
     record {
@@ -278,7 +278,7 @@ body b = body_with b (operands b)
 abbrev pub IsWellBody : Body → Type 0
 IsWellBody b = IsWellWith b (operands b)
 
--- a body behind an operand, and behind that operand
+-- a body after an operand, and after that operand
 abbrev pub under_operand : Body → M.Body
 under_operand b = body_with b (below (operands b))
 
@@ -399,7 +399,7 @@ inside b o = record b { partial = record b.partial { waiting = waits_outside o }
 abbrev pub ended : M.Body → S.Expression → Sign → M.Next
 ended b v s = M.end_expression b b.partial.openers b.partial.binds (M.all_applied b.partial.waiting v) s
 
--- A literal that is above the greatest one, behind a minus or not.
+-- A literal that is above the greatest one, after a minus or not.
 abbrev pub IsAbove : Bool → Word → Type 0
 IsAbove negated w = (ds : List ℕ) × (w ≡ Number ds) × (limit negated < value_of ds)
 
@@ -418,7 +418,7 @@ Leads r y = (negated : Bool) (w : Word) (x : M.Next) → x ≡ y → IfOk r (λ 
 abbrev pub Follows : Bool → Token → Result Next AllocError → (Word → Place → M.Next) → Type 0
 Follows negated t r row = IfOk r (λ n. Answers negated (word t.word) n (row (word t.word) t.place))
 
--- the places where a literal is behind its minus
+-- the places where a literal is after its minus
 abbrev pub is_negated : BodyPosition → Bool
 is_negated (B.Minus p) = true
 is_negated _ = false

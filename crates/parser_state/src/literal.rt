@@ -32,7 +32,7 @@ pub fn literal(digits: &[u8]) -> Option<i64>
     i64::try_from(magnitude(digits)?).ok()
 }
 
-/// The value of a literal behind a minus where it is at least -2^63.
+/// The value of a literal after a minus where it is at least -2^63.
 pub fn negated_literal(digits: &[u8]) -> Option<i64>
     ensures some { IfSome result (λ v. v ≡ neg_ℤ (pos (value_of digits.now))) }
     ensures none { result ≡ None → limit true < value_of digits.now }

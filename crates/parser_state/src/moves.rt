@@ -151,9 +151,9 @@ pub fn stays_in_pattern(
 
 /// A bracket is opened.
 pub fn enter(alloc: Global, body: Body, purpose: Use) -> Result<Body, AllocError>
-    requires well { view.IsWellWith body (view.behind_purpose purpose (view.operands body)) }
+    requires well { view.IsWellWith body (view.after_purpose purpose (view.operands body)) }
     ensures inner { IfOk result (λ b. view.body b ≡ machine.enter
-        (view.body_with body (view.behind_purpose purpose (view.operands body)))
+        (view.body_with body (view.after_purpose purpose (view.operands body)))
         (view.purpose purpose (view.operands body))) }
     ensures well { IfOk result (λ b. view.IsWellBody b) }
 {
@@ -210,7 +210,7 @@ pub fn start_expression(alloc: Global, body: Body, binds: Option<Vec<Bind>>) -> 
     }
 }
 
-/// Behind an operand, which is this step.
+/// After an operand, which is this step.
 pub fn operand(step: Step, body: Body) -> Result<Next, AllocError>
     requires well { view.IsWellWith body (kept (action step) (view.operands body)) }
     ensures next { Leads result (machine.in_body (machine.AtOperator (acted (action step) (view.operands body)))
@@ -297,7 +297,7 @@ pub fn type_wanted(
     }
 }
 
-// The place behind the first token of a type; none where no type begins with the token.
+// The place after the first token of a type; none where no type begins with the token.
 fn type_begun(alloc: Global, token: Token) -> Result<Option<TypePosition>, AllocError>
     ensures begun { (around : List machine.OpenType) (purpose : machine.TypeUse) → IfOk result (λ found.
         MatchOption found

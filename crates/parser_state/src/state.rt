@@ -50,12 +50,12 @@ pub enum ResultOwner {
 /// A place in the head of a function, by what comes next.
 #[derive(Drop)]
 pub enum FunctionHeading {
-    /// `fun` or `+`, behind `fip`, `fbip` or a credit.
+    /// `fun` or `+`, after `fip`, `fbip` or a credit.
     FunctionKeyword {
         kind: FunKind,
         credits: Vec<CreditMark>,
     },
-    /// A credit's size, behind `+`.
+    /// A credit's size, after `+`.
     CreditSize {
         kind: FunKind,
         credits: Vec<CreditMark>,
@@ -66,7 +66,7 @@ pub enum FunctionHeading {
         kind: FunKind,
         credits: Vec<CreditMark>,
     },
-    /// `[` or `(`, behind a function's name.
+    /// `[` or `(`, after a function's name.
     FunctionStart {
         head: FunctionHead,
     },
@@ -74,7 +74,7 @@ pub enum FunctionHeading {
     StaticName {
         head: FunctionHead,
     },
-    /// `:`, `,` or `]`, behind a static parameter's name.
+    /// `:`, `,` or `]`, after a static parameter's name.
     StaticStart {
         head: FunctionHead,
         name: Name,
@@ -100,7 +100,7 @@ pub enum FunctionHeading {
         head: FunctionHead,
         signature: Signature,
     },
-    /// `:`, behind a signature's parameters.
+    /// `:`, after a signature's parameters.
     SignatureColon {
         head: FunctionHead,
         signature: Signature,
@@ -109,7 +109,7 @@ pub enum FunctionHeading {
     ResultStart {
         owner: ResultOwner,
     },
-    /// `,` or `]`, behind a static parameter.
+    /// `,` or `]`, after a static parameter.
     StaticEnd {
         head: FunctionHead,
     },
@@ -125,18 +125,18 @@ pub enum FunctionHeading {
     ParameterNext {
         head: FunctionHead,
     },
-    /// A parameter's name, behind `^`.
+    /// A parameter's name, after `^`.
     ParameterName {
         head: FunctionHead,
     },
-    /// `:`, behind a parameter's name.
+    /// `:`, after a parameter's name.
     ParameterColon {
         head: FunctionHead,
         lent: bool,
         name: Name,
         place: Place,
     },
-    /// `:`, behind a function's parameters.
+    /// `:`, after a function's parameters.
     ResultColon {
         head: FunctionHead,
     },
@@ -152,7 +152,7 @@ pub enum FunctionHeading {
 pub enum DataHeading {
     /// A data type's name.
     DataName,
-    /// `[` or `{`, behind a data type's name.
+    /// `[` or `{`, after a data type's name.
     DataStart {
         data: DataHead,
     },
@@ -160,7 +160,7 @@ pub enum DataHeading {
     DataParameter {
         data: DataHead,
     },
-    /// `,` or `]`, behind a type parameter's name.
+    /// `,` or `]`, after a type parameter's name.
     DataParameterEnd {
         data: DataHead,
     },
@@ -176,13 +176,13 @@ pub enum DataHeading {
     ConstructorNext {
         data: DataHead,
     },
-    /// `(`, `;` or `}`, behind a constructor's name.
+    /// `(`, `;` or `}`, after a constructor's name.
     ConstructorStart {
         data: DataHead,
         name: Name,
         place: Place,
     },
-    /// `;` or `}`, behind a constructor.
+    /// `;` or `}`, after a constructor.
     ConstructorEnd {
         data: DataHead,
     },
@@ -201,9 +201,9 @@ pub struct OpenType {
 pub enum TypePosition {
     /// A type comes next.
     Wanted,
-    /// Behind a name: `[` may come.
+    /// After a name: `[` may come.
     Named { name: Name, place: Place },
-    /// Behind a type.
+    /// After a type.
     Done { written: Written },
 }
 
@@ -276,11 +276,11 @@ pub struct OpenPattern {
 pub enum PatternPosition {
     /// A pattern comes next.
     Wanted,
-    /// A literal, behind its minus.
+    /// A literal, after its minus.
     Minus { place: Place },
-    /// Behind a constructor's name: `(` may come.
+    /// After a constructor's name: `(` may come.
     Named { name: Name, place: Place },
-    /// Behind a pattern.
+    /// After a pattern.
     Done { pattern: Pattern },
 }
 
@@ -396,25 +396,25 @@ pub struct Body {
 pub enum BodyPosition {
     /// A let or an expression.
     Block,
-    /// A bind or `(`, behind `let`.
+    /// A bind or `(`, after `let`.
     LetStart,
     /// A bind in brackets.
     BindStart {
         done: Vec<Bind>,
     },
-    /// `:` or the bind's end, behind a bind's name.
+    /// `:` or the bind's end, after a bind's name.
     BindNamed {
         binds: Binds,
         name: Name,
         place: Place,
     },
-    /// `=`, behind binds in brackets.
+    /// `=`, after binds in brackets.
     LetEquals {
         binds: Vec<Bind>,
     },
     /// An operand.
     Operand,
-    /// `[`, `(` or the operand's end, behind a lower name.
+    /// `[`, `(` or the operand's end, after a lower name.
     LowerName {
         name: Name,
         place: Place,
@@ -431,20 +431,20 @@ pub enum BodyPosition {
         place: Place,
         statics: Vec<Written>,
     },
-    /// `(` or the operand's end, behind an upper name.
+    /// `(` or the operand's end, after an upper name.
     UpperName {
         name: Name,
         place: Place,
     },
-    /// A literal, behind its minus.
+    /// A literal, after its minus.
     Minus {
         place: Place,
     },
-    /// A let or an expression, behind `(`.
+    /// A let or an expression, after `(`.
     Parenthesis {
         place: Place,
     },
-    /// Behind an operand.
+    /// After an operand.
     Operator,
     /// A further clause or `}`.
     ClauseNext {
@@ -455,7 +455,7 @@ pub enum BodyPosition {
         place: Place,
         yes: Block,
     },
-    /// `{`, behind `else`.
+    /// `{`, after `else`.
     ElseOpen {
         place: Place,
         yes: Block,

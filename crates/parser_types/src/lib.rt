@@ -1,4 +1,4 @@
-// Behind a type: what a token does, by what the type is read for.
+// After a type: what a token does, by what the type is read for.
 #![tactic(auto)]
 
-pub mod behind;
+pub mod following;

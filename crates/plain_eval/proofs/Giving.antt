@@ -1,4 +1,4 @@
--- Values of arguments that are put behind others.
+-- Values of arguments that are put after others.
 use Rattle.std.proofs.Common.{◌≡◌, ℕ, suc, List, [], ◌∷◌, ◌++◌, length, Option, Some, None, refl, sym, ap, ◌∙◌, subst, append-nil, append_assoc}
 use Rattle.fip_trees.specs.fip_language.Values.{Value as Tree, Node, Values, End, More as Further}
 use Rattle.fip_trees.specs.fip_language.Meaning.{Environment, more_of}

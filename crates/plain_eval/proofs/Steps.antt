@@ -44,7 +44,7 @@ leads_as p e run run' a f h = record {
   env = h.env;
   words = h.words;
   covers = h.covers;
-  behind = h.behind;
+  following = h.following;
   given = h.given;
   means = ap (λ (r : Run). resume p (h.waits).hs r.answer) (sym (f h.env h.words)) ∙ h.means;
 }
@@ -149,7 +149,7 @@ hand_value p e a w h =
     (h.vs, e.calls, sym h.means ∙ ap (λ l. resume p l (Gives h.vs e.calls)) none ∙ resume_none p (Gives h.vs e.calls), h.stand)
 
 pub hand_leads : (p : T.Program) (e e' : Evaluation) (w : Waiting) (a : Answer) → e.waiting.items ≡ e'.waiting.items ++ w ∷ [] → e'.is_tail ≡ w.is_tail → e'.frames ≡ w.frames → e'.calls ≡ e.calls → e'.given.items ≡ [] → Keeps w.end e.store e.variables.values.items e'.store e'.variables.values.items → ((env : Environment) (vs : Values) → Covers e.store e.variables.values.items w.base w.end env → StandAll e.store e.given.items vs → CoversNow e'.store e'.variables (bind_binders env w.binders.now vs)) → w.end ≤ e'.variables.end → Hands p e (λ vs. Gives vs e.calls) a → Leads p e' (λ env words. evaluate_block p words (rest_of w.block.now w.next) e'.is_tail e'.frames env e'.calls) a
-hand_leads p e e' w a items tail frames calls given keeps covers behind h =
+hand_leads p e e' w a items tail frames calls given keeps covers following h =
     let k = last_held (h.waits).hs e'.waiting.items w ((h.waits).waiting ∙ items) in
     let gs = k.0 in
     let g = k.1 in
@@ -169,7 +169,7 @@ hand_leads p e e' w a items tail frames calls given keeps covers behind h =
       env = bound;
       words = g.words;
       covers = covers g.env h.vs (subst (λ (x : Waiting). Covers e.store e.variables.values.items x.base x.end g.env) k.4 pop.2) h.stand;
-      behind = omega (arith, behind, low, end_is, last_is);
+      following = omega (arith, following, low, end_is, last_is);
       given = given;
       means =
           ap (resume p gs) (ap (λ t. (evaluate_block p g.words body t e'.frames bound e'.calls).answer) tail ∙ ap (λ d. (evaluate_block p g.words body w.is_tail d bound e'.calls).answer) frames ∙ ap (λ c. (evaluate_block p g.words body w.is_tail w.frames bound c).answer) calls ∙ ap run (sym k.4)) ∙ sym (resume_push p gs g (Gives h.vs e.calls)) ∙ ap (λ l. resume p l (Gives h.vs e.calls)) (sym k.2) ∙ h.means;
@@ -202,7 +202,7 @@ chooses_leads p e e' s x cs value given b a n w c d t st m g l k f first choose 
         env = r.0;
         words = h.words;
         covers = subst (λ s. CoversNow s e'.variables r.0) (sym st) r.1;
-        behind = (let y = h.behind in let z : last_end 0 e'.waiting.items ≡ last_end 0 e.waiting.items = ap (λ x. last_end 0 x.items) w in omega (arith, y, z, l));
+        following = (let y = h.following in let z : last_end 0 e'.waiting.items ≡ last_end 0 e.waiting.items = ap (λ x. last_end 0 x.items) w in omega (arith, y, z, l));
         given = g;
         means =
             ap (resume p (h.waits).hs) (ap (λ t. (evaluate_block p h.words (block b.now) t e'.frames r.0 e'.calls).answer) t ∙ ap (λ d. (evaluate_block p h.words (block b.now) e.is_tail d r.0 e'.calls).answer) d ∙ ap (λ c. (evaluate_block p h.words (block b.now) e.is_tail e.frames r.0 c).answer) c ∙ ap (λ (r : Run). r.answer) (sym (r.2 p h.words e.is_tail e.frames e.calls))) ∙ q;
@@ -298,8 +298,8 @@ block_let p e e' b n w x a q items st va gi ca fr ta wt wf wb we h =
     let hs = (h.waits).hs in
     let ws = e.variables.values.items in
     let low : last_end 0 (map waiting_of hs) ≡ last_end 0 e.waiting.items = ap (last_end 0) (h.waits).waiting in
-    let behind = h.behind in
-    let held = held_push e.store ws 0 hs g (h.waits).held (omega (arith, low, behind, we)) (subst (λ n. Covers e.store ws n w.end h.env) (sym wb) (subst (λ n. Covers e.store ws e.variables.base n h.env) (sym we) h.covers)) in
+    let following = h.following in
+    let held = held_push e.store ws 0 hs g (h.waits).held (omega (arith, low, following, we)) (subst (λ n. Covers e.store ws n w.end h.env) (sym wb) (subst (λ n. Covers e.store ws e.variables.base n h.env) (sym we) h.covers)) in
     let rest = rest_of w.block.now w.next in
     let go = λ (t : Bool) (d : ℕ). λ (vs : Values) (left : ℕ). evaluate_block p h.words rest t d (bind_binders h.env w.binders.now vs) left in
     let run = evaluate p h.words x false e.frames h.env e.calls in
@@ -314,7 +314,7 @@ block_let p e e' b n w x a q items st va gi ca fr ta wt wf wb we h =
       env = h.env;
       words = h.words;
       covers = subst (λ s. CoversNow s e'.variables h.env) (sym st) (subst (λ v. CoversNow e.store v h.env) (sym va) h.covers);
-      behind = omega (arith, last, vend, we);
+      following = omega (arith, last, vend, we);
       given = ap (λ v. v.items) gi ∙ h.given;
       means =
           ap (λ t. resume p (hs ++ g ∷ []) (evaluate p h.words x t e'.frames h.env e'.calls).answer) ta ∙ ap (λ d. resume p (hs ++ g ∷ []) (evaluate p h.words x false d h.env e'.calls).answer) fr ∙ ap (λ k. resume p (hs ++ g ∷ []) (evaluate p h.words x false e.frames h.env k).answer) ca ∙ resume_push p hs g run.answer ∙ ap (resume p hs) (sym (let_answer p g run (go w.is_tail w.frames) (λ vs left. refl))) ∙ ap (λ t. resume p hs (then_with run (go t w.frames)).answer) wt ∙ ap (λ d. resume p hs (then_with run (go e.is_tail d)).answer) wf ∙ ap (λ (r : Run). resume p hs r.answer) (sym (ap (λ r. evaluate_block p h.words r e.is_tail e.frames h.env e.calls) q ∙ evaluate_let p h.words w.binders.now x rest e.is_tail e.frames h.env e.calls)) ∙ h.means;
@@ -360,7 +360,7 @@ call_leads p e e' g left free d b a z f o body wt ca fr ta gi end keeps covers h
       env = env;
       words = words;
       covers = covers h.1.vs h.1.stand;
-      behind = omega (arith, end, same);
+      following = omega (arith, end, same);
       given = gi;
       means =
           ap (resume p hs) (ap (λ r. (evaluate_block p words r e'.is_tail e'.frames env e'.calls).answer) (rest_start b ∙ sym body) ∙ ap (λ t. (evaluate_block p words d.body t e'.frames env e'.calls).answer) ta ∙ ap (λ q. (evaluate_block p words d.body true q env e'.calls).answer) fr ∙ ap (λ k. (evaluate_block p words d.body true free env k).answer) ca) ∙ ap (λ o. resume p hs (body_meaning p free o h.1.vs left).answer) (sym o) ∙ call_body p e g left free a z f h;

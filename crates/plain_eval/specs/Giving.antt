@@ -1,4 +1,4 @@
--- What putting the values of arguments behind others does, where they have some. It serves the proof that an evaluation
+-- What putting the values of arguments after others does, where they have some. It serves the proof that an evaluation
 -- gives what its program means.
 use Rattle.std.specs.Prelude.{◌≡◌, List, [], ◌∷◌, ◌++◌, Option, Some, None}
 use Rattle.fip_trees.specs.fip_language.Values.{Value as Tree, Values}

@@ -52,7 +52,7 @@ unfoldable pub last_end : ℕ → List Waiting → ℕ
 last_end n [] = n
 last_end n (w ∷ ws) = last_end w.end ws
 
--- the slots of those that wait stand for their variables' values; each has its slots behind those of the one before, or
+-- the slots of those that wait stand for their variables' values; each has its slots after those of the one before, or
 -- the same
 unfoldable pub AllHeld : Store → List Value → ℕ → List Held → Type 0
 AllHeld s values low [] = Unit {0}
@@ -71,7 +71,7 @@ pub record Leads (p : T.Program) (e : Evaluation) (run : Environment → ℕ →
   pub env : Environment
   pub words : ℕ
   pub covers : CoversNow e.store e.variables env
-  pub behind : last_end 0 e.waiting.items ≤ e.variables.end
+  pub following : last_end 0 e.waiting.items ≤ e.variables.end
   pub given : e.given.items ≡ []
   pub means : resume p waits.hs (run env words).answer ≡ a
 

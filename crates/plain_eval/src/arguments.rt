@@ -13,7 +13,7 @@ use fip_base::plain::NoMemory;
 use fip_trees::program::Argument;
 use plain_rows::{Store, Value};
 
-/// Puts the value of an argument behind those that were given. A constructor with fields is a new row.
+/// Puts the value of an argument after those that were given. A constructor with fields is a new row.
 #[cycle(give)]
 pub fn give(
     variables: &Variables,
@@ -45,7 +45,7 @@ pub fn give(
     }
 }
 
-/// Puts the values of arguments behind those that were given.
+/// Puts the values of arguments after those that were given.
 #[cycle(give)]
 pub fn give_all(
     variables: &Variables,

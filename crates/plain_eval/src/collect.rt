@@ -92,7 +92,7 @@ fn moved(alloc: Global, store: &Store, reached: &[bool]) -> Result<(Store, Vec<u
     Ok((kept, places))
 }
 
-// Puts a row behind those that were moved, if it is reached.
+// Puts a row after those that were moved, if it is reached.
 fn move_row(
     store: &Store,
     row: usize,

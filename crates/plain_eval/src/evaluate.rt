@@ -53,7 +53,7 @@ pub enum PlainEnded {
 #[derive(Clone, Copy)]
 pub struct Waiting<'a> {
     binders: &'a [Binder],
-    // The block that it stands in, and the number of the binding behind it.
+    // The block that it stands in, and the number of the binding after it.
     block: &'a Block,
     next: usize,
     // Whether that block stands in tail position.
@@ -429,7 +429,7 @@ impl<'a> Evaluation<'a> {
             CoversNow self.new.store self.new.variables (bind_binders nothing_bound instance.now.binders.items vs)) }
         ensures keeps { OnOk result (Keeps (last_end 0 self.old.waiting.items) self.old.store
             self.old.variables.values.items self.new.store self.new.variables.values.items) }
-        ensures behind { OnOk result (last_end 0 self.old.waiting.items ≤ self.new.variables.end) }
+        ensures following { OnOk result (last_end 0 self.old.waiting.items ≤ self.new.variables.end) }
         ensures given { OnOk result (self.new.given.items ≡ []) }
         ensures instances { OnOk result (self.new.instances ≡ self.old.instances) }
         ensures waiting { OnOk result (self.new.waiting ≡ self.old.waiting) }

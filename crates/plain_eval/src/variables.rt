@@ -1,4 +1,4 @@
-// The values of variables: those of each function that was entered and isn't left, one function's behind another's.
+// The values of variables: those of each function that was entered and isn't left, one function's after another's.
 ghost use Rattle.std.specs.Prelude.{◌≡◌, ◌≢◌, ℕ, ◌+◌, ◌<◌, ◌≤◌, length, Some, IfOk, OnOk};
 ghost use Rattle.std.specs.Prelude.{IfSome, slice_get};
 ghost use Rattle.fip_trees.specs.fip_language.Values.{Value as Tree};
@@ -56,7 +56,7 @@ impl Variables {
         }
     }
 
-    // Puts the variables of the function that runs behind all others once more, with a slot for this one; its place.
+    // Puts the variables of the function that runs after all others once more, with a slot for this one; its place.
     // So where a variable gets another value, those that wait keep theirs.
     fn renew(&mut self, number: usize) -> Result<usize, NoMemory>
         ensures place { IfOk result (λ p. (p ≡ self.new.base + number) × (p < self.new.end)
@@ -126,7 +126,7 @@ impl Variables {
         self.end
     }
 
-    /// Enters a function of so many variables. Those behind an end are given up. An error where no memory is left.
+    /// Enters a function of so many variables. Those after an end are given up. An error where no memory is left.
     pub fn enter(&mut self, end: usize, count: usize) -> Result<(), NoMemory>
         ensures keeps { OnOk result ((s : Store) → Keeps end s self.old.values.items s self.new.values.items) }
         ensures longer { OnOk result (end ≤ self.new.end) }
@@ -141,7 +141,7 @@ impl Variables {
         Ok(())
     }
 
-    /// Goes back to the variables from one place to another, which stayed as they were, and gives up those behind them.
+    /// Goes back to the variables from one place to another, which stayed as they were, and gives up those after them.
     pub fn leave(&mut self, base: usize, end: usize)
         ensures base { self.new.base ≡ base }
         ensures end { self.new.end ≡ end }

@@ -35,13 +35,13 @@ none_left (t ∷ ts) e = absurd (omega arith)
 
 -- ---- the fields of a row
 
-tail_by : (tb : Table) (s : Store) (behind : List ℕ) (k : ℕ) (ks : Bor (List ℕ)) (w : Value) (ws : Bor (List Value)) (vs : Values) (rest : List ℕ) (ts : List Task) → HaveTypes tb (k ∷ ks.now) vs → StandAll s (w ∷ ws.now) vs → Prints tb s behind ts rest → Prints tb s behind (T.Whole k w ∷ T.Fields ks ws ∷ ts) (printed_tail tb (k ∷ ks.now) vs rest)
-tail_by tb s behind k ks w ws End rest ts h a p = absurd h
-tail_by tb s behind k ks w ws (Further v vs) rest ts h a p = (v, h.0, a.0, printed_more tb ks.now vs rest, refl, (vs, h.1, a.1, rest, refl, p))
+tail_by : (tb : Table) (s : Store) (following : List ℕ) (k : ℕ) (ks : Bor (List ℕ)) (w : Value) (ws : Bor (List Value)) (vs : Values) (rest : List ℕ) (ts : List Task) → HaveTypes tb (k ∷ ks.now) vs → StandAll s (w ∷ ws.now) vs → Prints tb s following ts rest → Prints tb s following (T.Whole k w ∷ T.Fields ks ws ∷ ts) (printed_tail tb (k ∷ ks.now) vs rest)
+tail_by tb s following k ks w ws End rest ts h a p = absurd h
+tail_by tb s following k ks w ws (Further v vs) rest ts h a p = (v, h.0, a.0, printed_more tb ks.now vs rest, refl, (vs, h.1, a.1, rest, refl, p))
 
-pub tail_prints : (tb : Table) (s : Store) (behind : List ℕ) (types : List ℕ) (values : List Value) (k : ℕ) (ks : Bor (List ℕ)) (w : Value) (ws : Bor (List Value)) (vs : Values) (rest : List ℕ) (ts ts' : List Task) → types ≡ k ∷ ks.now → values ≡ w ∷ ws.now → ts' ≡ T.Whole k w ∷ T.Fields ks ws ∷ ts → HaveTypes tb types vs → StandAll s values vs → Prints tb s behind ts rest → Prints tb s behind ts' (printed_tail tb types vs rest)
-tail_prints tb s behind types values k ks w ws vs rest ts ts' e f g h a p =
-    subst (λ types. Prints tb s behind ts' (printed_tail tb types vs rest)) (sym e) (subst (λ ts. Prints tb s behind ts (printed_tail tb (k ∷ ks.now) vs rest)) (sym g) (tail_by tb s behind k ks w ws vs rest ts (subst (λ types. HaveTypes tb types vs) e h) (subst (λ ws. StandAll s ws vs) f a) p))
+pub tail_prints : (tb : Table) (s : Store) (following : List ℕ) (types : List ℕ) (values : List Value) (k : ℕ) (ks : Bor (List ℕ)) (w : Value) (ws : Bor (List Value)) (vs : Values) (rest : List ℕ) (ts ts' : List Task) → types ≡ k ∷ ks.now → values ≡ w ∷ ws.now → ts' ≡ T.Whole k w ∷ T.Fields ks ws ∷ ts → HaveTypes tb types vs → StandAll s values vs → Prints tb s following ts rest → Prints tb s following ts' (printed_tail tb types vs rest)
+tail_prints tb s following types values k ks w ws vs rest ts ts' e f g h a p =
+    subst (λ types. Prints tb s following ts' (printed_tail tb types vs rest)) (sym e) (subst (λ ts. Prints tb s following ts (printed_tail tb (k ∷ ks.now) vs rest)) (sym g) (tail_by tb s following k ks w ws vs rest ts (subst (λ types. HaveTypes tb types vs) e h) (subst (λ ws. StandAll s ws vs) f a) p))
 
 -- a row has as many fields as types
 pub both_some : (tb : Table) (s : Store) (types : List ℕ) (values : List Value) (vs : Values) → 0 < length types → HaveTypes tb types vs → StandAll s values vs → values ≡ [] → ⊥
@@ -65,15 +65,15 @@ none_of xs b e f = empty_is xs (eqb-true (length xs) 0 (sym e ∙ f)) where
   empty_is [] e = refl
   empty_is (x ∷ xs) e = absurd (omega arith)
 
-pub more_prints : {E : Type 0} (types : List ℕ) (values : List Value) (b : Bool) (ts ts' : List Task) (out mid out' : List ℕ) (r : Result (Unit {0}) E) → b ≡ (length types == 0) → b ≡ false → mid ≡ out ++ 44 ∷ [] → out' ≡ mid ++ 32 ∷ [] → OnOk r ((tb : Table) (s : Store) (behind : List ℕ) (vs : Values) (rest : List ℕ) → 0 < length types → HaveTypes tb types vs → StandAll s values vs → Prints tb s behind ts rest → Prints tb s behind ts' (printed_tail tb types vs rest)) → OnOk r ((tb : Table) (s : Store) (behind : List ℕ) (vs : Values) (rest : List ℕ) → HaveTypes tb types vs → StandAll s values vs → Prints tb s behind ts rest → Printing tb s behind ts' out' (out ++ printed_more tb types vs rest))
-more_prints types values b ts ts' out mid out' (Ok u) e f m o h = λ tb s behind vs rest t a p.
+pub more_prints : {E : Type 0} (types : List ℕ) (values : List Value) (b : Bool) (ts ts' : List Task) (out mid out' : List ℕ) (r : Result (Unit {0}) E) → b ≡ (length types == 0) → b ≡ false → mid ≡ out ++ 44 ∷ [] → out' ≡ mid ++ 32 ∷ [] → OnOk r ((tb : Table) (s : Store) (following : List ℕ) (vs : Values) (rest : List ℕ) → 0 < length types → HaveTypes tb types vs → StandAll s values vs → Prints tb s following ts rest → Prints tb s following ts' (printed_tail tb types vs rest)) → OnOk r ((tb : Table) (s : Store) (following : List ℕ) (vs : Values) (rest : List ℕ) → HaveTypes tb types vs → StandAll s values vs → Prints tb s following ts rest → Printing tb s following ts' out' (out ++ printed_more tb types vs rest))
+more_prints types values b ts ts' out mid out' (Ok u) e f m o h = λ tb s following vs rest t a p.
     let l = some_of types b e f in
     let text = printed_tail tb types vs rest in
-    (text, h tb s behind vs rest l t a p, ap (λ o. o ++ text) (o ∙ ap (λ m. m ++ 32 ∷ []) m) ∙ append_assoc (out ++ 44 ∷ []) (32 ∷ []) text ∙ append_assoc out (44 ∷ []) (32 ∷ text) ∙ ap (λ x. out ++ x) (sym (tail_of tb types vs rest l t).0))
+    (text, h tb s following vs rest l t a p, ap (λ o. o ++ text) (o ∙ ap (λ m. m ++ 32 ∷ []) m) ∙ append_assoc (out ++ 44 ∷ []) (32 ∷ []) text ∙ append_assoc out (44 ∷ []) (32 ∷ text) ∙ ap (λ x. out ++ x) (sym (tail_of tb types vs rest l t).0))
 more_prints types values b ts ts' out mid out' (Err x) e f m o h = tt
 
-pub close_prints : (types : List ℕ) (values : List Value) (b : Bool) (ts : List Task) (out out' : List ℕ) → b ≡ (length types == 0) → b ≡ true → out' ≡ out ++ 41 ∷ [] → (tb : Table) (s : Store) (behind : List ℕ) (vs : Values) (rest : List ℕ) → HaveTypes tb types vs → StandAll s values vs → Prints tb s behind ts rest → Printing tb s behind ts out' (out ++ printed_more tb types vs rest)
-close_prints types values b ts out out' e f o tb s behind vs rest h a p =
+pub close_prints : (types : List ℕ) (values : List Value) (b : Bool) (ts : List Task) (out out' : List ℕ) → b ≡ (length types == 0) → b ≡ true → out' ≡ out ++ 41 ∷ [] → (tb : Table) (s : Store) (following : List ℕ) (vs : Values) (rest : List ℕ) → HaveTypes tb types vs → StandAll s values vs → Prints tb s following ts rest → Printing tb s following ts out' (out ++ printed_more tb types vs rest)
+close_prints types values b ts out out' e f o tb s following vs rest h a p =
     let z = none_of types b e f in
     (rest, p, ap (λ o. o ++ rest) o ∙ append_assoc out (41 ∷ []) rest ∙ ap (λ types. out ++ printed_more tb types vs rest) (sym z))
 
@@ -94,21 +94,21 @@ no_fields : (tb : Table) (types : List ℕ) (rest : List ℕ) → HaveTypes tb t
 no_fields tb [] rest h = refl
 no_fields tb (k ∷ ks) rest h = absurd h
 
-pub bare_prints : (tb : Table) (s : Store) (behind : List ℕ) (ty tag : ℕ) (ts : List Task) (out out' : List ℕ) → ((r : Shape) → slice_get (constructors tb ty) tag ≡ Some r → out' ≡ out ++ r.name) → (v : Tree) (rest : List ℕ) → HasType tb ty v → Stands s (V.Bare tag) v → Prints tb s behind ts rest → Printing tb s behind ts out' (out ++ printed tb ty v rest)
-bare_prints tb s behind ty tag ts out out' f (Int i) rest h a p = cc
-bare_prints tb s behind ty tag ts out out' f (Node c End) rest h a p =
+pub bare_prints : (tb : Table) (s : Store) (following : List ℕ) (ty tag : ℕ) (ts : List Task) (out out' : List ℕ) → ((r : Shape) → slice_get (constructors tb ty) tag ≡ Some r → out' ≡ out ++ r.name) → (v : Tree) (rest : List ℕ) → HasType tb ty v → Stands s (V.Bare tag) v → Prints tb s following ts rest → Printing tb s following ts out' (out ++ printed tb ty v rest)
+bare_prints tb s following ty tag ts out out' f (Int i) rest h a p = cc
+bare_prints tb s following ty tag ts out out' f (Node c End) rest h a p =
     let n = node_of tb ty c End h in
     let same : tag ≡ c = cc in
     (rest, p, ap (λ o. o ++ rest) (f n.s (ap (slice_get (constructors tb ty)) same ∙ n.shape)) ∙ append_assoc out (n.s).name rest ∙ ap (λ x. out ++ x) (sym (n.text rest ∙ ap (λ x. (n.s).name ++ x) (no_fields tb (n.s).fields rest n.types))))
-bare_prints tb s behind ty tag ts out out' f (Node c (Further v vs)) rest h a p = let e = a.2 in cc
+bare_prints tb s following ty tag ts out out' f (Node c (Further v vs)) rest h a p = let e = a.2 in cc
 
-pub int_prints : (tb : Table) (s : Store) (behind : List ℕ) (ty : ℕ) (i : ℤ) (ts : List Task) (out out' : List ℕ) → out' ≡ out ++ signed_decimal i → (v : Tree) (rest : List ℕ) → HasType tb ty v → Stands s (V.Int i) v → Prints tb s behind ts rest → Printing tb s behind ts out' (out ++ printed tb ty v rest)
-int_prints tb s behind zero i ts out out' e (Int j) rest h a p =
+pub int_prints : (tb : Table) (s : Store) (following : List ℕ) (ty : ℕ) (i : ℤ) (ts : List Task) (out out' : List ℕ) → out' ≡ out ++ signed_decimal i → (v : Tree) (rest : List ℕ) → HasType tb ty v → Stands s (V.Int i) v → Prints tb s following ts rest → Printing tb s following ts out' (out ++ printed tb ty v rest)
+int_prints tb s following zero i ts out out' e (Int j) rest h a p =
     let same : i ≡ j = cc in
     (rest, p, ap (λ o. o ++ rest) e ∙ append_assoc out (signed_decimal i) rest ∙ ap (λ j. out ++ (signed_decimal j ++ rest)) same)
-int_prints tb s behind (suc t) i ts out out' e (Int j) rest h a p = absurd h
-int_prints tb s behind ty i ts out out' e (Node c End) rest h a p = cc
-int_prints tb s behind ty i ts out out' e (Node c (Further v vs)) rest h a p = let e = a.2 in cc
+int_prints tb s following (suc t) i ts out out' e (Int j) rest h a p = absurd h
+int_prints tb s following ty i ts out out' e (Node c End) rest h a p = cc
+int_prints tb s following ty i ts out out' e (Node c (Further v vs)) rest h a p = let e = a.2 in cc
 
 pub unbound_prints : (tb : Table) (s : Store) (v : Tree) → Stands s V.Unbound v → ⊥
 unbound_prints tb s (Int j) a = cc
@@ -149,8 +149,8 @@ some_types tb [] End f h = absurd (f refl)
 some_types tb [] (Further v vs) f h = absurd h
 some_types tb (k ∷ ks) vs f h = omega arith
 
-pub row_prints : {E : Type 0} (tb : Table) (s : Store) (ty row : ℕ) (ts ts' : List Task) (tag : ℕ) (shape : Shape) (types : List ℕ) (values : List Value) (out mid out' : List ℕ) (r : Result (Unit {0}) E) → ((c : ℕ) (xs : List Value) → IsRow s row c xs → Some tag ≡ Some c) → slice_get (constructors tb ty) tag ≡ Some shape → types ≡ shape.fields → ((c : ℕ) (xs : List Value) → IsRow s row c xs → values ≡ xs) → mid ≡ out ++ shape.name → out' ≡ mid ++ 40 ∷ [] → OnOk r ((tb : Table) (s : Store) (behind : List ℕ) (vs : Values) (rest : List ℕ) → 0 < length types → HaveTypes tb types vs → StandAll s values vs → Prints tb s behind ts rest → Prints tb s behind ts' (printed_tail tb types vs rest)) → OnOk r ((behind : List ℕ) (v : Tree) (rest : List ℕ) → HasType tb ty v → Stands s (V.Row row) v → Prints tb s behind ts rest → Printing tb s behind ts' out' (out ++ printed tb ty v rest))
-row_prints tb s ty row ts ts' tag shape types values out mid out' (Ok u) f g k m o q h = λ behind v rest t a p.
+pub row_prints : {E : Type 0} (tb : Table) (s : Store) (ty row : ℕ) (ts ts' : List Task) (tag : ℕ) (shape : Shape) (types : List ℕ) (values : List Value) (out mid out' : List ℕ) (r : Result (Unit {0}) E) → ((c : ℕ) (xs : List Value) → IsRow s row c xs → Some tag ≡ Some c) → slice_get (constructors tb ty) tag ≡ Some shape → types ≡ shape.fields → ((c : ℕ) (xs : List Value) → IsRow s row c xs → values ≡ xs) → mid ≡ out ++ shape.name → out' ≡ mid ++ 40 ∷ [] → OnOk r ((tb : Table) (s : Store) (following : List ℕ) (vs : Values) (rest : List ℕ) → 0 < length types → HaveTypes tb types vs → StandAll s values vs → Prints tb s following ts rest → Prints tb s following ts' (printed_tail tb types vs rest)) → OnOk r ((following : List ℕ) (v : Tree) (rest : List ℕ) → HasType tb ty v → Stands s (V.Row row) v → Prints tb s following ts rest → Printing tb s following ts' out' (out ++ printed tb ty v rest))
+row_prints tb s ty row ts ts' tag shape types values out mid out' (Ok u) f g k m o q h = λ following v rest t a p.
     let w = row_of s row v a in
     let n = node_of tb ty w.c w.vs (subst (HasType tb ty) w.tree t) in
     let tags : tag ≡ w.c = let z = f w.c w.xs w.row_is in cc in
@@ -161,7 +161,7 @@ row_prints tb s ty row ts ts' tag shape types values out mid out' (Ok u) f g k m
     let text = printed_tail tb types w.vs rest in
     let fields : printed_fields tb (n.s).fields w.vs rest ≡ 40 ∷ text = ap (λ types. printed_fields tb types w.vs rest) (sym types_are) ∙ (tail_of tb types w.vs rest some have).1 in (
       text,
-      h tb s behind w.vs rest some have (subst (λ xs. StandAll s xs w.vs) (sym (m w.c w.xs w.row_is)) w.stand) p,
+      h tb s following w.vs rest some have (subst (λ xs. StandAll s xs w.vs) (sym (m w.c w.xs w.row_is)) w.stand) p,
       ap (λ o. o ++ text) (q ∙ ap (λ m. m ++ 40 ∷ []) (o ∙ ap (λ (r : Shape). out ++ r.name) same)) ∙ append_assoc (out ++ (n.s).name) (40 ∷ []) text ∙ append_assoc out (n.s).name (40 ∷ text) ∙ ap (λ x. out ++ x) (sym (ap (λ v. printed tb ty v rest) w.tree ∙ n.text rest ∙ ap (λ x. (n.s).name ++ x) fields)),
     )
 row_prints tb s ty row ts ts' tag shape types values out mid out' (Err x) f g k m o q h = tt
@@ -179,30 +179,30 @@ no_shape tb s ty row tag v f e t a =
 
 -- ---- one task of many
 
-pub printing_whole : (tb : Table) (s : Store) (behind : List ℕ) (ty : ℕ) (w : Value) (ts ts' : List Task) (out out' whole : List ℕ) → Printing tb s behind (T.Whole ty w ∷ ts) out whole → ((v : Tree) (rest : List ℕ) → HasType tb ty v → Stands s w v → Prints tb s behind ts rest → Printing tb s behind ts' out' (out ++ printed tb ty v rest)) → Printing tb s behind ts' out' whole
-printing_whole tb s behind ty w ts ts' out out' whole h f =
+pub printing_whole : (tb : Table) (s : Store) (following : List ℕ) (ty : ℕ) (w : Value) (ts ts' : List Task) (out out' whole : List ℕ) → Printing tb s following (T.Whole ty w ∷ ts) out whole → ((v : Tree) (rest : List ℕ) → HasType tb ty v → Stands s w v → Prints tb s following ts rest → Printing tb s following ts' out' (out ++ printed tb ty v rest)) → Printing tb s following ts' out' whole
+printing_whole tb s following ty w ts ts' out out' whole h f =
     let p = h.1 in
     let q = f p.0 p.3 p.1 p.2 p.5 in
     (q.0, q.1, q.2 ∙ ap (λ x. out ++ x) (sym p.4) ∙ h.2)
 
-pub printing_fields : (tb : Table) (s : Store) (behind : List ℕ) (types : Bor (List ℕ)) (ws : Bor (List Value)) (ts ts' : List Task) (out out' whole : List ℕ) → Printing tb s behind (T.Fields types ws ∷ ts) out whole → ((vs : Values) (rest : List ℕ) → HaveTypes tb types.now vs → StandAll s ws.now vs → Prints tb s behind ts rest → Printing tb s behind ts' out' (out ++ printed_more tb types.now vs rest)) → Printing tb s behind ts' out' whole
-printing_fields tb s behind types ws ts ts' out out' whole h f =
+pub printing_fields : (tb : Table) (s : Store) (following : List ℕ) (types : Bor (List ℕ)) (ws : Bor (List Value)) (ts ts' : List Task) (out out' whole : List ℕ) → Printing tb s following (T.Fields types ws ∷ ts) out whole → ((vs : Values) (rest : List ℕ) → HaveTypes tb types.now vs → StandAll s ws.now vs → Prints tb s following ts rest → Printing tb s following ts' out' (out ++ printed_more tb types.now vs rest)) → Printing tb s following ts' out' whole
+printing_fields tb s following types ws ts ts' out out' whole h f =
     let p = h.1 in
     let q = f p.0 p.3 p.1 p.2 p.5 in
     (q.0, q.1, q.2 ∙ ap (λ x. out ++ x) (sym p.4) ∙ h.2)
 
-pub printing_ends : (tb : Table) (s : Store) (behind : List ℕ) (ts : List Task) (out whole : List ℕ) → ts ≡ [] → Printing tb s behind ts out whole → out ++ behind ≡ whole
-printing_ends tb s behind ts out whole e h =
-    let k = subst (λ ts. Printing tb s behind ts out whole) e h in
+pub printing_ends : (tb : Table) (s : Store) (following : List ℕ) (ts : List Task) (out whole : List ℕ) → ts ≡ [] → Printing tb s following ts out whole → out ++ following ≡ whole
+printing_ends tb s following ts out whole e h =
+    let k = subst (λ ts. Printing tb s following ts out whole) e h in
     ap (λ x. out ++ x) (sym k.1) ∙ k.2
 
-pub bare_result : {E : Type 0} (tb : Table) (s : Store) (ty tag : ℕ) (w : Value) (ts : List Task) (out out' : List ℕ) (r : Result (Unit {0}) E) → w ≡ V.Bare tag → OnOk r ((shape : Shape) → slice_get (constructors tb ty) tag ≡ Some shape → out' ≡ out ++ shape.name) → OnOk r ((behind : List ℕ) (v : Tree) (rest : List ℕ) → HasType tb ty v → Stands s w v → Prints tb s behind ts rest → Printing tb s behind ts out' (out ++ printed tb ty v rest))
-bare_result tb s ty tag w ts out out' (Ok u) e f = λ behind v rest h a. bare_prints tb s behind ty tag ts out out' f v rest h (subst (λ w. Stands s w v) e a)
+pub bare_result : {E : Type 0} (tb : Table) (s : Store) (ty tag : ℕ) (w : Value) (ts : List Task) (out out' : List ℕ) (r : Result (Unit {0}) E) → w ≡ V.Bare tag → OnOk r ((shape : Shape) → slice_get (constructors tb ty) tag ≡ Some shape → out' ≡ out ++ shape.name) → OnOk r ((following : List ℕ) (v : Tree) (rest : List ℕ) → HasType tb ty v → Stands s w v → Prints tb s following ts rest → Printing tb s following ts out' (out ++ printed tb ty v rest))
+bare_result tb s ty tag w ts out out' (Ok u) e f = λ following v rest h a. bare_prints tb s following ty tag ts out out' f v rest h (subst (λ w. Stands s w v) e a)
 bare_result tb s ty tag w ts out out' (Err x) e f = tt
 
 -- ---- the lines
 
-pub lines_first : (tb : Table) (s : Store) (k : ℕ) (ks : List ℕ) (w : Value) (ws : List Value) (us : Values) (out mid out' whole : List ℕ) → HaveTypes tb (k ∷ ks) us → StandAll s (w ∷ ws) us → ((v : Tree) (behind : List ℕ) → HasType tb k v → Stands s w v → mid ++ behind ≡ out ++ printed tb k v behind) → out' ≡ mid ++ 10 ∷ [] → out ++ printed_lines tb (k ∷ ks) us ≡ whole → (vs : Values) × HaveTypes tb ks vs × StandAll s ws vs × (out' ++ printed_lines tb ks vs ≡ whole)
+pub lines_first : (tb : Table) (s : Store) (k : ℕ) (ks : List ℕ) (w : Value) (ws : List Value) (us : Values) (out mid out' whole : List ℕ) → HaveTypes tb (k ∷ ks) us → StandAll s (w ∷ ws) us → ((v : Tree) (following : List ℕ) → HasType tb k v → Stands s w v → mid ++ following ≡ out ++ printed tb k v following) → out' ≡ mid ++ 10 ∷ [] → out ++ printed_lines tb (k ∷ ks) us ≡ whole → (vs : Values) × HaveTypes tb ks vs × StandAll s ws vs × (out' ++ printed_lines tb ks vs ≡ whole)
 lines_first tb s k ks w ws End out mid out' whole h a f o e = absurd h
 lines_first tb s k ks w ws (Further v vs) out mid out' whole h a f o e = (vs, h.1, a.1, ap (λ o. o ++ printed_lines tb ks vs) o ∙ append_assoc mid (10 ∷ []) (printed_lines tb ks vs) ∙ f v (10 ∷ printed_lines tb ks vs) h.0 a.0 ∙ e)
 

@@ -45,7 +45,7 @@ Stands s w v = Holds s (count_rows s) w v
 abbrev pub StandAll : Store → List Value → Values → Type 0
 StandAll s ws vs = HoldAll s (count_rows s) ws vs
 
--- a store with these rows and maybe others behind them
+-- a store with these rows and maybe others after them
 pub record More (s t : Store) : Type 0 where
   pub rows : count_rows s ≤ count_rows t
   pub kept : (r c : ℕ) (xs : List Value) → IsRow s r c xs → IsRow t r c xs

@@ -203,7 +203,7 @@ fn step<'a>(
     }
 }
 
-// Makes the value of a type that a word stands for, behind those that were made.
+// Makes the value of a type that a word stands for, after those that were made.
 fn load(
     alloc: Global,
     table: &TypeTable,

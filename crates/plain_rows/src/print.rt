@@ -1,4 +1,4 @@
-// Values as text: the name of a constructor and, where it has fields, their values in brackets, with one space behind
+// Values as text: the name of a constructor and, where it has fields, their values in brackets, with one space after
 // each comma; an int is its digits, without leading zeros. What is still to be printed is a list, so that no value is
 // too deep for the program's own stack.
 ghost use Rattle.std.specs.Prelude.{◌≡◌, ℕ, ◌+◌, ◌*◌, ◌<◌, ◌≤◌, List, [], ◌∷◌, ◌++◌, length, Some, IfOk, OnOk, vec_len};
@@ -53,10 +53,10 @@ fn put_fields<'a>(
     values: &'a [Value],
     tasks: &mut Vec<Task<'a>>,
 ) -> Result<(), NoMemory>
-    ensures prints { OnOk result ((tb : Table) (s : Store) (behind : List ℕ) (vs : Values) (rest : List ℕ) →
+    ensures prints { OnOk result ((tb : Table) (s : Store) (following : List ℕ) (vs : Values) (rest : List ℕ) →
         0 < length types.now → HaveTypes tb types.now vs → StandAll s values.now vs →
-        Prints tb s behind (last_first tasks.old.items) rest →
-        Prints tb s behind (last_first tasks.new.items) (printed_tail tb types.now vs rest)) }
+        Prints tb s following (last_first tasks.old.items) rest →
+        Prints tb s following (last_first tasks.new.items) (printed_tail tb types.now vs rest)) }
     ensures few { OnOk result (vec_len tasks.new ≤ vec_len tasks.old + 2) }
 {
     match (split(types), first_of(values)) {
@@ -69,16 +69,16 @@ fn put_fields<'a>(
     }
 }
 
-// The last fields of a row with what stands before them, or the bracket behind them.
+// The last fields of a row with what stands before them, or the bracket after them.
 fn print_fields<'a>(
     types: &'a [u32],
     values: &'a [Value],
     out: &mut Vec<u8>,
     tasks: &mut Vec<Task<'a>>,
 ) -> Result<(), NoMemory>
-    ensures prints { OnOk result ((tb : Table) (s : Store) (behind : List ℕ) (vs : Values) (rest : List ℕ) →
-        HaveTypes tb types.now vs → StandAll s values.now vs → Prints tb s behind (last_first tasks.old.items) rest →
-        Printing tb s behind (last_first tasks.new.items) out.new.items
+    ensures prints { OnOk result ((tb : Table) (s : Store) (following : List ℕ) (vs : Values) (rest : List ℕ) →
+        HaveTypes tb types.now vs → StandAll s values.now vs → Prints tb s following (last_first tasks.old.items) rest →
+        Printing tb s following (last_first tasks.new.items) out.new.items
         (out.old.items ++ printed_more tb types.now vs rest)) }
     ensures steps { OnOk result (vec_len tasks.new + 3 * vec_len out.old ≤ vec_len tasks.old + 3 * vec_len out.new) }
 {
@@ -115,9 +115,9 @@ fn print_row<'a>(
     out: &mut Vec<u8>,
     tasks: &mut Vec<Task<'a>>,
 ) -> Result<(), NoMemory>
-    ensures prints { OnOk result ((behind : List ℕ) (v : Tree) (rest : List ℕ) → HasType table.now ty v →
-        Stands store.now (Value.Row row) v → Prints table.now store.now behind (last_first tasks.old.items) rest →
-        Printing table.now store.now behind (last_first tasks.new.items) out.new.items
+    ensures prints { OnOk result ((following : List ℕ) (v : Tree) (rest : List ℕ) → HasType table.now ty v →
+        Stands store.now (Value.Row row) v → Prints table.now store.now following (last_first tasks.old.items) rest →
+        Printing table.now store.now following (last_first tasks.new.items) out.new.items
         (out.old.items ++ printed table.now ty v rest)) }
     ensures steps { OnOk result (vec_len tasks.new + 3 * vec_len out.old ≤ vec_len tasks.old + 3 * vec_len out.new) }
 {
@@ -141,9 +141,9 @@ fn print_whole<'a>(
     out: &mut Vec<u8>,
     tasks: &mut Vec<Task<'a>>,
 ) -> Result<(), NoMemory>
-    ensures prints { OnOk result ((behind : List ℕ) (v : Tree) (rest : List ℕ) → HasType table.now ty v →
-        Stands store.now value v → Prints table.now store.now behind (last_first tasks.old.items) rest →
-        Printing table.now store.now behind (last_first tasks.new.items) out.new.items
+    ensures prints { OnOk result ((following : List ℕ) (v : Tree) (rest : List ℕ) → HasType table.now ty v →
+        Stands store.now value v → Prints table.now store.now following (last_first tasks.old.items) rest →
+        Printing table.now store.now following (last_first tasks.new.items) out.new.items
         (out.old.items ++ printed table.now ty v rest)) }
     ensures steps { OnOk result (vec_len tasks.new + 3 * vec_len out.old ≤ vec_len tasks.old + 3 * vec_len out.new) }
 {
@@ -163,9 +163,9 @@ fn print_task<'a>(
     out: &mut Vec<u8>,
     tasks: &mut Vec<Task<'a>>,
 ) -> Result<(), NoMemory>
-    ensures prints { OnOk result ((behind whole : List ℕ) →
-        Printing table.now store.now behind (task.entry ∷ last_first tasks.old.items) out.old.items whole →
-        Printing table.now store.now behind (last_first tasks.new.items) out.new.items whole) }
+    ensures prints { OnOk result ((following whole : List ℕ) →
+        Printing table.now store.now following (task.entry ∷ last_first tasks.old.items) out.old.items whole →
+        Printing table.now store.now following (last_first tasks.new.items) out.new.items whole) }
     ensures steps { OnOk result (vec_len tasks.new + 3 * vec_len out.old ≤ vec_len tasks.old + 3 * vec_len out.new) }
 {
     match task {
@@ -174,7 +174,7 @@ fn print_task<'a>(
     }
 }
 
-// A value, behind what is printed. A task that puts further ones prints a byte, so there is an end to them.
+// A value, after what is printed. A task that puts further ones prints a byte, so there is an end to them.
 fn print_value(
     alloc: Global,
     table: &TypeTable,
@@ -183,8 +183,8 @@ fn print_value(
     value: Value,
     out: &mut Vec<u8>,
 ) -> Result<(), NoMemory>
-    ensures prints { OnOk result ((v : Tree) (behind : List ℕ) → HasType table.now ty v → Stands store.now value v →
-        out.new.items ++ behind ≡ out.old.items ++ printed table.now ty v behind) }
+    ensures prints { OnOk result ((v : Tree) (following : List ℕ) → HasType table.now ty v → Stands store.now value v →
+        out.new.items ++ following ≡ out.old.items ++ printed table.now ty v following) }
 {
     let mut tasks = Vec::new(alloc);
     tasks.push(Task::Whole(ty, value))?;

@@ -45,7 +45,7 @@ impl Store {
         }
     }
 
-    /// Puts a row behind the others; its value. An error where no memory is left.
+    /// Puts a row after the others; its value. An error where no memory is left.
     pub fn push(&mut self, tag: u32, fields: &[Value]) -> Result<Value, NoMemory>
         ensures named { IfOk result (λ w. w ≡ Value.Row (count_rows self.old)) }
         ensures row { OnOk result (IsRow self.new (count_rows self.old) tag fields.now) }

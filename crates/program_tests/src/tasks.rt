@@ -177,7 +177,7 @@ fn is_audited(alloc: Global, proof: &[u8], status: u8, text: &str) -> Result<boo
     ends(alloc, "audit a.fp other", host, status, text)
 }
 
-// Whether `replay` of a trace prints this before its first step and this behind its last one.
+// Whether `replay` of a trace prints this before its first step and this after its last one.
 fn is_replayed(alloc: Global, trace: &[u8], first: &str, last: &str) -> Result<bool, AllocError> {
     let host = host_of(trace, b"");
     Ok(

@@ -32,7 +32,7 @@ module _ {A : Type 0} (breaks : ℕ → A → List Violation) (first : Option Vi
   take-all zero (y ∷ xs) e = cc
   take-all (suc i) (y ∷ xs) e = ap (λ l. y ∷ l) (take-all i xs e)
 
-  -- one more item, and others that come behind
+  -- one more item, and others that come after
   pub gathers_goes : (i : ℕ) (xs more : List A) (x : A) (o : Option Violation) → slice_get xs i ≡ Some x → Gathers i xs o → Gathers (i + 1) (xs ++ more) (after o (breaks i x))
   gathers_goes i xs more x o e g =
       ap (λ p. after p (breaks i x)) g

@@ -1,4 +1,4 @@
--- Trees that come behind others change none of these.
+-- Trees that come after others change none of these.
 use Rattle.std.proofs.Common.{◌≡◌, ℕ, zero, suc, ◌+◌, ◌<◌, Bool, true, false, List, [], ◌∷◌, ◌++◌, length, slice_get, get_or, Some, refl, ap, sym, ◌∙◌, arith, if◌then◌else◌, append_assoc, append-nil}
 use Rattle.std.specs.List.{list_any}
 use Rattle.fip_base.specs.fip_language.Every.{Every}
@@ -6,7 +6,7 @@ use Rattle.reached_instances.specs.Closed.{Closed, Int, same_closed}
 use Rattle.reached_instances.specs.SharedTrees.{Branch, trees, trees_at, Grows, AreWithin}
 use Rattle.reached_instances.specs.Numbering.{with_new}
 use Rattle.reached_instances.proofs.SharedTrees.{so_many, keep_trees}
-use Rattle.reached_instances.proofs.SharedTrees.{new_behind as behind_by}
+use Rattle.reached_instances.proofs.SharedTrees.{new_after as after_by}
 
 pub grows_same : (bs : List Branch) → Grows bs bs
 grows_same bs = ([], sym (append-nil (trees bs)))
@@ -15,7 +15,7 @@ pub grows_more : (bs cs ds : List Branch) → Grows bs cs → Grows cs ds → Gr
 grows_more bs cs ds g h = (g.0 ++ h.0, h.1 ∙ ap (λ l. l ++ h.0) g.1 ∙ append_assoc (trees bs) g.0 h.0)
 
 pub shared_grows : (bs cs : List Branch) (t : Closed) → trees cs ≡ with_new same_closed (trees bs) t → Grows bs cs
-shared_grows bs cs t e = let r = behind_by (list_any (λ y. same_closed t y) (trees bs)) (trees bs) t in (r.0, e ∙ r.1)
+shared_grows bs cs t e = let r = after_by (list_any (λ y. same_closed t y) (trees bs)) (trees bs) t in (r.0, e ∙ r.1)
 
 get_at : (ts : List Closed) (i : ℕ) (t : Closed) → slice_get ts i ≡ Some t → (get_or ts i Int ≡ t) × (i < length ts)
 get_at [] i t e = cc

@@ -55,10 +55,10 @@ cancel (z ∷ zs) xs ys e = cancel zs xs ys (let f : zs ++ xs ≡ zs ++ ys = cc 
 -- ---- with_new and with_all
 
 module _ {A : Type 0} (same : A → A → Bool) (exact : IsSame same) where
-  -- what adding does: others stand behind, each of them new, and from what was added
+  -- what adding does: others stand after, each of them new, and from what was added
   pub record Adds (xs ys zs : List A) : Type 0 where
     pub more : List A
-    pub behind : zs ≡ xs ++ more
+    pub following : zs ≡ xs ++ more
     pub has : (y : A) → Among y ys → Among y zs
     pub only : (z : A) → Among z zs → Among z xs ⊎ Among z ys
     pub differ : Differ xs → Differ zs
@@ -67,7 +67,7 @@ module _ {A : Type 0} (same : A → A → Bool) (exact : IsSame same) where
   adds_by true xs x e =
       record {
         more = [];
-        behind = sym (append-nil xs);
+        following = sym (append-nil xs);
         has = λ y h. elim h as (λ _. Among y xs) [ inl q ↦ subst (λ w. Among w xs) (sym q) (found same exact x xs e) | inr k ↦ absurd k ];
         only = λ z h. inl h;
         differ = λ d. d;
@@ -75,7 +75,7 @@ module _ {A : Type 0} (same : A → A → Bool) (exact : IsSame same) where
   adds_by false xs x e =
       record {
         more = x ∷ [];
-        behind = refl;
+        following = refl;
         has = λ y h. among_right y xs (x ∷ []) h;
         only = λ z h. among_either z xs (x ∷ []) h;
         differ = differ_last xs x (missing same exact x xs e);
@@ -88,9 +88,9 @@ module _ {A : Type 0} (same : A → A → Bool) (exact : IsSame same) where
   adds_more xs y ys us vs a b =
       record {
         more = a.more ++ b.more;
-        behind = b.behind ∙ ap (λ l. l ++ b.more) a.behind ∙ append_assoc xs a.more b.more;
+        following = b.following ∙ ap (λ l. l ++ b.more) a.following ∙ append_assoc xs a.more b.more;
         has = λ z h. elim h as (λ _. Among z vs) [
-          | inl e ↦ subst (λ l. Among z l) (sym b.behind) (among_left z us b.more (a.has z (inl e)))
+          | inl e ↦ subst (λ l. Among z l) (sym b.following) (among_left z us b.more (a.has z (inl e)))
           | inr k ↦ b.has z k
         ];
         only = λ z h. elim (b.only z h) as (λ _. Among z xs ⊎ Among z (y ∷ ys)) [
@@ -106,14 +106,14 @@ module _ {A : Type 0} (same : A → A → Bool) (exact : IsSame same) where
       first z (inr (inr k)) = absurd k
 
   pub adds : (xs ys : List A) → Adds xs ys (with_all same xs ys)
-  adds xs [] = record { more = []; behind = sym (append-nil xs); has = λ y h. absurd h; only = λ z h. inl h; differ = λ d. d }
+  adds xs [] = record { more = []; following = sym (append-nil xs); has = λ y h. absurd h; only = λ z h. inl h; differ = λ d. d }
   adds xs (y ∷ ys) = adds_more xs y ys (with_new same xs y) (with_all same (with_new same xs y) ys) (adds_new xs y) (adds (with_new same xs y) ys)
 
   pub all_append : (xs ys zs : List A) → with_all same xs (ys ++ zs) ≡ with_all same (with_all same xs ys) zs
   all_append xs [] zs = refl
   all_append xs (y ∷ ys) zs = all_append (with_new same xs y) ys zs
 
-  -- ---- the walk: what comes next from the first ones has been added, what waits is behind them
+  -- ---- the walk: what comes next from the first ones has been added, what waits is after them
 
   pub record IsWalk (roots : List A) (next : A → List A) (i : ℕ) (xs : List A) : Type 0 where
     pub done : List A
@@ -178,7 +178,7 @@ module _ {A : Type 0} (same : A → A → Bool) (exact : IsSame same) where
       record {
         done = w.done ++ x ∷ [];
         waits = rest ++ a.more;
-        split = a.behind ∙ ap (λ l. l ++ a.more) (here ∙ shift w.done x rest) ∙ append_assoc (w.done ++ x ∷ []) rest a.more;
+        split = a.following ∙ ap (λ l. l ++ a.more) (here ∙ shift w.done x rest) ∙ append_assoc (w.done ++ x ∷ []) rest a.more;
         so_many = omega (arith, n, m);
         ordered = ordered_on roots next w.done x xs w.ordered;
         reached = λ y h. elim (a.only y h) as (λ _. Reached roots next y) [
@@ -269,7 +269,7 @@ module _ {A : Type 0} (same : A → A → Bool) (exact : IsSame same) where
 
   -- ---- there is one numbering
 
-  -- xs goes on behind done, or all of it is in done
+  -- xs goes on after done, or all of it is in done
   goes_or_within : (ws us done : List A) (x : A) (rest : List A) → ws ++ us ≡ done ++ x ∷ rest → ((more : List A) × (ws ≡ done ++ x ∷ more)) ⊎ ((z : A) → Among z ws → Among z done)
   goes_or_within [] us done x rest e = inr (λ z h. absurd h)
   goes_or_within (w ∷ ws) us [] x rest e = inl (ws, (let f : w ≡ x = cc in ap (λ v. v ∷ ws) f))
@@ -281,18 +281,18 @@ module _ {A : Type 0} (same : A → A → Bool) (exact : IsSame same) where
         | inr k ↦ inr (λ z h. elim h as (λ _. Among z (d ∷ done)) [ inl q ↦ inl (q ∙ f) | inr a ↦ inr (k z a) ])
       ]
 
-  -- the list is what is reached from its first ones, with more behind
+  -- the list is what is reached from its first ones, with more after
   prefix_of : (roots : List A) (next : A → List A) (done rest : List A) → AreNumbered same roots next (done ++ rest) → (us : List A) × (firsts same (roots ++ all_of next done) ++ us ≡ done ++ rest)
   prefix_of roots next done rest h =
       let a = adds (firsts same (roots ++ all_of next done)) (all_of next rest) in (
         a.more,
-        sym a.behind
+        sym a.following
             ∙ sym (all_append [] (roots ++ all_of next done) (all_of next rest))
             ∙ ap (firsts same) (append_assoc roots (all_of next done) (all_of next rest) ∙ ap (λ l. roots ++ l) (sym (of_append next done rest)))
             ∙ sym h.ordered,
       )
 
-  -- where all that the first ones reach is among them, nothing stands behind them
+  -- where all that the first ones reach is among them, nothing stands after them
   closed_all : (roots : List A) (next : A → List A) (done : List A) → ((z : A) → Among z (firsts same (roots ++ all_of next done)) → Among z done) → (x : A) → Reached roots next x → Among x done
   closed_all roots next done h =
       let a = adds [] (roots ++ all_of next done) in
@@ -306,7 +306,7 @@ module _ {A : Type 0} (same : A → A → Bool) (exact : IsSame same) where
         | inr k ↦ absurd (differ_apart done x rest (numbered_differ roots next (done ++ x ∷ rest) h) (closed_all roots next done k x (h.reached x (among_right x done (x ∷ rest) (inl refl)))))
       ]
 
-  -- nothing stands behind a whole numbering
+  -- nothing stands after a whole numbering
   no_more : (roots : List A) (next : A → List A) (done : List A) (x : A) (rest : List A) → AreNumbered same roots next done → AreNumbered same roots next (done ++ x ∷ rest) → ⊥
   no_more roots next done x rest h g =
       differ_apart done x rest (numbered_differ roots next (done ++ x ∷ rest) g) (numbered_all roots next done h x (g.reached x (among_right x done (x ∷ rest) (inl refl))))

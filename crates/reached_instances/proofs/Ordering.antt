@@ -1,4 +1,4 @@
--- A call is put in text order among the calls that came before it: those that stand behind it in the text are passed,
+-- A call is put in text order among the calls that came before it: those that stand after it in the text are passed,
 -- from the end.
 use Rattle.std.proofs.Common.{◌≡◌, ℕ, suc, ◌+◌, ◌<◌, ◌≤◌, List, [], ◌∷◌, ◌++◌, length, map, drop, take, get_or, reverse, ap, sym, ◌∙◌, arith, if◌then◌else◌, append_assoc}
 use Rattle.std.proofs.Math.Seq.{take-suc}
@@ -34,7 +34,7 @@ passed_one u xs i x l e h =
     ∙ sym (append_assoc (backwards (drop (i + 1) xs)) (use_of x ∷ []) (put_in_order u (backwards (take i xs))))
     ∙ ap (λ (ys : List Written). ys ++ put_in_order u (backwards (take i xs))) (sym (backwards_first xs i x l e))
 
--- one is not, and the call stands behind it
+-- one is not, and the call stands after it
 pub passed_last : (u : Written) (xs : List CallSite) (i : ℕ) (x : CallSite) → i < length xs → x ≡ get_or xs i x → x.place.at ≤ (place_of u).at → put_in_order u (backwards (take (i + 1) xs)) ≡ u ∷ backwards (take (i + 1) xs)
 passed_last u xs i x l e h =
     ap (put_in_order u) (backwards_last xs i x l e)

@@ -1,4 +1,4 @@
--- Places that are put behind others, one after another.
+-- Places that are put after others, one after another.
 use Rattle.std.proofs.Common.{◌≡◌, ℕ, zero, suc, ◌+◌, ◌<◌, ◌≤◌, List, [], ◌∷◌, ◌++◌, length, map, if◌then◌else◌, take, drop, get_or, refl, ap, sym, subst, ◌∙◌, arith, append_assoc, append-nil, drop_of_length-le}
 use Rattle.std.proofs.Math.Seq.{take-suc}
 use Rattle.std.proofs.lemmas.Bool.{ne_eqb}
@@ -15,12 +15,12 @@ use Rattle.reached_instances.proofs.Lists.{drop_item}
 use Rattle.reached_instances.proofs.SharedAt.{int_first}
 use Rattle.reached_instances.proofs.SharedTrees.{so_many}
 pub use Rattle.fip_base.proofs.fip_language.Facts.{map_map, take_past}
-use Rattle.reached_instances.proofs.Growing.{length_append as length_behind}
+use Rattle.reached_instances.proofs.Growing.{length_append as length_after}
 use Rattle.reached_instances.proofs.Heard.{all_of_append}
 
 -- ---- what is put
 
--- other trees came behind, and no place
+-- other trees came after, and no place
 pub put_grown : (k l : Kept) (is : List ℕ) → Grows k.branches l.branches → l.fits ≡ k.fits → AreWithin k.branches is → Put k l is is []
 put_grown k l is g f w = record {
   grows = g;
@@ -61,10 +61,10 @@ put_place k l is js i c g f w h t e = record {
 IsData : Closed → Type 0
 IsData c = unless_int c ≡ c ∷ []
 
-behind_data : (ts : List Closed) (bs : List Branch) → (more : List Closed) × (with_branches ts bs ≡ ts ++ more) × Every (λ c. unless_int c ≡ c ∷ []) more
-behind_data ts [] = ([], sym (append-nil ts), tt)
-behind_data ts (b ∷ bs) =
-    let r = behind_data (ts ++ tree_of ts b ∷ []) bs in
+after_data : (ts : List Closed) (bs : List Branch) → (more : List Closed) × (with_branches ts bs ≡ ts ++ more) × Every (λ c. unless_int c ≡ c ∷ []) more
+after_data ts [] = ([], sym (append-nil ts), tt)
+after_data ts (b ∷ bs) =
+    let r = after_data (ts ++ tree_of ts b ∷ []) bs in
     (tree_of ts b ∷ r.0, r.1 ∙ append_assoc ts (tree_of ts b ∷ []) r.0, (refl, r.2))
 
 data_at : (cs : List Closed) (j : ℕ) → Every (λ c. unless_int c ≡ c ∷ []) cs → j < length cs → unless_int (get_or cs j Int) ≡ get_or cs j Int ∷ []
@@ -74,10 +74,10 @@ data_at (c ∷ cs) (suc j) e h = data_at cs j e.1 (omega (arith, h))
 
 pub not_int : (bs : List Branch) (j : ℕ) → suc j < length bs + 1 → unless_int (tree_at (trees bs) (suc j)) ≡ tree_at (trees bs) (suc j) ∷ []
 not_int bs j h =
-    let r = behind_data (Int ∷ []) bs in
+    let r = after_data (Int ∷ []) bs in
     let n = so_many (Int ∷ []) bs in
     let m = ap length r.1 in
-    let k = length_behind (Int ∷ []) r.0 in
+    let k = length_after (Int ∷ []) r.0 in
     subst (λ l. unless_int (get_or l (suc j) Int) ≡ get_or l (suc j) Int ∷ []) (sym r.1) (data_at r.0 j r.2 (omega (arith, h, n, m, k)))
 
 -- one place, unless int stands there

@@ -3,7 +3,7 @@ use Rattle.std.proofs.Common.{◌≡◌, ◌⊎◌, inl, inr, ℕ, zero, suc, �
 use Rattle.fip_base.specs.fip_language.Every.{Every}
 use Rattle.reached_instances.specs.Closed.{Closed, Int}
 use Rattle.reached_instances.specs.SharedTrees.{Branch, tree_of, trees, AreBefore}
-use Rattle.reached_instances.proofs.SharedTrees.{so_many, behind, at_place, before_all, among_at}
+use Rattle.reached_instances.proofs.SharedTrees.{so_many, following, at_place, before_all, among_at}
 use Rattle.fip_base.proofs.fip_language.Facts.{length_of_none as none_past}
 
 get_there : (ts : List Closed) (i : ℕ) (t : Closed) → slice_get ts i ≡ Some t → get_or ts i Int ≡ t
@@ -17,7 +17,7 @@ get_past (u ∷ ts) zero h = absurd (omega (arith, h))
 get_past (u ∷ ts) (suc i) h = get_past ts i (omega (arith, h))
 
 pub int_first : (bs : List Branch) → get_or (trees bs) 0 Int ≡ Int
-int_first bs = let g = behind (Int ∷ []) bs in ap (λ l. get_or l 0 Int) g.1
+int_first bs = let g = following (Int ∷ []) bs in ap (λ l. get_or l 0 Int) g.1
 
 pub tree_there : (bs : List Branch) (p : ℕ) (b : Branch) → AreBefore 1 bs → slice_get bs p ≡ Some b → get_or (trees bs) (1 + p) Int ≡ tree_of (trees bs) b
 tree_there bs p b h e = get_there (trees bs) (1 + p) (tree_of (trees bs) b) (at_place (Int ∷ []) bs p b h e)

@@ -34,10 +34,10 @@ keep_trees ts more (i ∷ is) h = ap (λ c. MoreClosed c (trees_at (ts ++ more) 
 keep_tree : (ts more : List Closed) (b : Branch) → Every (λ i. i < length ts) b.arguments → tree_of (ts ++ more) b ≡ tree_of ts b
 keep_tree ts more b h = ap (Applied b.head) (keep_trees ts more b.arguments h)
 
-pub behind : (ts : List Closed) (bs : List Branch) → (more : List Closed) × (with_branches ts bs ≡ ts ++ more)
-behind ts [] = ([], sym (append-nil ts))
-behind ts (b ∷ bs) =
-    let r = behind (ts ++ tree_of ts b ∷ []) bs in
+pub following : (ts : List Closed) (bs : List Branch) → (more : List Closed) × (with_branches ts bs ≡ ts ++ more)
+following ts [] = ([], sym (append-nil ts))
+following ts (b ∷ bs) =
+    let r = following (ts ++ tree_of ts b ∷ []) bs in
     (tree_of ts b ∷ r.0, r.1 ∙ append_assoc ts (tree_of ts b ∷ []) r.0)
 
 pub one_more : (ts : List Closed) (bs : List Branch) (b : Branch) → with_branches ts (bs ++ b ∷ []) ≡ with_branches ts bs ++ tree_of (with_branches ts bs) b ∷ []
@@ -56,7 +56,7 @@ pub at_place : (ts : List Closed) (bs : List Branch) (p : ℕ) (b : Branch) → 
 at_place ts [] p b h e = cc
 at_place ts (c ∷ bs) zero b h e =
     let f : c ≡ b = cc in
-    let r = behind (ts ++ tree_of ts c ∷ []) bs in
+    let r = following (ts ++ tree_of ts c ∷ []) bs in
     let all : with_branches ts (c ∷ bs) ≡ ts ++ tree_of ts c ∷ r.0 = r.1 ∙ append_assoc ts (tree_of ts c ∷ []) r.0 in
     subst (λ l. slice_get l (length ts + 0) ≡ Some (tree_of l b)) (sym all)
     (ap (slice_get (ts ++ tree_of ts c ∷ r.0)) (let z : length ts + 0 ≡ length ts = omega arith in z)
@@ -102,7 +102,7 @@ whose ts (c ∷ bs) t h a =
     first : Among t ts ⊎ (t ≡ tree_of ts c) → Among t ts ⊎ ((b : Branch) × Among b (c ∷ bs) × (t ≡ tree_of (with_branches ts (c ∷ bs)) b))
     first (inl k) = inl k
     first (inr e) =
-        let r = behind (ts ++ tree_of ts c ∷ []) bs in
+        let r = following (ts ++ tree_of ts c ∷ []) bs in
         let all : with_branches ts (c ∷ bs) ≡ ts ++ tree_of ts c ∷ r.0 = r.1 ∙ append_assoc ts (tree_of ts c ∷ []) r.0 in
         inr (c, inl refl, e ∙ sym (keep_tree ts (tree_of ts c ∷ r.0) c h.0) ∙ ap (λ l. tree_of l c) (sym all))
 
@@ -200,13 +200,13 @@ adds_branch false bs b e s w few =
     }
 
 -- what is added stands at its place
-pub new_behind : (x : Bool) (ts : List Closed) (t : Closed) → (more : List Closed) × ((if x then ts else ts ++ t ∷ []) ≡ ts ++ more)
-new_behind true ts t = ([], sym (append-nil ts))
-new_behind false ts t = (t ∷ [], refl)
+pub new_after : (x : Bool) (ts : List Closed) (t : Closed) → (more : List Closed) × ((if x then ts else ts ++ t ∷ []) ≡ ts ++ more)
+new_after true ts t = ([], sym (append-nil ts))
+new_after false ts t = (t ∷ [], refl)
 
 pub added_place : (bs cs : List Branch) (b c : Branch) (p : ℕ) → Added bs b cs → Every (λ i. i < length bs + 1) b.arguments → slice_get cs p ≡ Some c → same_branch b c ≡ true → slice_get (trees cs) (p + 1) ≡ Some (tree_of (trees bs) b)
 added_place bs cs b c p a w e s =
-    let r = new_behind (list_any (λ y. same_closed (tree_of (trees bs) b) y) (trees bs)) (trees bs) (tree_of (trees bs) b) in
+    let r = new_after (list_any (λ y. same_closed (tree_of (trees bs) b) y) (trees bs)) (trees bs) (tree_of (trees bs) b) in
     let all : trees cs ≡ trees bs ++ r.0 = a.trees ∙ r.1 in
     let n = so_many (Int ∷ []) bs in
     ap (slice_get (trees cs)) (let f : p + 1 ≡ 1 + p = omega arith in f)

@@ -101,7 +101,7 @@ module _ (roots : List Closed) (next : Closed → List Closed) (breaks : ℕ →
       record {
         walk = subst (IsWalk same_closed closed_exact roots next (i + 1)) (sym all) (walk_goes same_closed closed_exact roots next i old x here k.walk);
         within = all_within (length cs + 1) xs ys (within_more bs cs xs grows k.within) w;
-        least = h ∙ subst (λ l. Gathers breaks first (i + 1) l (after o (breaks i x))) (sym (all ∙ a.behind)) (gathers_goes breaks first i old a.more x o here k.least);
+        least = h ∙ subst (λ l. Gathers breaks first (i + 1) l (after o (breaks i x))) (sym (all ∙ a.following)) (gathers_goes breaks first i old a.more x o here k.least);
       }
 
   -- as the code says it

@@ -38,7 +38,7 @@ abbrev pub place_of : Written → Place
 place_of (WrittenInt p) = p
 place_of (WrittenName x p ws) = p
 
--- Puts a use behind those that stand before it in the text. The last in the text is the first of the list.
+-- Puts a use after those that stand before it in the text. The last in the text is the first of the list.
 abbrev pub put_in_order : Written → List Written → List Written
 put_in_order u [] = u ∷ []
 put_in_order u (v ∷ vs) = if nat_lt (place_of u).at (place_of v).at then v ∷ put_in_order u vs else u ∷ v ∷ vs

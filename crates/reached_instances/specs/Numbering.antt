@@ -7,7 +7,7 @@ use Rattle.std.specs.List.{list_any}
 use Rattle.fip_base.specs.fip_language.Every.{Among}
 use Rattle.fip_base.specs.fip_language.Mentions.{all_of}
 
--- adds x behind the others, unless it is there
+-- adds x after the others, unless it is there
 abbrev pub with_new : {A : Type 0} → (A → A → Bool) → List A → A → List A
 with_new same xs x = if list_any (λ y. same x y) xs then xs else xs ++ x ∷ []
 

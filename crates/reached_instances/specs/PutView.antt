@@ -1,9 +1,9 @@
--- For the contracts of the code alone: places that are put behind others, and the trees that stand there.
+-- For the contracts of the code alone: places that are put after others, and the trees that stand there.
 use Rattle.std.specs.Prelude.{◌≡◌, ℕ, List, [], ◌∷◌, ◌++◌, ◌==◌, if◌then◌else◌}
 use Rattle.reached_instances.specs.Closed.{Closed}
 use Rattle.reached_instances.specs.SharedTrees.{AreWithin, Grows, Kept, all_at, trees}
 
--- Behind these places came others, at which these trees stand; other trees came behind, and what fits is as it was.
+-- After these places came others, at which these trees stand; other trees came after, and what fits is as it was.
 pub record Put (k l : Kept) (is js : List ℕ) (cs : List Closed) : Type 0 where
   pub grows : Grows k.branches l.branches
   pub fits : l.fits ≡ k.fits

@@ -32,7 +32,7 @@ trees_at ts (i ∷ is) = MoreClosed (tree_at ts i) (trees_at ts is)
 abbrev pub tree_of : List Closed → Branch → Closed
 tree_of ts b = Applied b.head (trees_at ts b.arguments)
 
--- the trees of branches that come behind others
+-- the trees of branches that come after others
 abbrev pub with_branches : List Closed → List Branch → List Closed
 with_branches ts [] = ts
 with_branches ts (b ∷ bs) = with_branches (ts ++ tree_of ts b ∷ []) bs
@@ -58,7 +58,7 @@ same_branch a b = same_head a.head b.head && bytes_eq a.arguments b.arguments
 abbrev pub all_at : List Closed → List ℕ → List Closed
 all_at ts is = map (λ i. tree_at ts i) is
 
--- others came behind
+-- others came after
 abbrev pub Grows : List Branch → List Branch → Type 0
 Grows bs cs = (more : List Closed) × (trees cs ≡ trees bs ++ more)
 
@@ -72,7 +72,7 @@ abbrev pub NoneOrWithin : List Branch → Option ℕ → Type 0
 NoneOrWithin bs None = Unit {0}
 NoneOrWithin bs (Some i) = i < length bs + 1
 
--- these places came, at which these trees stand; others came behind, and what is right of the trees stays
+-- these places came, at which these trees stand; others came after, and what is right of the trees stays
 pub record Started (is_right : Kept → Type 0) (cs : List Closed) (k l : Kept) (is : List ℕ) : Type 0 where
   pub grows : Grows k.branches l.branches
   pub right : is_right l

@@ -35,7 +35,7 @@ pub struct Passing {
     pub passed: usize,
 }
 
-/// Closed trees, each once, behind its arguments. The tree at place 0 is int.
+/// Closed trees, each once, after its arguments. The tree at place 0 is int.
 #[derive(Drop)]
 pub struct Shared {
     trees: IndexSet<Closed>,
@@ -77,7 +77,7 @@ impl Shared {
         let _ = &self.trees;
     }
 
-    /// The place of a tree, which is put behind the others where it is new. Where an argument is no place of a tree it
+    /// The place of a tree, which is put after the others where it is new. Where an argument is no place of a tree it
     /// is int.
     pub fn share(&mut self, head: Head, arguments: Vec<usize>) -> Result<usize, NoMemory>
         ensures grows { OnOk result (Grows self.old.branches self.new.branches) }

@@ -127,7 +127,7 @@ impl<'s, 'a> Source<'s, 'a> {
     }
 }
 
-// Puts a function behind the others where it has no static parameters.
+// Puts a function after the others where it has no static parameters.
 fn put_root(
     alloc: Global,
     shared: &mut Shared,
@@ -214,7 +214,7 @@ fn functions_among(alloc: Global, shared: &Shared, list: &[usize]) -> Result<Vec
     Ok(places)
 }
 
-// Puts a function behind the others; int and data types aren't put.
+// Puts a function after the others; int and data types aren't put.
 fn put_function(shared: &Shared, place: usize, places: &mut Vec<usize>) -> Result<(), NoMemory>
     ensures { place < length shared.now.branches + 1 → AreWithin shared.now.branches places.old.items →
         OnOk result (Put shared.now shared.now places.old.items places.new.items

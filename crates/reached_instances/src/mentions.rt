@@ -148,7 +148,7 @@ impl<'a> Mentions<'a> {
     }
 
     // Puts a call in the text order of the callees' places. A callee stands before what its arguments call, so few
-    // stand behind it.
+    // stand after it.
     fn add_site(
         &mut self,
         name: &'a [u8],
@@ -274,7 +274,7 @@ impl<'a> Mentions<'a> {
     }
 }
 
-// Where a call at a place stands among these: behind the last that doesn't come after it.
+// Where a call at a place stands among these: after the last that doesn't come after it.
 fn site_place(sites: &[CallSite<'_>], place: Place) -> usize
     ensures within { result ≤ length sites.now }
     ensures place { (u : C.Written) → (place_of u).at ≡ place.at →

@@ -140,7 +140,7 @@ pub fn number<R: Reaching>(
     if all { Ok(Some(places)) } else { Ok(None) }
 }
 
-// Puts all that is reached behind one another, and says whether it is no more than the most; else only some of it.
+// Puts all that is reached after one another, and says whether it is no more than the most; else only some of it.
 fn reach<R: Reaching>(
     alloc: Global,
     reaching: &R,
@@ -181,7 +181,7 @@ fn reach<R: Reaching>(
     Ok(true)
 }
 
-// Puts the places of what is there at the start behind the others.
+// Puts the places of what is there at the start after the others.
 fn add_starts<R: Reaching>(
     alloc: Global,
     reaching: &R,
@@ -199,7 +199,7 @@ fn add_starts<R: Reaching>(
     Ok(())
 }
 
-// Puts the places of what the tree at a place leads to behind the others.
+// Puts the places of what the tree at a place leads to after the others.
 fn add_next<R: Reaching>(
     alloc: Global,
     reaching: &R,

@@ -90,7 +90,7 @@ fn given_at(given: &[usize], k: u32) -> usize
     }
 }
 
-// Puts a type behind the others, unless it is int.
+// Puts a type after the others, unless it is int.
 fn put(places: &mut Vec<usize>, place: usize) -> Result<(), NoMemory>
     ensures { OnOk result (places.new.items ≡ with_unless_int places.old.items place) }
 {
@@ -292,7 +292,7 @@ fn put_types(shared: &Shared, arguments: &[usize], places: &mut Vec<usize>) -> R
     Ok(())
 }
 
-// Puts a type behind the others; int and functions aren't put.
+// Puts a type after the others; int and functions aren't put.
 fn put_type(shared: &Shared, place: usize, places: &mut Vec<usize>) -> Result<(), NoMemory>
     ensures { place < length shared.now.branches + 1 → AreWithin shared.now.branches places.old.items →
         OnOk result (Put shared.now shared.now places.old.items places.new.items

@@ -138,7 +138,7 @@ pub fn both(one: bool, other: bool) -> bool
     one && other
 }
 
-// Puts a place, where there is one, behind the others, and says whether there is.
+// Puts a place, where there is one, after the others, and says whether there is.
 fn push_some(places: &mut Vec<usize>, place: Option<usize>) -> Result<bool, NoMemory>
     ensures pushed { OnOk result (places.new.items ≡ with_place places.old.items place) }
     ensures some { IfOk result (λ b. b ≡ is_some place) }

@@ -646,8 +646,8 @@ chain_heir ks heir (suc n) None d c = absurd c
 chain_heir ks heir zero (Some f) d c = ap heir (sym c.1) ∙ c.0
 chain_heir ks heir (suc n) (Some f) d c = chain_heir ks heir n (from_of (at ks f.register)) d c.1
 
--- the kinds behind a Take
-pub record IsBehind (w : Table) (ks : List Kind) (r : ℕ) (parts : ℕ → Option Part) (size : ℕ) (reached : ℕ → Option ℕ)
+-- the kinds after a Take
+pub record IsAfter (w : Table) (ks : List Kind) (r : ℕ) (parts : ℕ → Option Part) (size : ℕ) (reached : ℕ → Option ℕ)
     (new : List Kind) : Type 0 where
   pub owned : is_owned (at ks r) ≡ true
   pub own : is_some (parts r) ≡ false
@@ -680,10 +680,10 @@ pub apart_stays : (w : Table) (ks : List Kind) (r : ℕ) (parts : ℕ → Option
     ends w ks r parts size reached q ≡ false
 apart_stays w ks r parts size reached q e h g = rw (e, h, g) refl
 
-behind_other : (w : Table) (ks : List Kind) (r : ℕ) (parts : ℕ → Option Part) (size : ℕ) (reached : ℕ → Option ℕ)
-    (new : List Kind) (q : ℕ) → IsBehind w ks r parts size reached new → q < length ks → is_some (parts q) ≡ false →
+after_other : (w : Table) (ks : List Kind) (r : ℕ) (parts : ℕ → Option Part) (size : ℕ) (reached : ℕ → Option ℕ)
+    (new : List Kind) (q : ℕ) → IsAfter w ks r parts size reached new → q < length ks → is_some (parts q) ≡ false →
     (q == r) ≡ false → at new q ≡ forget (ends w ks r parts size reached) (fate (reached q) r (at ks q))
-behind_other w ks r parts size reached new q b l e h =
+after_other w ks r parts size reached new q b l e h =
     b.is q l ∙ none_part w r (at ks q) (parts q)
     (if q == r then credit size else forget (ends w ks r parts size reached) (fate (reached q) r (at ks q))) e
     ∙ ap (λ x. if x then credit size else forget (ends w ks r parts size reached) (fate (reached q) r (at ks q))) h
@@ -695,7 +695,7 @@ chain_none ks heir zero None d e c = c
 chain_none ks heir (suc n) None d e c = c
 
 climb_root : (w : Table) (ks : List Kind) (r : ℕ) (parts : ℕ → Option Part) (size : ℕ) (reached : ℕ → Option ℕ)
-    (new : List Kind) (d : ℕ) → IsBehind w ks r parts size reached new → (n : ℕ) (from : Option From) →
+    (new : List Kind) (d : ℕ) → IsAfter w ks r parts size reached new → (n : ℕ) (from : Option From) →
     Chain ks (is_heir w ks r parts) n from d →
     (m : ℕ) × Climb new (Some d) m (forget_from (ends w ks r parts size reached) from)
 climb_root w ks r parts size reached new d b zero None c = absurd c
@@ -715,7 +715,7 @@ climb_root w ks r parts size reached new d b (suc n) (Some f) c =
         | inr g ↦ (let i = reached_by ks (is_heir w ks r parts) f.register d (reached f.register)
             (b.reaches f.register) (n, c.1) in
             let s = chain_source ks (is_heir w ks r parts) n (from_of (at ks f.register)) d c.1 in
-            let k = behind_other w ks r parts size reached new f.register b (source_there ks f.register s.0 s.1) e g.0
+            let k = after_other w ks r parts size reached new f.register b (source_there ks f.register s.0 s.1) e g.0
             ∙ ap (λ o. forget (ends w ks r parts size reached) (fate o r (at ks f.register))) i in
             let rest = climb_root w ks r parts size reached new d b n (from_of (at ks f.register)) c.1 in
             subst (λ x. (m : ℕ) × Climb new (Some d) m x)
@@ -735,7 +735,7 @@ climb_root w ks r parts size reached new d b (suc n) (Some f) c =
     ]
 
 owner_free : (w : Table) (ks : List Kind) (r : ℕ) (parts : ℕ → Option Part) (size : ℕ) (reached : ℕ → Option ℕ)
-    (new : List Kind) (x : ℕ) → IsBehind w ks r parts size reached new → is_owned (at ks x) ≡ true →
+    (new : List Kind) (x : ℕ) → IsAfter w ks r parts size reached new → is_owned (at ks x) ≡ true →
     is_some (parts x) ≡ false
 owner_free w ks r parts size reached new x b h =
     elim (true_or_false (is_some (parts x))) [
@@ -743,17 +743,17 @@ owner_free w ks r parts size reached new x b h =
       | inr e ↦ e
     ]
 
-owner_behind : (w : Table) (ks : List Kind) (r : ℕ) (parts : ℕ → Option Part) (size : ℕ) (reached : ℕ → Option ℕ)
-    (new : List Kind) (o : Option ℕ) → IsBehind w ks r parts size reached new → (o ≡ Some r → ⊥) → HasOwner ks o →
+owner_after : (w : Table) (ks : List Kind) (r : ℕ) (parts : ℕ → Option Part) (size : ℕ) (reached : ℕ → Option ℕ)
+    (new : List Kind) (o : Option ℕ) → IsAfter w ks r parts size reached new → (o ≡ Some r → ⊥) → HasOwner ks o →
     HasOwner new o
-owner_behind w ks r parts size reached new None b n h = tt
-owner_behind w ks r parts size reached new (Some x) b n h =
-    ap is_owned (behind_other w ks r parts size reached new x b (owned_there ks x h) (owner_free w ks r parts size reached new x b h)
+owner_after w ks r parts size reached new None b n h = tt
+owner_after w ks r parts size reached new (Some x) b n h =
+    ap is_owned (after_other w ks r parts size reached new x b (owned_there ks x h) (owner_free w ks r parts size reached new x b h)
     (ne_eqb x r (λ e. n (ap Some e))))
     ∙ forget_owned (ends w ks r parts size reached) (fate (reached x) r (at ks x)) ∙ fate_owned (reached x) r (at ks x) h
 
 owner_alive : (w : Table) (ks : List Kind) (r : ℕ) (parts : ℕ → Option Part) (size : ℕ) (reached : ℕ → Option ℕ)
-    (new : List Kind) (o : Option ℕ) → IsBehind w ks r parts size reached new → (o ≡ Some r → ⊥) → HasOwner ks o →
+    (new : List Kind) (o : Option ℕ) → IsAfter w ks r parts size reached new → (o ≡ Some r → ⊥) → HasOwner ks o →
     (x : ℕ) → o ≡ Some x → ends w ks r parts size reached x ≡ false
 owner_alive w ks r parts size reached new None b n h x i = absurd (cc)
 owner_alive w ks r parts size reached new (Some y) b n h x i =
@@ -776,11 +776,11 @@ unreached_is ks heir q None i u = refl
 unreached_is ks heir q (Some d) i u = absurd (u d i)
 
 -- A register of another tree that isn't dead has only forgotten what is.
-same_behind : (w : Table) (ks : List Kind) (r : ℕ) (parts : ℕ → Option Part) (size : ℕ) (reached : ℕ → Option ℕ)
-    (new : List Kind) (o : Option ℕ) (q : ℕ) → AreHeld ks o → IsBehind w ks r parts size reached new →
+same_after : (w : Table) (ks : List Kind) (r : ℕ) (parts : ℕ → Option Part) (size : ℕ) (reached : ℕ → Option ℕ)
+    (new : List Kind) (o : Option ℕ) (q : ℕ) → AreHeld ks o → IsAfter w ks r parts size reached new →
     (o ≡ Some r → ⊥) → is_lent_in o (at ks q) ≡ true → ends w ks r parts size reached q ≡ false →
     at new q ≡ forget (ends w ks r parts size reached) (at ks q)
-same_behind w ks r parts size reached new o q a b n l e =
+same_after w ks r parts size reached new o q a b n l e =
     let u : (d : ℕ) → Reaches ks (is_heir w ks r parts) q d → ⊥ =
     (λ d. apart_unreached ks r (is_heir w ks r parts) o q d a b.owned (heir_named w ks r parts) n l) in
     elim (true_or_false (is_some (parts q))) [
@@ -788,7 +788,7 @@ same_behind w ks r parts size reached new o q a b n l e =
           (heir_named w ks r parts q (not_ended w ks r parts size reached q p e)) (a q l)))
       | inr p ↦ elim (eqb_tells q r) [
         | inl g ↦ absurd (owned_lent o (at ks r) b.owned (subst (λ z. is_lent_in o (at ks z) ≡ true) g.1 l))
-        | inr g ↦ behind_other w ks r parts size reached new q b (lent_there ks q o l) p g.0
+        | inr g ↦ after_other w ks r parts size reached new q b (lent_there ks q o l) p g.0
             ∙ ap (λ z. forget (ends w ks r parts size reached) (fate z r (at ks q)))
             (unreached_is ks (is_heir w ks r parts) q (reached q) (b.reaches q) u)
             ∙ ap (λ z. forget (ends w ks r parts size reached) (if z then Gone else at ks q)) (not_lent o r (at ks q) n l)
@@ -796,7 +796,7 @@ same_behind w ks r parts size reached new o q a b n l e =
     ]
 
 held_found : (w : Table) (ks : List Kind) (r : ℕ) (parts : ℕ → Option Part) (size : ℕ) (reached : ℕ → Option ℕ)
-    (new : List Kind) (q d : ℕ) → IsBehind w ks r parts size reached new → Reaches ks (is_heir w ks r parts) q d →
+    (new : List Kind) (q d : ℕ) → IsAfter w ks r parts size reached new → Reaches ks (is_heir w ks r parts) q d →
     at new q ≡ forget (ends w ks r parts size reached) (with_root d (at ks q)) →
     IsHeld new (Some d) (from_of (at new q))
 held_found w ks r parts size reached new q d b x e =
@@ -820,7 +820,7 @@ lent_still o r k false e l = (refl, l)
 
 held_case : (w : Table) (ks : List Kind) (r : ℕ) (parts : ℕ → Option Part) (size : ℕ) (reached : ℕ → Option ℕ)
     (new : List Kind) (o : Option ℕ) (q : ℕ) (x : Option ℕ) → ((o ≡ Some r → ⊥) → AreHeld ks o) →
-    IsBehind w ks r parts size reached new →
+    IsAfter w ks r parts size reached new →
     reached q ≡ x → at new q ≡ forget (ends w ks r parts size reached) (fate x r (at ks q)) →
     is_lent_in o (at new q) ≡ true → IsHeld new o (from_of (at new q))
 held_case w ks r parts size reached new o q (Some d) a b i e l =
@@ -836,15 +836,15 @@ held_case w ks r parts size reached new o q None a b i e l =
     let v = ap (λ p. is_lent_in p (at ks q)) g in let u = s.1 in cc) in
     let h = a n q s.1 in
     held_by ks new o (ends w ks r parts size reached) (at ks q) (at new q)
-    (owner_behind w ks r parts size reached new o b n h.owner)
+    (owner_after w ks r parts size reached new o b n h.owner)
     (owner_alive w ks r parts size reached new o b n h.owner)
-    (λ p m j. same_behind w ks r parts size reached new o p (a n) b n m j) h
+    (λ p m j. same_after w ks r parts size reached new o p (a n) b n m j) h
     (e ∙ ap (λ z. forget (ends w ks r parts size reached) (if z then Gone else at ks q)) s.0)
 
-held_behind : (w : Table) (ks : List Kind) (r : ℕ) (parts : ℕ → Option Part) (size : ℕ) (reached : ℕ → Option ℕ)
-    (new : List Kind) (o : Option ℕ) → ((o ≡ Some r → ⊥) → AreHeld ks o) → IsBehind w ks r parts size reached new →
+held_after : (w : Table) (ks : List Kind) (r : ℕ) (parts : ℕ → Option Part) (size : ℕ) (reached : ℕ → Option ℕ)
+    (new : List Kind) (o : Option ℕ) → ((o ≡ Some r → ⊥) → AreHeld ks o) → IsAfter w ks r parts size reached new →
     AreHeld new o
-held_behind w ks r parts size reached new o a b q l =
+held_after w ks r parts size reached new o a b q l =
     let h : q < length ks = (let m = lent_there new q o l in let n = b.long in omega arith) in
     elim (true_or_false (is_some (parts q))) [
       | inl p ↦ absurd (let z = ap (is_lent_in o) (b.is q h) ∙ part_or_lent o w r (at ks q)
@@ -856,7 +856,7 @@ held_behind w ks r parts size reached new o a b q l =
             ∙ ap (λ x. if x then credit size else forget (ends w ks r parts size reached)
             (fate (reached q) r (at ks q))) g.0) ∙ credit_lent o size in cc)
         | inr g ↦ held_case w ks r parts size reached new o q (reached q) a b refl
-            (behind_other w ks r parts size reached new q b h p g.0) l
+            (after_other w ks r parts size reached new q b h p g.0) l
       ]
     ]
 
@@ -954,7 +954,7 @@ not_heir w ks r parts q p =
 
 -- the tree of an heir
 heir_tree : (w : Table) (ks : List Kind) (r : ℕ) (parts : ℕ → Option Part) (size : ℕ) (reached : ℕ → Option ℕ)
-    (new : List Kind) (d : ℕ) → IsBehind w ks r parts size reached new → is_heir w ks r parts d ≡ true →
+    (new : List Kind) (d : ℕ) → IsAfter w ks r parts size reached new → is_heir w ks r parts d ≡ true →
     root_of d (at new d) ≡ Some d
 heir_tree w ks r parts size reached new d b h =
     let f = named_is r (from_of (at ks d)) (heir_named w ks r parts d h) in
@@ -964,7 +964,7 @@ heir_tree w ks r parts size reached new d b h =
 
 -- the tree of the register that owned the cell
 own_tree : (w : Table) (ks : List Kind) (r : ℕ) (parts : ℕ → Option Part) (size : ℕ) (reached : ℕ → Option ℕ)
-    (new : List Kind) (x : ℕ) → IsBehind w ks r parts size reached new → root_of x (at new r) ≡ None
+    (new : List Kind) (x : ℕ) → IsAfter w ks r parts size reached new → root_of x (at new r) ≡ None
 own_tree w ks r parts size reached new x b =
     ap (root_of x) (b.is r (owned_there ks r b.owned) ∙ none_part w r (at ks r) (parts r)
     (if r == r then credit size else forget (ends w ks r parts size reached) (fate (reached r) r (at ks r))) b.own
@@ -991,11 +991,11 @@ tree_case w ks r parts q x f None i p n y e =
       tree = l.1;
     })
 
-tree_behind : (w : Table) (ks : List Kind) (r : ℕ) (parts : ℕ → Option Part) (size : ℕ) (reached : ℕ → Option ℕ)
-    (new : List Kind) (q x : ℕ) (f : From) → IsBehind w ks r parts size reached new → from_of (at ks q) ≡ Some f →
+tree_after : (w : Table) (ks : List Kind) (r : ℕ) (parts : ℕ → Option Part) (size : ℕ) (reached : ℕ → Option ℕ)
+    (new : List Kind) (q x : ℕ) (f : From) → IsAfter w ks r parts size reached new → from_of (at ks q) ≡ Some f →
     ends w ks r parts size reached f.register ≡ false → root_of f.register (at new f.register) ≡ Some x →
     (Reaches ks (is_heir w ks r parts) q x) ⊎ (IsOutside ks (is_heir w ks r parts) r q x f)
-tree_behind w ks r parts size reached new q x f b i n e =
+tree_after w ks r parts size reached new q x f b i n e =
     elim (true_or_false (is_some (parts f.register))) [
       | inl p ↦ (let h = not_ended w ks r parts size reached f.register p n in
           let g = some_one f.register x (sym (heir_tree w ks r parts size reached new f.register b h) ∙ e) in
@@ -1005,7 +1005,7 @@ tree_behind w ks r parts size reached new q x f b i n e =
         | inl g ↦ absurd (let z = own_tree w ks r parts size reached new f.register b in
             let y = ap (λ v. root_of f.register (at new v)) g.1 in cc)
         | inr g ↦ tree_case w ks r parts q x f (reached f.register) i p g.0 (b.reaches f.register)
-            (sym (ap (root_of f.register) (behind_other w ks r parts size reached new f.register b
+            (sym (ap (root_of f.register) (after_other w ks r parts size reached new f.register b
             (let m = rooted_there new f.register x e in let l = b.long in omega arith) p g.0)
             ∙ forget_tree f.register (ends w ks r parts size reached) (fate (reached f.register) r (at ks f.register)))
             ∙ e)
@@ -1013,7 +1013,7 @@ tree_behind w ks r parts size reached new q x f b i n e =
     ]
 
 closed_found : (w : Table) (ks : List Kind) (r : ℕ) (parts : ℕ → Option Part) (size : ℕ) (reached : ℕ → Option ℕ)
-    (new : List Kind) (q x : ℕ) (f : From) → IsBehind w ks r parts size reached new →
+    (new : List Kind) (q x : ℕ) (f : From) → IsAfter w ks r parts size reached new →
     ((x ≡ r → ⊥) → IsWhole ks x) → at new q ≡ forget (ends w ks r parts size reached) (fate (reached q) r (at ks q)) →
     from_of (at ks q) ≡ Some f →
     (Reaches ks (is_heir w ks r parts) q x) ⊎ (IsOutside ks (is_heir w ks r parts) r q x f) →
@@ -1033,7 +1033,7 @@ closed_found w ks r parts size reached new q x f b a e m (inr z) =
     ∙ forget_in (Some x) ended (at ks q) ∙ l
 
 closed_else : (w : Table) (ks : List Kind) (r : ℕ) (parts : ℕ → Option Part) (size : ℕ) (reached : ℕ → Option ℕ)
-    (new : List Kind) (q x : ℕ) (from : Option From) → IsBehind w ks r parts size reached new →
+    (new : List Kind) (q x : ℕ) (from : Option From) → IsAfter w ks r parts size reached new →
     ((x ≡ r → ⊥) → IsWhole ks x) → at new q ≡ forget (ends w ks r parts size reached) (fate (reached q) r (at ks q)) →
     from_of (at new q) ≡ from → tree_of new from ≡ Some x → is_lent_in (Some x) (at new q) ≡ true
 closed_else w ks r parts size reached new q x None b a e i t = absurd (cc)
@@ -1043,12 +1043,12 @@ closed_else w ks r parts size reached new q x (Some f) b a e i t =
     (sym (ap from_of e ∙ forget_source ended (fate (reached q) r (at ks q))) ∙ i) in
     let m = fate_source (reached q) r (at ks q) f k.0 in
     closed_found w ks r parts size reached new q x f b a e m
-    (tree_behind w ks r parts size reached new q x f b m k.1 t)
+    (tree_after w ks r parts size reached new q x f b m k.1 t)
 
-closed_behind : (w : Table) (ks : List Kind) (r : ℕ) (parts : ℕ → Option Part) (size : ℕ) (reached : ℕ → Option ℕ)
-    (new : List Kind) (x q : ℕ) → ((x ≡ r → ⊥) → IsWhole ks x) → IsBehind w ks r parts size reached new →
+closed_after : (w : Table) (ks : List Kind) (r : ℕ) (parts : ℕ → Option Part) (size : ℕ) (reached : ℕ → Option ℕ)
+    (new : List Kind) (x q : ℕ) → ((x ≡ r → ⊥) → IsWhole ks x) → IsAfter w ks r parts size reached new →
     tree_of new (from_of (at new q)) ≡ Some x → is_lent_in (Some x) (at new q) ≡ true
-closed_behind w ks r parts size reached new x q a b t =
+closed_after w ks r parts size reached new x q a b t =
     let h : q < length ks = (let m = sourced_there new q x t in let n = b.long in omega arith) in
     elim (true_or_false (is_some (parts q))) [
       | inl p ↦ absurd (let z = ap (tree_of new) (ap from_of (b.is q h) ∙ part_or_source w r (at ks q)
@@ -1060,7 +1060,7 @@ closed_behind w ks r parts size reached new x q a b t =
             ∙ ap (λ y. if y then credit size else forget (ends w ks r parts size reached)
             (fate (reached q) r (at ks q))) g.0) ∙ credit_source size) in cc)
         | inr g ↦ closed_else w ks r parts size reached new q x (from_of (at new q)) b a
-            (behind_other w ks r parts size reached new q b h p g.0) refl t
+            (after_other w ks r parts size reached new q b h p g.0) refl t
       ]
     ]
 
@@ -1068,7 +1068,7 @@ pub whole_taken : (w : Table) (ks : List Kind) (r : ℕ) (ds ts : List ℕ) (new
     ((x ≡ r → ⊥) → IsWhole ks x) → is_owned (at ks r) ≡ true → is_some (part ds ts r) ≡ false →
     ((q : ℕ) → is_some (part ds ts q) ≡ true → is_owned (at ks q) ≡ false) → IsTaken w ks r ds ts new → IsWhole new x
 whole_taken w ks r ds ts new x a e p f t =
-    let b : IsBehind w ks r (part ds ts) (length ds) t.0 new = record {
+    let b : IsAfter w ks r (part ds ts) (length ds) t.0 new = record {
       owned = e;
       own = p;
       free = f;
@@ -1081,8 +1081,8 @@ whole_taken w ks r ds ts new x a e p f t =
           (fate (t.0 q) r (at ks q)))) q h;
     } in
     record {
-      held = held_behind w ks r (part ds ts) (length ds) t.0 new (Some x) (λ n. (a (λ i. n (ap Some i))).held) b;
-      closed = λ q i. closed_behind w ks r (part ds ts) (length ds) t.0 new x q a b i;
+      held = held_after w ks r (part ds ts) (length ds) t.0 new (Some x) (λ n. (a (λ i. n (ap Some i))).held) b;
+      closed = λ q i. closed_after w ks r (part ds ts) (length ds) t.0 new x q a b i;
     }
 
 -- What reads a register's tree and isn't listed reaches the heir that keeps its name, where what else there is of the

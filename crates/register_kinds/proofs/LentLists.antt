@@ -50,7 +50,7 @@ bools_long [] q b = refl
 bools_long (x ∷ bs) zero b = refl
 bools_long (x ∷ bs) (suc q) b = ap suc (bools_long bs q b)
 
--- an item put behind the first ones
+-- an item put after the first ones
 pub take_set : (xs : List ℕ) (n x : ℕ) → n < length xs → take (suc n) (set xs n x) ≡ take n xs ++ x ∷ []
 take_set [] n x h = absurd (omega arith)
 take_set (y ∷ xs) zero x h = refl

@@ -140,7 +140,7 @@ pub set_here : (maps : List LabelMap) (l : ℕ) (m : LabelMap) (r : ℕ) → sli
     set_at maps (record { label = l; register = r }) ≡ set_of (at m.kinds r)
 set_here maps l m r e = ap (λ o. set_in o r) e
 
--- What was found of two sets of label maps tells of what is known of a register.
+-- What was found of two sets of label maps reports of what is known of a register.
 pub within_is : (r : Option Bool) (sets : LabelSets) (ks ms : List Kind) (label q : ℕ) (lacked : Option ℕ) (k m : Kind) →
     AreComparable sets ks ms label → at ks q ≡ k → at ms q ≡ m →
     IfSome r (λ b. (o : Origin) × (origin_at sets.origins q ≡ Some o)

@@ -15,7 +15,7 @@ is_lent_in o (Owned t s) = false
 is_lent_in o (Lent t s root from) = same_root root o
 is_lent_in o (Credit k) = false
 
--- Behind a from, n further froms lead to the owner of a tree, or to a register that reads it and has no from.
+-- After a from, n further froms lead to the owner of a tree, or to a register that reads it and has no from.
 abbrev pub Climb : List Kind → Option ℕ → ℕ → Option From → Type 0
 Climb ks o zero None = Unit {0}
 Climb ks o zero (Some f) = o ≡ Some f.register

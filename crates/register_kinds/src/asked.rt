@@ -36,7 +36,7 @@ pub struct Asked {
     pub busy: usize,
 }
 
-/// What each of some label maps asks, one behind another. NoMemory: no memory is left.
+/// What each of some label maps asks, one after another. NoMemory: no memory is left.
 pub fn asked_by(alloc: Global, labels: &[Label]) -> Result<Vec<Asked>, NoMemory>
     ensures asks { IfOk result (λ v. AreAsked (map plain_label labels.now) v.items) }
     ensures many { IfOk result (λ v. length v.items ≡ length labels.now) }

@@ -96,7 +96,7 @@ impl<'a> Registers<'a> {
         place
     }
 
-    // Lists those that lead to a register, or to one that is listed, each behind the one that it leads to.
+    // Lists those that lead to a register, or to one that is listed, each after the one that it leads to.
     pub(crate) fn gather(&mut self, register: u16)
         ensures gathered { Gathers self.old.kinds register self.new.lent }
         ensures kinds { self.new.kinds ≡ self.old.kinds }

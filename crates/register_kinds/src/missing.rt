@@ -5,7 +5,7 @@ ghost use Rattle.code_rules.specs.Kinds.{has};
 ghost use Rattle.register_kinds.specs.LabelSets.{IsMissing, allows};
 ghost use Rattle.register_kinds.specs.Rising.{Rise};
 
-use crate::set::{behind, is_lacked, is_listed_within};
+use crate::set::{following, is_lacked, is_listed_within};
 
 /// What of a set isn't in another.
 #[derive(Clone, Copy)]
@@ -61,7 +61,7 @@ fn first_missing(own: &[u32], others: &[u32]) -> Option<u32>
 {
     let mut rest = others;
     for number in own {
-        match behind(rest, *number) {
+        match following(rest, *number) {
             None => return Some(*number),
             Some(next) => rest = next,
         }

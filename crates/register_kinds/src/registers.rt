@@ -171,7 +171,7 @@ impl<'a> Registers<'a> {
         self.change(register, known, origin);
     }
 
-    // Another thing is known of a register. Where an origin is told, its set is the one of that register of a label
+    // Another thing is known of a register. Where an origin is reported, its set is the one of that register of a label
     // map.
     pub(crate) fn change(&mut self, register: u16, known: Known<'a>, origin: Option<Origin>)
         requires rises { Rise (set_of (kind_of known)) }

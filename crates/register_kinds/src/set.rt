@@ -150,12 +150,12 @@ fn begin(low: usize, count: usize, others: &[u32]) -> bool
     }
     match others.get(count - 1) {
         None => false,
-        Some(last) => is_behind(*last as usize, low, count - 1),
+        Some(last) => is_after(*last as usize, low, count - 1),
     }
 }
 
 // Whether a number is the sum of two.
-fn is_behind(number: usize, low: usize, count: usize) -> bool
+fn is_after(number: usize, low: usize, count: usize) -> bool
     ensures yes { result ≡ true → number ≡ low + count }
     ensures no { result ≡ false → number ≡ low + count → ⊥ }
 {
@@ -210,7 +210,7 @@ fn has_all_but(numbers: &[u32], lacked: Option<u32>, low: u32, high: u32) -> boo
 {
     match lacked {
         None => has_all(numbers, low, high),
-        Some(lacked) => has_below(numbers, low, lacked) && has_behind(numbers, lacked, high),
+        Some(lacked) => has_below(numbers, low, lacked) && has_after(numbers, lacked, high),
     }
 }
 
@@ -226,7 +226,7 @@ fn has_below(numbers: &[u32], low: u32, end: u32) -> bool
 }
 
 // Whether rising numbers have all from behind one to another.
-fn has_behind(numbers: &[u32], start: u32, high: u32) -> bool
+fn has_after(numbers: &[u32], start: u32, high: u32) -> bool
     requires rise { Rise numbers.now }
     ensures yes { result ≡ true → (x : ℕ) → start < x → x ≤ high → has numbers.now x ≡ true }
 {
@@ -269,7 +269,7 @@ fn are_among(own: &[u32], lacked: Option<u32>, others: &[u32]) -> bool
     true
 }
 
-// Where the numbers of a piece of a list, but `lacked`, are among others, those among which the numbers behind the
+// Where the numbers of a piece of a list, but `lacked`, are among others, those among which the numbers after the
 // piece can be looked for. Where others begin with the same numbers as the piece, that is seen at once.
 fn after_piece<'b>(
     others: &'b [u32],
@@ -349,7 +349,7 @@ fn after(others: &[u32], lacked: Option<u32>, number: u32) -> Option<&[u32]>
     if is_lacked(lacked, number) {
         return Some(others);
     }
-    match behind(others, number) {
+    match following(others, number) {
         None => None,
         Some(rest) => Some(rest),
     }
@@ -365,9 +365,9 @@ pub(crate) fn is_lacked(lacked: Option<u32>, number: u32) -> bool
     }
 }
 
-// What stands behind a number in a rising list; none where it isn't there. Numbers that follow one another are found at
+// What stands after a number in a rising list; none where it isn't there. Numbers that follow one another are found at
 // once.
-pub(crate) fn behind(numbers: &[u32], number: u32) -> Option<&[u32]>
+pub(crate) fn following(numbers: &[u32], number: u32) -> Option<&[u32]>
     requires rise { Rise numbers.now }
     ensures found { IfSome result (λ r. (has numbers.now number ≡ true) × (r.now ≡ beyond number numbers.now)) }
     ensures none { result ≡ None → has numbers.now number ≡ false }
@@ -396,7 +396,7 @@ fn search(numbers: &[u32], number: u32) -> Option<&[u32]>
     }
 }
 
-// Among how many of rising numbers one has to be looked for: all behind these are greater. It is at most twice the
+// Among how many of rising numbers one has to be looked for: all after these are greater. It is at most twice the
 // place where it stands, but for one.
 fn enough(numbers: &[u32], number: u32) -> usize
     ensures within { result ≤ length numbers.now }

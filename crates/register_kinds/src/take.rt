@@ -87,7 +87,7 @@ impl<'a> Registers<'a> {
         true
     }
 
-    // It is known which trees are torn behind a Take, where it was before, or it is found out.
+    // It is known which trees are torn after a Take, where it was before, or it is found out.
     fn settle(&mut self, register: u16, held: Option<Marks>, plain: bool)
         requires known { plain ≡ true → AreKnownOver self.now.kinds register held }
         ensures kinds { self.new.kinds ≡ self.old.kinds }
@@ -285,7 +285,7 @@ impl<'a> Registers<'a> {
     }
 
     // Lists those that lead to the register, to heirs, or to one of these that are listed, and those that lead to parts.
-    // Those that lead to heirs stand first, each behind the one that it leads to.
+    // Those that lead to heirs stand first, each after the one that it leads to.
     fn gather_parts(&mut self, table: &Table<'a>, register: u16, parts: &[u16], types: &[u32])
         ensures gathered { GathersParts self.old.kinds register
             (is_heir table.now self.old.kinds register (part parts.now types.now)) parts.now self.new.lent }

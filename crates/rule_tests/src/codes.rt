@@ -20,7 +20,7 @@ const UNSOUND_TABLES: &[&str] = &[
 54727565 00 00000001 00000002 4d6b 01 0002 0000",
 ];
 
-// S1 to S9 are broken behind `HEAD`.
+// S1 to S9 are broken after `HEAD`.
 const UNSOUND: &[&str] = &[
     "unsound function 0 instruction 0 rule S1 | 00000001 0f 00000000 00000000",
     "unsound function 0 instruction 0 rule S1 | 00000001 0e 01 0006 00000000",
@@ -40,7 +40,7 @@ const UNSOUND: &[&str] = &[
     "unsound function 0 instruction 0 rule S9 | 00000001 0e 01 0000 00000001 00000000 00 00 00 00 00 00",
 ];
 
-// Behind `HEAD`: the code of the row on S5 with a label that says what the test leaves, `Nil`.
+// After `HEAD`: the code of the row on S5 with a label that says what the test leaves, `Nil`.
 const LABELLED: &str = "00000003 05 0000 00000001 00000002 0e 01 0000 0e 01 0000
 00000001 00000002 01 0002 0001 00000000 00 00 00 00 00";
 
@@ -77,7 +77,7 @@ const BROKEN: &[&str] = &[
     "bad code at 18 | 46503243 0002 0000 0001 00 00000000 0000 01 11",
 ];
 
-// No code files behind `HEAD`.
+// No code files after `HEAD`.
 const BROKEN_FUNCTIONS: &[&str] = &[
     "bad code at 79 | 00000001 00",
     "bad code at 79 | 00000001 10",
@@ -187,7 +187,7 @@ fn a_compiled_code_is_verified_and_stays_when_upgraded(rt: HostRuntime) -> Resul
 const LONG_HEAD: &str =
     "46503243 0001 0002 00000002 00000005 46616c7365 00 00000004 54727565 00 00000001";
 
-// What stands behind that name: the function `f`, which gives 5.
+// What stands after that name: the function `f`, which gives 5.
 const LONG_TAIL: &str = "00 0001 00 00000001 66 0000 01 0000 0001
 00000002 01 0000 0000000000000005 0e 01 0000 00000000";
 

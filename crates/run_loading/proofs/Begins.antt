@@ -328,7 +328,7 @@ given c n f vs sound is h =
     let s : Store = first_store vs f.credits in
     let all : Has s 0 (front ++ back) = has_all s in
     let z : 0 + length front ≡ length front = omega arith in
-    let behind : Has s (length front) back = subst (λ m. Has s m back) z (has_right s 0 front back all) in
+    let following : Has s (length front) back = subst (λ m. Has s m back) z (has_right s 0 front back all) in
     record {
       store = record {
         sized = sized_append front back (all_sized c.types (map (λ p. p.ty) f.params) 0 vs (few_fields c sound) h) (credits_sized f.credits (sizes_formed c f (formed c n f sound is)));
@@ -339,7 +339,7 @@ given c n f vs sound is h =
       spares = spots (length front) f.credits;
       words = ap₂ (λ us ws. us ++ ws) (sym (placed_words 0 vs)) (sym (spot_words (length front) f.credits));
       stand = placed_stand c.types s (map (λ p. p.ty) f.params) 0 vs h (has_left s 0 front back all);
-      credits = spots_spare s (length front) f.credits behind;
+      credits = spots_spare s (length front) f.credits following;
       once = λ q.
           let a = uses_all_placed q 0 vs in
           let b = spots_count q (length front) f.credits in

@@ -1,5 +1,5 @@
--- The lines of a trace's replay are those of the states of its run. The trace tells the cells alone and not the places
--- behind the last of them; these stay without cells, and have no lines.
+-- The lines of a trace's replay are those of the states of its run. The trace reports the cells alone and not the places
+-- after the last of them; these stay without cells, and have no lines.
 use Rattle.std.proofs.Common.{◌≡◌, ℕ, zero, suc, ◌-◌, ◌≤◌, Bool, true, false, List, [], ◌∷◌, ◌++◌, length, Option, Some, None, refl, sym, ap, subst, ◌∙◌, arith, slice_get}
 use Rattle.std.specs.Prelude.{replicate, slice_set, nat_le, nat_eq, if◌then◌else◌}
 use Rattle.tree_refinement.specs.fip_language.Store.{Cell}
@@ -15,13 +15,13 @@ use Rattle.run_loading.specs.TraceText.{Loaded}
 use Rattle.run_loading.specs.Replaying.{place_line, lines_from, store_text, places_from, replayed, loaded_from, trace_of}
 use Rattle.tree_refinement.proofs.tree_semantics.machine_semantics.cell_code.fip_base.fip_language.Facts.{append_none as end_nil, length_set as set_length, suc_injective as fewer}
 
--- ---- places without cells behind the others
+-- ---- places without cells after the others
 
 -- so many places more, without cells
 abbrev padded : ℕ → Store → Store
 padded m s = record { cells = s.cells ++ replicate m None; released = s.released ++ replicate m false }
 
--- a place is told of each as often
+-- a place is reported of each as often
 abbrev Even : Store → Type 0
 Even s = length s.released ≡ length s.cells
 
@@ -205,17 +205,17 @@ length_of : (n : ℕ) → length {A = Bool} (replicate n false) ≡ n
 length_of zero = refl
 length_of (suc n) = ap suc (length_of n)
 
--- the store of a trace, with some places more, is the store that it tells of
+-- the store of a trace, with some places more, is the store that it reports of
 pub replay_prints : (kinds : Kinds) (code : PlainCode) (s : State) (cells : List (Option Cell)) (calls steps i : ℕ) →
     s.store ≡ unreleased cells → i ≤ steps →
     replayed (trace_of kinds code s calls steps) i ≡ store_text (state_of (after kinds code i (begun s calls))).store
 replay_prints kinds code s cells calls steps i fresh le =
-    let told = are_back 0 cells in
-    let m : ℕ = told.0 in
+    let reported = are_back 0 cells in
+    let m : ℕ = reported.0 in
     let own : Store = unreleased (places_from 0 (loaded_from 0 cells)) in
     let es = events kinds code steps (begun s calls) in
     let same : s.store ≡ padded m own =
-    fresh ∙ (ap unreleased told.1 ∙ pads_released (places_from 0 (loaded_from 0 cells)) m) in
+    fresh ∙ (ap unreleased reported.1 ∙ pads_released (places_from 0 (loaded_from 0 cells)) m) in
     let both = replay_padded m i es own (length_of (length (places_from 0 (loaded_from 0 cells)))) in
     ap (λ os. store_text (replay (unreleased (places_from 0 (loaded_from 0 os))) es i)) (ap (λ x. x.cells) fresh)
     ∙ (same_text m (replay (padded m own) es i) (replay own es i) both

@@ -1,5 +1,5 @@
 -- The file of a trace is read as that trace. Each part of a text is read as what it was written of, and what stands
--- behind is left; at which offset this is, doesn't matter.
+-- after is left; at which offset this is, doesn't matter.
 use Rattle.std.proofs.Common.{◌≡◌, ◌≢◌, ℕ, zero, suc, ◌+◌, ◌*◌, ◌/◌, ◌%◌, ◌^◌, ◌<◌, ◌≤◌, Bool, true, ◌&&◌, nat_le, nat_lt}
 use Rattle.std.proofs.Common.{List, [], ◌∷◌, ◌++◌, length, Option, Some, None, refl, sym, ap, subst, ◌∙◌, arith, append_assoc, le-leb}
 use native.Mathlib.Nat.{pow-suc}
@@ -112,7 +112,7 @@ write_gives step place at tag ws rest h k =
     then_gives _ tag (words_text ws ++ rest) _ _ rest (number_gives 4 tag at _ h)
     (λ at'. then_gives _ ws rest _ _ rest (words_give ws at' rest k) (λ at''. (at'', refl)))
 
--- behind the step of an event that begins at `start`
+-- after the step of an event that begins at `start`
 changed : List Loaded → ℕ → ℕ → ℕ → List ℕ → Read Event
 changed live start step at bytes =
     then_read (read_number 1 0 at bytes) (λ op at' rest. asked (nat_lt op 2) at

@@ -121,11 +121,11 @@ released_live live s w c at clear h p = elim (same_place w p) as (λ v. size_at 
 
 -- ---- the events of a step
 
--- what comes behind a step of this number, from these cells on
-abbrev Behind : Store → ℕ → ℕ → List Event → Type 0
-Behind t k last es = (live : List Loaded) (least : ℕ) → least ≤ k → AreLive live t → AreEvents live least last es
+-- what comes after a step of this number, from these cells on
+abbrev After : Store → ℕ → ℕ → List Event → Type 0
+After t k last es = (live : List Loaded) (least : ℕ) → least ≤ k → AreLive live t → AreEvents live least last es
 
-released_events : (ps : List ℕ) (live : List Loaded) (s t : Store) (least k last : ℕ) (es : List Event) → length s.cells < 2 ^ 32 → least ≤ k → k ≤ last → AreLive live s → changed_by (releases ps) s ≡ Some t → Behind t k last es → AreEvents live least last (events_of k (releases ps) ++ es)
+released_events : (ps : List ℕ) (live : List Loaded) (s t : Store) (least k last : ℕ) (es : List Event) → length s.cells < 2 ^ 32 → least ≤ k → k ≤ last → AreLive live s → changed_by (releases ps) s ≡ Some t → After t k last es → AreEvents live least last (events_of k (releases ps) ++ es)
 released_events [] live s t least k last es short low high h e rest = rest live least low (subst (AreLive live) (same_Some s t e) h)
 released_events (p ∷ ps) live s t least k last es short low high h e rest = option_and_then_some (λ u. changed_by (releases ps) u) (changed (Release p) s) t e (λ u is more.
     let g : IsGivenUp s p u = given_up_is s u p (cell_at s p) (slice_get s.released p) refl refl is in
@@ -138,7 +138,7 @@ released_events (p ∷ ps) live s t least k last es short low high h e rest = op
       released_events ps (without p live) u t k k last es (subst (λ (u : Store). length u.cells < 2 ^ 32) g.is short) (omega arith) high (subst (AreLive (without p live)) g.is (released_live live s p g.cell g.there g.clear h)) more rest,
     ))
 
-plain_events : (cs : List Change) (live : List Loaded) (s t : Store) (least k last : ℕ) (es : List Event) → IsStore s → length s.cells < 2 ^ 32 → least ≤ k → k ≤ last → IsPlain s cs → AreLive live s → changed_by cs s ≡ Some t → Behind t k last es → AreEvents live least last (events_of k cs ++ es)
+plain_events : (cs : List Change) (live : List Loaded) (s t : Store) (least k last : ℕ) (es : List Event) → IsStore s → length s.cells < 2 ^ 32 → least ≤ k → k ≤ last → IsPlain s cs → AreLive live s → changed_by cs s ≡ Some t → After t k last es → AreEvents live least last (events_of k cs ++ es)
 plain_events cs live s t least k last es store short low high plain h e rest = elim plain as (λ v. AreEvents live least last (events_of k cs ++ es)) [
   | inl w ↦
       let new : Cell = record { tag = w.tag; fields = w.words } in
@@ -164,36 +164,36 @@ length_sizes : (old new : Store) → sizes new ≡ sizes old → length new.cell
 length_sizes old new e = sym (length_map size_in new.cells) ∙ ap (λ xs. length xs) e ∙ length_map size_in old.cells
 
 -- events of the run from here on
-abbrev Told : PlainCode → Kinds → ℕ → Run → List Loaded → ℕ → ℕ → Type 0
-Told c before n r live least last = AreEvents live least last (events before (run_code c) n r)
+abbrev Reported : PlainCode → Kinds → ℕ → Run → List Loaded → ℕ → ℕ → Type 0
+Reported c before n r live least last = AreEvents live least last (events before (run_code c) n r)
 
-over_told : (c : PlainCode) (before : Kinds) (n : ℕ) (e : End) (s : State) (left k : ℕ) (live : List Loaded) (least last : ℕ) → Told c before n (Over e s left k) live least last
-over_told c before zero e s left k live least last = tt
-over_told c before (suc n) e s left k live least last = tt
+over_reported : (c : PlainCode) (before : Kinds) (n : ℕ) (e : End) (s : State) (left k : ℕ) (live : List Loaded) (least last : ℕ) → Reported c before n (Over e s left k) live least last
+over_reported c before zero e s left k live least last = tt
+over_reported c before (suc n) e s left k live least last = tt
 
--- the run behind a step, where the next is x
-onward : (c : PlainCode) (before waits : Kinds) (types kept : List ℕ) (n k last left : ℕ) (cs : List Change) (s : State) (x : Next) (live : List Loaded) (least : ℕ) → IsStore s.store → length s.store.cells < 2 ^ 32 → least ≤ suc k → suc k ≤ last → IsPlain s.store cs → AreLive live s.store → x ≡ next before (run_code c) s → Followed cs s x → GoodRun c types kept (comes s left (suc k) x) → ((t : State) (rest : ℕ) (more : List Loaded) (low : ℕ) → GoodRun c types kept (Going t rest (suc k)) → length t.store.cells < 2 ^ 32 → low ≤ suc k → AreLive more t.store → Told c before n (Going t rest (suc k)) more low last) → AreEvents live least last (events_of (suc k) (done_changes cs x) ++ events before (run_code c) n (comes s left (suc k) x))
+-- the run after a step, where the next is x
+onward : (c : PlainCode) (before waits : Kinds) (types kept : List ℕ) (n k last left : ℕ) (cs : List Change) (s : State) (x : Next) (live : List Loaded) (least : ℕ) → IsStore s.store → length s.store.cells < 2 ^ 32 → least ≤ suc k → suc k ≤ last → IsPlain s.store cs → AreLive live s.store → x ≡ next before (run_code c) s → Followed cs s x → GoodRun c types kept (comes s left (suc k) x) → ((t : State) (rest : ℕ) (more : List Loaded) (low : ℕ) → GoodRun c types kept (Going t rest (suc k)) → length t.store.cells < 2 ^ 32 → low ≤ suc k → AreLive more t.store → Reported c before n (Going t rest (suc k)) more low last) → AreEvents live least last (events_of (suc k) (done_changes cs x) ++ events before (run_code c) n (comes s left (suc k) x))
 onward c before waits types kept n k last left cs s (Went t) live least store short low high plain h is f g others = plain_events cs live s.store t.store least (suc k) last (events before (run_code c) n (Going t left (suc k))) store short low high plain h f
     (λ more least below alive. others t left more least g (subst (λ m. m < 2 ^ 32) (sym (length_sizes s.store t.store (went_keeps before (run_code c) s t (sym is)).sizes)) short) below alive)
-onward c before waits types kept n k last zero cs s (Entered t) live least store short low high plain h is f g others = over_told c before n _ s 0 (suc k) live least last
+onward c before waits types kept n k last zero cs s (Entered t) live least store short low high plain h is f g others = over_reported c before n _ s 0 (suc k) live least last
 onward c before waits types kept n k last (suc left) cs s (Entered t) live least store short low high plain h is f g others = others t left live least g (subst (λ (u : Store). length u.cells < 2 ^ 32) (sym f) short) low (subst (AreLive live) (sym f) h)
-onward c before waits types kept n k last left cs s (Gave ws) live least store short low high plain h is f g others = over_told c before n _ s left (suc k) live least last
-onward c before waits types kept n k last left cs s (Trapped kind line col) live least store short low high plain h is f g others = over_told c before n _ s left (suc k) live least last
-onward c before waits types kept n k last zero cs s TooDeep live least store short low high plain h is f g others = over_told c before n _ s 0 (suc k) live least last
-onward c before waits types kept n k last (suc left) cs s TooDeep live least store short low high plain h is f g others = over_told c before n _ s left (suc k) live least last
-onward c before waits types kept n k last left cs s Stuck live least store short low high plain h is f g others = over_told c before n _ s left (suc k) live least last
+onward c before waits types kept n k last left cs s (Gave ws) live least store short low high plain h is f g others = over_reported c before n _ s left (suc k) live least last
+onward c before waits types kept n k last left cs s (Trapped kind line col) live least store short low high plain h is f g others = over_reported c before n _ s left (suc k) live least last
+onward c before waits types kept n k last zero cs s TooDeep live least store short low high plain h is f g others = over_reported c before n _ s 0 (suc k) live least last
+onward c before waits types kept n k last (suc left) cs s TooDeep live least store short low high plain h is f g others = over_reported c before n _ s left (suc k) live least last
+onward c before waits types kept n k last left cs s Stuck live least store short low high plain h is f g others = over_reported c before n _ s left (suc k) live least last
 
-told : (c : PlainCode) (before waits : Kinds) (types kept : List ℕ) (n k last left : ℕ) (s : State) (live : List Loaded) (least : ℕ) → IsSound c → HasLiterals c → AreKinds c before waits → HaveFewConstructors c.types → k + n ≤ last → least ≤ suc k → GoodRun c types kept (Going s left k) → length s.store.cells < 2 ^ 32 → AreLive live s.store → Told c before n (Going s left k) live least last
-told c before waits types kept zero k last left s live least sound literals kinds few high low g short h = tt
-told c before waits types kept (suc n) k last left s live least sound literals kinds few high low g short h =
+reported : (c : PlainCode) (before waits : Kinds) (types kept : List ℕ) (n k last left : ℕ) (s : State) (live : List Loaded) (least : ℕ) → IsSound c → HasLiterals c → AreKinds c before waits → HaveFewConstructors c.types → k + n ≤ last → least ≤ suc k → GoodRun c types kept (Going s left k) → length s.store.cells < 2 ^ 32 → AreLive live s.store → Reported c before n (Going s left k) live least last
+reported c before waits types kept zero k last left s live least sound literals kinds few high low g short h = tt
+reported c before waits types kept (suc n) k last left s live least sound literals kinds few high low g short h =
     onward c before waits types kept n k last left (changes_of before (run_code c) s) s (next before (run_code c) s) live least g.store short low (omega arith)
     (step_plain c before waits types kept s sound literals kinds few short g) h refl (followed before (run_code c) s)
     (later_good c before waits types kept (Going s left k) sound literals kinds g)
-    (λ t rest more least good short low alive. told c before waits types kept n (suc k) last rest t more least sound literals kinds few (omega arith) (omega arith) good short alive)
+    (λ t rest more least good short low alive. reported c before waits types kept n (suc k) last rest t more least sound literals kinds few (omega arith) (omega arith) good short alive)
 
-begun_told : (c : PlainCode) (before waits : Kinds) (types kept : List ℕ) (steps calls : ℕ) (s : State) → IsSound c → HasLiterals c → AreKinds c before waits → HaveFewConstructors c.types → IsAlive c types kept s → length s.store.cells < 2 ^ 32 → AreLive (loaded_from 0 s.store.cells) s.store → Told c before steps (begun s calls) (loaded_from 0 s.store.cells) 1 steps
-begun_told c before waits types kept steps zero s sound literals kinds few a short h = over_told c before steps _ s 0 0 (loaded_from 0 s.store.cells) 1 steps
-begun_told c before waits types kept steps (suc left) s sound literals kinds few a short h = told c before waits types kept steps 0 steps left s (loaded_from 0 s.store.cells) 1 sound literals kinds few (omega arith) (omega arith) a short h
+begun_reported : (c : PlainCode) (before waits : Kinds) (types kept : List ℕ) (steps calls : ℕ) (s : State) → IsSound c → HasLiterals c → AreKinds c before waits → HaveFewConstructors c.types → IsAlive c types kept s → length s.store.cells < 2 ^ 32 → AreLive (loaded_from 0 s.store.cells) s.store → Reported c before steps (begun s calls) (loaded_from 0 s.store.cells) 1 steps
+begun_reported c before waits types kept steps zero s sound literals kinds few a short h = over_reported c before steps _ s 0 0 (loaded_from 0 s.store.cells) 1 steps
+begun_reported c before waits types kept steps (suc left) s sound literals kinds few a short h = reported c before waits types kept steps 0 steps left s (loaded_from 0 s.store.cells) 1 sound literals kinds few (omega arith) (omega arith) a short h
 
 pub run_is_traced : (c : PlainCode) (before waits : Kinds) (n : ℕ) (kept : List ℕ) (s : State) (calls steps : ℕ) → IsStart c before waits n kept s → HaveFewConstructors c.types → IsWritable s.store → length (events before (run_code c) steps (begun s calls)) < 2 ^ 32 → steps < 2 ^ 64 → IsTrace (trace_of before (run_code c) s calls steps)
 run_is_traced c before waits n kept s calls steps start few w number small =
@@ -203,7 +203,7 @@ run_is_traced c before waits n kept s calls steps start few w number small =
     record {
       cells = cells_are s.store.cells 0 0 (omega arith) (omega arith) a.store.sized (λ j c e. (w.tags j c e, w.words j c e));
       cell_count = omega arith;
-      events = begun_told c before waits (results c n) kept steps calls s start.sound start.literals start.kinds few a w.places (first_live s.store w.unreleased);
+      events = begun_reported c before waits (results c n) kept steps calls s start.sound start.literals start.kinds few a w.places (first_live s.store w.unreleased);
       event_count = number;
       steps = small;
     }

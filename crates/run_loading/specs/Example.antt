@@ -1,6 +1,6 @@
 -- The trace of the examples: one step, which writes Cons(2, Nil) over Cons(1, Nil) in cell 0, as that of
 -- fbip fun inc(xs: ints): ints { match! xs { Nil -> Nil; Cons(x, t) -> Cons(x + 1, inc(t)) } }
--- has its one event at a later step. Behind it a trace whose cell is released.
+-- has its one event at a later step. After it a trace whose cell is released.
 use Rattle.std.specs.Prelude.{ℕ, List, [], ◌∷◌, ◌++◌, codes, pos}
 use Rattle.tree_refinement.specs.fip_language.Values.{Value, Int, Node, Values, End, More}
 use Rattle.tree_refinement.specs.fip_language.Store.{Cell}
@@ -22,7 +22,7 @@ rewriting = record {
 abbrev pub cell : ℕ → ℕ → Cell
 cell item rest = record { tag = 1; fields = item ∷ rest ∷ [] }
 
--- its file, up to its event's byte, and behind it
+-- its file, up to its event's byte, and after it
 abbrev pub file_front : List ℕ
 file_front = codes "FP2T" ++ (0 ∷ 1 ∷ 0 ∷ 0 ∷ 0 ∷ 1
     ∷ 0 ∷ 0 ∷ 0 ∷ 0 ∷ 0 ∷ 0 ∷ 0 ∷ 1 ∷ 2 ∷ 0 ∷ 0 ∷ 0 ∷ 0 ∷ 0 ∷ 0 ∷ 0 ∷ 1 ∷ 0 ∷ 0 ∷ 0 ∷ 0 ∷ 0 ∷ 0 ∷ 0 ∷ 0

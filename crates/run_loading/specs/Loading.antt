@@ -2,10 +2,10 @@
 --
 -- Each node with children is a cell, in the order of the ) in the text of the arguments: so a value's cells stand
 -- before the cell of the value that it is a field of. A cell with k fields takes k + 1 places, its own and one for each
--- field. Behind the arguments stands a cell for each credit of the entry's header, with constructor 0 and fields 0. A
+-- field. After the arguments stands a cell for each credit of the entry's header, with constructor 0 and fields 0. A
 -- run is given the words of the arguments, then those of the credits' cells.
 --
--- Cons(1, Cons(2, Nil)) has Cons(2, Nil) at 0 and Cons(1, ..) at 3, and its word is 7; a credit of size 2 behind it has
+-- Cons(1, Cons(2, Nil)) has Cons(2, Nil) at 0 and Cons(1, ..) at 3, and its word is 7; a credit of size 2 after it has
 -- its cell at 6, and its word is 13.
 use Rattle.std.specs.Prelude.{ℕ, suc, ◌+◌, false, List, [], ◌∷◌, ◌++◌, Option, Some, None, length, replicate}
 use Rattle.tree_refinement.specs.fip_language.Values.{Value, Int, Node, Values, End, More}

@@ -2,7 +2,7 @@
 -- is after so many steps, or after the last where the run took fewer.
 --
 -- For the trace of one step that writes Cons(2, Nil) over Cons(1, Nil) in cell 0 the line is `cell 0: tag 1 fields 1 0`
--- after no step, and `cell 0: tag 1 fields 2 0` after one or a million. Behind a step that releases it, it is `free 0`.
+-- after no step, and `cell 0: tag 1 fields 2 0` after one or a million. After a step that releases it, it is `free 0`.
 use Rattle.std.specs.Prelude.{ℕ, suc, ◌-◌, Bool, true, false, List, [], ◌∷◌, ◌++◌, replicate, codes}
 use Rattle.std.specs.Prelude.{Option, Some, None}
 use Rattle.std.specs.Fmt.{decimal}

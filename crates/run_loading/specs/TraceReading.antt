@@ -15,7 +15,7 @@ use Rattle.tree_refinement.specs.machine_semantics.Cells.{Write, Release}
 use Rattle.tree_refinement.specs.machine_semantics.Traces.{Event}
 use Rattle.run_loading.specs.TraceFile.{Loaded, Trace, size_at, left_by}
 
--- what reading gives: something that ends at an offset, with the bytes behind it; or the offset that is bad
+-- what reading gives: something that ends at an offset, with the bytes after it; or the offset that is bad
 pub data Read (A : Type 0) : Type 0 where
   Got : (x : A) (at : ℕ) (rest : List ℕ) → Read A
   Bad : (at : ℕ) → Read A
@@ -29,7 +29,7 @@ abbrev pub asked : {A : Type 0} → Bool → ℕ → Read A → Read A
 asked true at r = r
 asked false at r = Bad at
 
--- a number of so many bytes, behind those that were read of it
+-- a number of so many bytes, after those that were read of it
 unfoldable pub read_number : ℕ → ℕ → ℕ → List ℕ → Read ℕ
 read_number zero n at bytes = Got n at bytes
 read_number (suc w) n at [] = Bad at
@@ -55,7 +55,7 @@ read_fields start place tag size at bytes =
     asked (is_size size) start (then_read (read_words size at bytes)
     (λ ws at' rest. Got (record { place = place; tag = tag; fields = ws }) at' rest))
 
--- a cell at this place or behind it
+-- a cell at this place or after it
 abbrev pub read_cell : ℕ → ℕ → List ℕ → Read Loaded
 read_cell least start bytes =
     then_read (read_number 4 0 start bytes) (λ place at rest. asked (nat_le least place) start

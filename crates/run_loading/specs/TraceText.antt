@@ -13,7 +13,7 @@ unfoldable pub use Rattle.run_loading.specs.TraceFile.{big_endian}
 abbrev pub IsWord : ℕ → Type 0
 IsWord w = w < 2 ^ 64
 
--- a cell at this place or behind it
+-- a cell at this place or after it
 pub record IsCell (least : ℕ) (c : Loaded) : Type 0 where
   pub above : least ≤ c.place
   pub place : c.place < 2 ^ 32

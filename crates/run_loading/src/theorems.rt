@@ -1,4 +1,4 @@
-// The laws of the definitions. Each is the contract of a function that does nothing.
+// The theorems of the definitions. Each is the contract of a function that does nothing.
 ghost use Rattle.std.specs.Prelude.{◌≡◌, ◌⊎◌, ℕ, ◌+◌, ◌^◌, ◌<◌, ◌≤◌, List, [], ◌∷◌, length, map, Option, Some};
 ghost use Rattle.tree_refinement.specs.fip_language.Table.{Table, HaveTypes};
 ghost use Rattle.tree_refinement.specs.fip_language.Values.{Values, words_needed_by_all};
@@ -25,12 +25,12 @@ ghost use Rattle.run_loading.specs.Example.{arguments, cell, rewriting, releasin
 /// fits.
 #[tactic(auto, using(crate::proofs::Lengths::store_length))]
 pub fn a_store_has_the_words_that_it_needs()
-    ensures law { (vs : Values) (credits : List ℕ) →
+    ensures theorem { (vs : Values) (credits : List ℕ) →
         length (first_store vs credits).cells ≡ words_needed_by_all vs + words_of_credits credits }
 {}
 
 /// Cons(1, Cons(2, Nil)) and Nil lie in a new store as the example of runs has them, and their words are 7 and 0. The
-/// cell of a credit of size 2 is behind them, and its word is 13. For who wants to see the numbers.
+/// cell of a credit of size 2 is after them, and its word is 13. For who wants to see the numbers.
 #[tactic(auto, using(crate::proofs::Examples::computed))]
 pub fn an_example_is_loaded()
     ensures store { first_store arguments [] ≡ flat }
@@ -41,7 +41,7 @@ pub fn an_example_is_loaded()
 /// What is written of a trace is read as that trace, to the end of the file. For who keeps traces in files.
 #[tactic(auto, using(crate::proofs::Reading::file_is_read))]
 pub fn a_trace_is_read_as_it_was_written()
-    ensures law { (t : Trace) → IsTrace t → (end : ℕ) × (read_trace (trace_text t) ≡ Got t end []) }
+    ensures theorem { (t : Trace) → IsTrace t → (end : ℕ) × (read_trace (trace_text t) ≡ Got t end []) }
 {}
 
 /// What is read to the end of a file is a trace, and the file's bytes are what is written of it: a trace has one file.
@@ -106,14 +106,14 @@ pub fn what_a_run_did_is_a_trace()
 /// before the first. For who reads `replay` in place of a run.
 #[tactic(auto, using(crate::proofs::Printing::replay_prints))]
 pub fn a_replay_shows_the_cells_of_the_run()
-    ensures law { (kinds : Kinds) (code : PlainCode) (s : State) (cells : List (Option Cell)) (calls steps i : ℕ) →
+    ensures theorem { (kinds : Kinds) (code : PlainCode) (s : State) (cells : List (Option Cell)) (calls steps i : ℕ) →
         s.store ≡ unreleased cells → i ≤ steps →
         replayed (trace_of kinds code s calls steps) i
         ≡ store_text (state_of (after kinds code i (begun s calls))).store }
 {}
 
 /// The cell of the example has its first fields before its one step, and its last ones after it and after any later
-/// one; and a released cell is told as free. For who reads the lines of `replay`.
+/// one; and a released cell is reported as free. For who reads the lines of `replay`.
 pub fn an_example_is_replayed()
     ensures before { replayed rewriting 0 ≡ live_line 0 (cell 1 0) }
     ensures after { replayed rewriting 1 ≡ live_line 0 (cell 2 0) }

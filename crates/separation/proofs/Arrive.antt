@@ -80,7 +80,7 @@ comes_from c i j f left none g = elim g.goes as (λ v. (j ≡ suc i) × Comes c 
       absurd (true≢false (sym label ∙ ap is_some none))
 ]
 
--- behind an instruction
+-- after an instruction
 pub record Arrives (c : PlainCode) (f : PlainFunction) (s : Store) (b : List Placed) (j : ℕ) (left : List Kind) (ws : ℕ → ℕ) (hs : ℕ → Holding) : Type 0 where
   pub kinds : List Kind
   pub known : KnownAt c f j kinds

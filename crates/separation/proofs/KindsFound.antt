@@ -31,7 +31,7 @@ use Rattle.separation.specs.Codes.{AreKinds}
 
 -- ---- a chain takes no more steps than there are registers
 
--- the first n registers behind a from
+-- the first n registers after a from
 abbrev path : List Kind → ℕ → Option From → List ℕ
 path ks zero o = []
 path ks (suc n) None = []
@@ -55,17 +55,17 @@ path_below ks heir zero o d c = tt
 path_below ks heir (suc n) None d c = tt
 path_below ks heir (suc n) (Some f) d c = (goes_within ks heir n f.register d c.1, path_below ks heir n (from_of (at ks f.register)) d c.1)
 
--- behind registers whose froms are one
-behind : (ks : List Kind) (heir : ℕ → Bool) (m n a b : ℕ) → ((f g : From) → f.register ≡ g.register → Chain ks heir m (Some f) a → Chain ks heir n (Some g) b → m ≡ n) → (o p : Option From) → o ≡ p → Chain ks heir m o a → Chain ks heir n p b → m ≡ n
-behind ks heir m n a b ih None p e x y = no_chain ks heir m a x
-behind ks heir m n a b ih (Some f) None e x y = no_chain ks heir n b y
-behind ks heir m n a b ih (Some f) (Some g) e x y = ih f g (ap (λ (f : From). f.register) (same_Some f g e)) x y
+-- after registers whose froms are one
+following : (ks : List Kind) (heir : ℕ → Bool) (m n a b : ℕ) → ((f g : From) → f.register ≡ g.register → Chain ks heir m (Some f) a → Chain ks heir n (Some g) b → m ≡ n) → (o p : Option From) → o ≡ p → Chain ks heir m o a → Chain ks heir n p b → m ≡ n
+following ks heir m n a b ih None p e x y = no_chain ks heir m a x
+following ks heir m n a b ih (Some f) None e x y = no_chain ks heir n b y
+following ks heir m n a b ih (Some f) (Some g) e x y = ih f g (ap (λ (f : From). f.register) (same_Some f g e)) x y
 
 chain_length : (ks : List Kind) (heir : ℕ → Bool) (m n : ℕ) (f g : From) (a b : ℕ) → f.register ≡ g.register → Chain ks heir m (Some f) a → Chain ks heir n (Some g) b → m ≡ n
 chain_length ks heir zero zero f g a b e x y = refl
 chain_length ks heir zero (suc n) f g a b e x y = apart (heir g.register) (ap heir (sym e) ∙ x.0) y.0
 chain_length ks heir (suc m) zero f g a b e x y = apart (heir g.register) y.0 (ap heir (sym e) ∙ x.0)
-chain_length ks heir (suc m) (suc n) f g a b e x y = ap suc (behind ks heir m n a b (λ f g. chain_length ks heir m n f g a b) (from_of (at ks f.register)) (from_of (at ks g.register)) (ap (λ r. from_of (at ks r)) e) x.1 y.1)
+chain_length ks heir (suc m) (suc n) f g a b e x y = ap suc (following ks heir m n a b (λ f g. chain_length ks heir m n f g a b) (from_of (at ks f.register)) (from_of (at ks g.register)) (ap (λ r. from_of (at ks r)) e) x.1 y.1)
 
 -- a register on the path begins a chain of its own
 member : (ks : List Kind) (heir : ℕ → Bool) (n : ℕ) (o : Option From) (d r : ℕ) → Chain ks heir n o d → 0 < count r (path ks n o) → (m : ℕ) × (f : From) × (m ≤ n) × (f.register ≡ r) × Chain ks heir m (Some f) d

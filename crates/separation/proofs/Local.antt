@@ -1,4 +1,4 @@
--- A step inside a frame: the instruction is done, and the state behind it is alive.
+-- A step inside a frame: the instruction is done, and the state after it is alive.
 use Rattle.std.proofs.Common.{◌≡◌, inl, inr, ℕ, ◌<◌, List, length, map, refl, sym, ap, ◌∙◌, subst, arith}
 use Rattle.separation_kinds.specs.fip_language.declared.Operator.{Operator}
 use Rattle.separation_kinds.specs.cell_code.declared.code.Instr.{Instr}
@@ -39,14 +39,14 @@ ready c types kept s sound literals a = record {
   once = λ q. let o = a.once q in let b = below_uses q (map frozen_slots a.frozen) a.lent in omega arith;
 }
 
--- the state behind an instruction that is done
-abbrev pub state_behind : State → R.Done → Store → State
-state_behind s d store = record s {
+-- the state after an instruction that is done
+abbrev pub state_after : State → R.Done → Store → State
+state_after s d store = record s {
   store = store;
   running = record { function = s.running.function; at = d.at; words = d.words };
 }
 
-pub done_alive : (c : PlainCode) (types kept : List ℕ) (s : State) (x : Instr) → IsSound c → (a : IsAlive c types kept s) → (d : IsDone c a.function (lower_trees a.frozen a.lent) a.kinds a.holds s x) → IsAlive c types kept (state_behind s d.done d.store)
+pub done_alive : (c : PlainCode) (types kept : List ℕ) (s : State) (x : Instr) → IsSound c → (a : IsAlive c types kept s) → (d : IsDone c a.function (lower_trees a.frozen a.lent) a.kinds a.holds s x) → IsAlive c types kept (state_after s d.done d.store)
 done_alive c types kept s x sound a d =
     let r : Arrives c a.function d.store (lower_trees a.frozen a.lent) d.done.at d.left (word_at d.done.words) d.holds = arrive c s.running.function s.running.at d.done.at a.function d.store (lower_trees a.frozen a.lent) d.left (word_at d.done.words) d.holds sound a.is d.goes d.meant in
     let same : (q : ℕ) → 0 < lower_uses q a.frozen a.lent → owned_by q (at a.kinds) a.holds (length a.kinds) ≡ 0 = λ q some. let o = a.once q in let t = there_few s.store q in omega arith in

@@ -26,7 +26,7 @@ use Rattle.separation_kinds.proofs.Words.{word_get}
 use Rattle.separation_kinds.proofs.Receiving.{reword}
 use Rattle.separation_kinds.proofs.Passing.{MeansAnywhere}
 use Rattle.separation_kinds.proofs.Takes.{word_or, Plain, AreWritten, parts_written}
-use Rattle.separation_kinds.proofs.Taken.{Takes, held_behind, words_behind, taken_meant, count_taken, plain_places}
+use Rattle.separation_kinds.proofs.Taken.{Takes, held_after, words_after, taken_meant, count_taken, plain_places}
 use Rattle.separation.specs.Rows.{IsReady, IsDone}
 use Rattle.separation.proofs.Reading.{named_is, constructor_in, root_of_set, stand_length}
 use Rattle.separation.proofs.Reached.{reached}
@@ -151,11 +151,11 @@ take_row c f b ks hs s r ds g =
     (plain_words (length ks) (length ws) _ ds (sym long) (plain_places 0 ks hs r 0 ds e.0 (refuted (has ds r) e.1) takes.within)) can.comes.stand
     (λ j. let z : 0 + j ≡ j = omega arith in ap (λ j. word_or (part_of y j)) z ∙ ap word_or (can.comes.part j)) in
     let spare = subst (λ n. (below : List Placed) → MeansAnywhere c.types s.store below (credit n) (word_at ws r) hr) (sym can.number) can.comes.spare in
-    unchanged c f b ks hs s (I.Take r ds) (s.running.at + 1) written.words left (held_behind hs r ds ts y hr) g
+    unchanged c f b ks hs s (I.Take r ds) (s.running.at + 1) written.words left (held_after hs r ds ts y hr) g
     (ap (R.on s) (taken_is c.types s.store s r ds ts (word_at ws r) y ps _ (word_get ws r (omega arith)) can.number can.comes.stand can.comes.fields written))
     (goes_on c f b ks hs s (I.Take r ds) left g is)
     (length_become ks _)
     written.wide
-    (reword c.types s.store b (at left) (words_behind (word_at ws) ds ts y) (word_at written.words) (held_behind hs r ds ts y hr) written.each
+    (reword c.types s.store b (at left) (words_after (word_at ws) ds ts y) (word_at written.words) (held_after hs r ds ts y hr) written.each
     (taken_meant c.types s.store b ks (word_at ws) hs r ds ts left y ps hr takes (spare b) g.meant))
     (λ q. count_taken q c.types s.store b ks (word_at ws) hs r ds ts left y ps hr takes g.meant (subst (λ n. uses q y ≡ owned_uses q (credit n) hr + uses_of_all q ps) (sym can.number) (can.comes.split q)) (can.uses q))

@@ -1,7 +1,7 @@
 -- A sound code as it is run, and the kinds that are known of its registers.
 --
 -- Of the reversal of a list, register 0 owns a list with constructor 0 or 1 before instruction 0, and register 0 is a
--- credit of size 2 before instruction 4. At a Call the kinds that wait are those behind its arguments.
+-- credit of size 2 before instruction 4. At a Call the kinds that wait are those after its arguments.
 use Rattle.std.specs.Prelude.{◌≡◌, ℕ, false, List, Some, map, FitsSigned}
 use Rattle.std.specs.Int.{w64}
 use Rattle.separation_kinds.specs.cell_code.declared.code.Instr.{Instr}

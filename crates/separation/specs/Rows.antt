@@ -1,7 +1,7 @@
 -- It serves the proof that sound code keeps its cells apart: what is known of a frame before an instruction that is no
--- call or return, and what is known behind it.
+-- call or return, and what is known after it.
 --
--- Before Take 0 [2, 3] register 0 owns a tree with a cell; behind it register 0 is a credit that holds this cell, and
+-- Before Take 0 [2, 3] register 0 owns a tree with a cell; after it register 0 is a credit that holds this cell, and
 -- registers 2 and 3 hold the parts. Each cell is owned as often as before.
 use Rattle.std.specs.Prelude.{◌≡◌, ℕ, ◌+◌, ◌≤◌, true, List, [], Some, length, slice_get}
 use Rattle.separation_kinds.specs.fip_language.Table.{Shape, Table, constructors}
@@ -41,7 +41,7 @@ pub record IsReady (c : PlainCode) (f : PlainFunction) (below : List Placed) (ks
   pub once : (q : ℕ) → owned_by q (at ks) hs (length ks) + (trees_uses q below + released_at s.store q)
       ≤ there s.store q
 
--- The instruction can be done: what is known of the frame behind it. Only cells that the frame owns change; each cell
+-- The instruction can be done: what is known of the frame after it. Only cells that the frame owns change; each cell
 -- is owned or released as often as before.
 pub record IsDone (c : PlainCode) (f : PlainFunction) (below : List Placed) (ks : List Kind) (hs : ℕ → Holding)
     (s : State) (x : Instr) : Type 0 where

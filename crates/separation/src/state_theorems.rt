@@ -1,4 +1,4 @@
-// The laws of runs of sound code. Each is the contract of a function that does nothing.
+// The theorems of runs of sound code. Each is the contract of a function that does nothing.
 ghost use Rattle.std.specs.Prelude.{◌≡◌, ℕ, List, []};
 ghost use Rattle.separation_kinds.specs.cell_code.declared.code.Code.{Code};
 ghost use Rattle.separation_kinds.specs.machine_semantics.Codes as R;
@@ -16,18 +16,18 @@ ghost use Rattle.separation.specs.Starts.{IsStart};
 
 /// A code in memory is run as it is verified. For who runs the code that the verifier took.
 pub fn runs_read_the_code()
-    ensures law { (c : Code) → run_code (plain c) ≡ R.plain c }
+    ensures theorem { (c : Code) → run_code (plain c) ≡ R.plain c }
 {}
 
 /// Every code has its kinds: those before each instruction that is reached, and those that wait at a Call. For who
 /// doubts that a run can begin.
 pub fn kinds_are_there()
-    ensures law { (c : PlainCode) → (before : Kinds) × (waits : Kinds) × AreKinds c before waits }
+    ensures theorem { (c : PlainCode) → (before : Kinds) × (waits : Kinds) × AreKinds c before waits }
 {}
 
 /// The state in which an entry of sound code begins has its cells apart. For who loads a run.
 pub fn a_loaded_state_is_apart()
-    ensures law { (c : PlainCode) (before waits : Kinds) (n : ℕ) (kept : List ℕ) (s : State) →
+    ensures theorem { (c : PlainCode) (before waits : Kinds) (n : ℕ) (kept : List ℕ) (s : State) →
         IsStart c before waits n kept s → Apart before waits (run_code c) kept s }
 {}
 
@@ -47,14 +47,14 @@ pub fn each_step_keeps_what_holds()
 /// Every state of a run of sound code has its cells apart, with the same kept cells, however the code was made. For who
 /// runs the code of a stranger.
 pub fn every_state_is_apart()
-    ensures law { (c : PlainCode) (before waits : Kinds) (n : ℕ) (kept : List ℕ) (s : State) (calls steps : ℕ) →
+    ensures theorem { (c : PlainCode) (before waits : Kinds) (n : ℕ) (kept : List ℕ) (s : State) (calls steps : ℕ) →
         IsStart c before waits n kept s →
         Apart before waits (run_code c) kept (state_of (after before (run_code c) steps (begun s calls))) }
 {}
 
 /// No run of sound code ends because an instruction can't be done. For who runs it without a test.
 pub fn no_instruction_is_stuck()
-    ensures law { (c : PlainCode) (before waits : Kinds) (n : ℕ) (kept : List ℕ) (s : State) (calls steps : ℕ)
+    ensures theorem { (c : PlainCode) (before waits : Kinds) (n : ℕ) (kept : List ℕ) (s : State) (calls steps : ℕ)
         (last : State) (left done : ℕ) → IsStart c before waits n kept s →
         after before (run_code c) steps (begun s calls) ≡ Over Unsound last left done → ⊥ }
 {}
@@ -62,7 +62,7 @@ pub fn no_instruction_is_stuck()
 /// The words that a run of sound code gives stand for trees of the entry's result types, which are apart from the lent
 /// arguments, the kept and the released cells, and with these are all cells. For who reads the results.
 pub fn results_are_apart()
-    ensures law { (c : PlainCode) (before waits : Kinds) (n : ℕ) (kept : List ℕ) (s : State) (calls steps : ℕ)
+    ensures theorem { (c : PlainCode) (before waits : Kinds) (n : ℕ) (kept : List ℕ) (s : State) (calls steps : ℕ)
         (words : List ℕ) (last : State) (left done : ℕ) → IsStart c before waits n kept s →
         after before (run_code c) steps (begun s calls) ≡ Over (Value words) last left done →
         GivesApart (run_code c) n kept last words }
@@ -71,6 +71,6 @@ pub fn results_are_apart()
 /// The reversal of a list of two items begins in the state that has just the two cells. For who wants to see that what
 /// is asked can be met.
 pub fn an_example_begins()
-    ensures law { (before waits : Kinds) → AreKinds reversal before waits →
+    ensures theorem { (before waits : Kinds) → AreKinds reversal before waits →
         IsStart reversal before waits 0 [] (first listed 3) }
 {}

@@ -1,4 +1,4 @@
-// The laws on cells, stack and steps of runs of sound code. Each is the contract of a function that does nothing.
+// The theorems on cells, stack and steps of runs of sound code. Each is the contract of a function that does nothing.
 ghost use Rattle.std.specs.Prelude.{◌≡◌, ◌≤◌, ◌*◌, ◌+◌, ℕ, suc, List};
 ghost use Rattle.separation.specs.fip_language.Values.{cells_of_all};
 ghost use Rattle.separation.specs.fip_language.Store.{values_of, count};
@@ -56,7 +56,7 @@ pub fn fip_runs_stay_within_their_stack()
 /// With as many free frames as its stack number says, a run of a fip entry of sound code never ends for want of one.
 /// For who grants it the frames.
 pub fn fip_runs_are_never_too_deep()
-    ensures law { (c : PlainCode) (before waits : Kinds) (n : ℕ) (kept : List ℕ) (s : State) (calls steps : ℕ)
+    ensures theorem { (c : PlainCode) (before waits : Kinds) (n : ℕ) (kept : List ℕ) (s : State) (calls steps : ℕ)
         (stack : Stack) (last : State) (left done : ℕ) → IsStart c before waits n kept s → IsFip c n →
         IsStack c n stack → stack.frames ≤ s.free →
         after before (run_code c) steps (begun s calls) ≡ Over Deep last left done → ⊥ }
@@ -65,7 +65,7 @@ pub fn fip_runs_are_never_too_deep()
 /// A run of sound code takes at most as many steps for each of its calls as its longest function has instructions, so
 /// it ends. For who waits for it.
 pub fn a_run_takes_few_steps()
-    ensures law { (c : PlainCode) (before waits : Kinds) (n : ℕ) (kept : List ℕ) (s : State)
+    ensures theorem { (c : PlainCode) (before waits : Kinds) (n : ℕ) (kept : List ℕ) (s : State)
         (calls steps most : ℕ) → IsStart c before waits n kept s → AreAtMost c most →
         steps_of (after before (run_code c) steps (begun s calls)) ≤ calls * most }
 {}
@@ -104,7 +104,7 @@ pub fn held_cells_are_those_of_the_trees()
 /// cells of each size as the arguments and the entry's credits. For who knows no compiler, and asks for nothing but a
 /// verified code.
 pub fn fip_runs_give_back_their_cells()
-    ensures law { (c : PlainCode) (before waits : Kinds) (n : ℕ) (kept : List ℕ) (s : State) (calls steps : ℕ)
+    ensures theorem { (c : PlainCode) (before waits : Kinds) (n : ℕ) (kept : List ℕ) (s : State) (calls steps : ℕ)
         (words : List ℕ) (last : State) (left done size : ℕ) → (t : IsStart c before waits n kept s) → IsFip c n →
         after before (run_code c) steps (begun s calls) ≡ Over (Value words) last left done →
         (g : GivesApart (run_code c) n kept last words) →

@@ -42,7 +42,7 @@ uses_narrow q cs (Owned t s) h = refl
 uses_narrow q cs (Lent t s root from) h = refl
 uses_narrow q cs (Credit k) h = refl
 
--- the kinds behind a test
+-- the kinds after a test
 abbrev pub narrowed : (ℕ → Kind) → ℕ → List ℕ → ℕ → Kind
 narrowed ks r cs q = if q == r then narrow cs (ks q) else ks q
 

@@ -1,4 +1,4 @@
--- Behind a Take, a register that was lent of the register that is taken apart is lent of the heir that it reaches.
+-- After a Take, a register that was lent of the register that is taken apart is lent of the heir that it reaches.
 -- The idea: each from leads to a tree that has the tree; so an heir's tree has those of all that reach it.
 use Rattle.std.proofs.Common.{◌≡◌, inl, inr, ℕ, zero, suc, ◌≤◌, Bool, true, false, List, Option, Some, None, refl, sym, ap, ◌∙◌, subst, true≢false, arith, ◌==◌}
 use Rattle.std.proofs.lemmas.Option.{none-some, same_Some}
@@ -34,7 +34,7 @@ pub no_chain : {A : Type 0} (ks : List Kind) (heir : ℕ → Bool) (n d : ℕ) �
 no_chain ks heir zero d x = absurd x
 no_chain ks heir (suc n) d x = absurd x
 
--- where a register has a tree, its from tells of that
+-- where a register has a tree, its from reports of that
 pub framed_of : (tb : Table) (s : Store) (below : List Placed) (ks : ℕ → Kind) (hs : ℕ → Holding) (k : Kind) (w : ℕ) (h : Holding) (y : Placed) → h ≡ Tree y → Means tb s below ks hs k w h → (root : Option ℕ) × Framed ks hs root (from_of k) y
 framed_of tb s below ks hs Gone w h y e m = (None, tt)
 framed_of tb s below ks hs (Scalar t) w h y e m = (None, tt)
@@ -72,7 +72,7 @@ reached_one : (ks : List Kind) (heir : ℕ → Bool) (q n d : ℕ) (o : Option �
 reached_one ks heir q n d None r c = absurd (r d (n, c))
 reached_one ks heir q n d (Some e) r c = ap Some (chain_one ks heir r.0 n (from_of (at ks q)) e d r.1 c)
 
--- registers before and behind the Take of register r into other registers, some of them heirs
+-- registers before and after the Take of register r into other registers, some of them heirs
 pub record IsTakenFrom (ks : List Kind) (ls : ℕ → Kind) (hs gs : ℕ → Holding) (r : ℕ) (dest heir ends : ℕ → Bool) (reached : ℕ → Option ℕ) : Type 0 where
   pub owner : is_owned (at ks r) ≡ true
   pub free : (q : ℕ) → dest q ≡ true → is_free (at ks q) ≡ true
@@ -104,7 +104,7 @@ adopted ks heir ends n f r d (Owned t cs) c = no_chain ks heir n d c
 adopted ks heir ends n f r d (Lent t cs root from) c = refl
 adopted ks heir ends n f r d (Credit k) c = no_chain ks heir n d c
 
--- its from, in the registers behind the Take
+-- its from, in the registers after the Take
 reached_roots : (ks : List Kind) (ls : ℕ → Kind) (hs gs : ℕ → Holding) (r : ℕ) (dest heir ends : ℕ → Bool) (reached : ℕ → Option ℕ) (n f d : ℕ) → IsTakenFrom ks ls hs gs r dest heir ends reached → ends f ≡ false → (from : From) → from.register ≡ f → Chain ks heir n (Some from) d → Roots f (ls f) (Some d) × (gs f ≡ hs f)
 reached_roots ks ls hs gs r dest heir ends reached zero f d t e from is c =
     let here : heir f ≡ true = ap heir (sym is) ∙ c.0 in

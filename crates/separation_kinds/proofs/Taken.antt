@@ -1,4 +1,4 @@
--- Take: behind it each register has what its kind says, and each cell is owned as often as before.
+-- Take: after it each register has what its kind says, and each cell is owned as often as before.
 use Rattle.std.proofs.Common.{◌≡◌, inl, inr, ℕ, ◌+◌, Bool, true, false, ◌&&◌, not, List, [], ◌∷◌, length, Option, Some, None, refl, sym, ap, ap₂, ◌∙◌, true≢false, arith, nat_lt, if◌then◌else◌, ◌==◌}
 use Rattle.std.specs.Prelude.{is_some}
 use Rattle.machine_semantics.specs.fip_language.Table.{Table, is_scalar}
@@ -35,16 +35,16 @@ pub record Takes (tb : Table) (s : Store) (ks : List Kind) (hs : ℕ → Holding
   pub within : are_below (length ks) ds ≡ true
   pub taken : IsTaken tb ks r ds ts left
 
--- what registers hold behind it, where r holds hr
-abbrev pub held_behind : (ℕ → Holding) → ℕ → List ℕ → List ℕ → Placed → Holding → ℕ → Holding
-held_behind hs r ds ts y hr q = by_part (λ j. tree_or (part_of y j)) (part ds ts q) (put r hr hs q)
+-- what registers hold after it, where r holds hr
+abbrev pub held_after : (ℕ → Holding) → ℕ → List ℕ → List ℕ → Placed → Holding → ℕ → Holding
+held_after hs r ds ts y hr q = by_part (λ j. tree_or (part_of y j)) (part ds ts q) (put r hr hs q)
 
-abbrev pub words_behind : (ℕ → ℕ) → List ℕ → List ℕ → Placed → ℕ → ℕ
-words_behind ws ds ts y q = by_part (λ j. word_or (part_of y j)) (part ds ts q) (ws q)
+abbrev pub words_after : (ℕ → ℕ) → List ℕ → List ℕ → Placed → ℕ → ℕ
+words_after ws ds ts y q = by_part (λ j. word_or (part_of y j)) (part ds ts q) (ws q)
 
--- the kinds behind it
-abbrev pub kinds_behind : Table → List Kind → ℕ → List ℕ → List ℕ → (ℕ → Option ℕ) → ℕ → Kind
-kinds_behind tb ks r ds ts reached q = part_or tb r (at ks q) (part ds ts q) (if q == r then credit (length ds) else forget (ends tb ks r (part ds ts) (length ds) reached) (fate (reached q) r (at ks q)))
+-- the kinds after it
+abbrev pub kinds_after : Table → List Kind → ℕ → List ℕ → List ℕ → (ℕ → Option ℕ) → ℕ → Kind
+kinds_after tb ks r ds ts reached q = part_or tb r (at ks q) (part ds ts q) (if q == r then credit (length ds) else forget (ends tb ks r (part ds ts) (length ds) reached) (fate (reached q) r (at ks q)))
 
 record IsHeir (tb : Table) (r : ℕ) (k : Kind) (o : Option Part) : Type 0 where
   part : Part
@@ -140,9 +140,9 @@ gets_part tb s below ks ws hs r ds ts left y ps q p t m e =
       uses = λ q. field_uses tb s p.ty f.tree q stands;
     }))
 
--- ---- the registers before and behind it
+-- ---- the registers before and after it
 
-heir_owns : (tb : Table) (s : Store) (below : List Placed) (ks : List Kind) (ws : ℕ → ℕ) (hs : ℕ → Holding) (r : ℕ) (ds ts : List ℕ) (left : List Kind) (y : Placed) (ps : Parts) (hr : Holding) (reached : ℕ → Option ℕ) (q : ℕ) → Takes tb s ks hs r ds ts left y ps → AreMeant tb s below (at ks) ws hs → is_heir tb ks r (part ds ts) q ≡ true → (is_owned (kinds_behind tb ks r ds ts reached q) ≡ true) × (held_behind hs r ds ts y hr q ≡ hs q)
+heir_owns : (tb : Table) (s : Store) (below : List Placed) (ks : List Kind) (ws : ℕ → ℕ) (hs : ℕ → Holding) (r : ℕ) (ds ts : List ℕ) (left : List Kind) (y : Placed) (ps : Parts) (hr : Holding) (reached : ℕ → Option ℕ) (q : ℕ) → Takes tb s ks hs r ds ts left y ps → AreMeant tb s below (at ks) ws hs → is_heir tb ks r (part ds ts) q ≡ true → (is_owned (kinds_after tb ks r ds ts reached q) ≡ true) × (held_after hs r ds ts y hr q ≡ hs q)
 heir_owns tb s below ks ws hs r ds ts left y ps hr reached q t m e =
     let h = heir_some tb r (at ks q) (part ds ts q) e in
     let l = lent_part tb s below (at ks) hs r h.part.field y (at ks q) (ws q) (hs q) t.holds h.field (m.each q) in
@@ -154,7 +154,7 @@ heir_owns tb s below ks ws hs r ds ts left y ps hr reached q t m e =
       ap (λ o. by_part (λ j. tree_or (part_of y j)) o (put r hr hs q)) h.is ∙ ap tree_or l.part ∙ sym l.holds,
     )
 
-pub is_taken_from : (tb : Table) (s : Store) (below : List Placed) (ks : List Kind) (ws : ℕ → ℕ) (hs : ℕ → Holding) (r : ℕ) (ds ts : List ℕ) (left : List Kind) (y : Placed) (ps : Parts) (hr : Holding) (reached : ℕ → Option ℕ) → ((q : ℕ) → IsReached ks (is_heir tb ks r (part ds ts)) q (reached q)) → Takes tb s ks hs r ds ts left y ps → AreMeant tb s below (at ks) ws hs → IsTakenFrom ks (kinds_behind tb ks r ds ts reached) hs (held_behind hs r ds ts y hr) r (λ q. is_some (part ds ts q)) (is_heir tb ks r (part ds ts)) (ends tb ks r (part ds ts) (length ds) reached) reached
+pub is_taken_from : (tb : Table) (s : Store) (below : List Placed) (ks : List Kind) (ws : ℕ → ℕ) (hs : ℕ → Holding) (r : ℕ) (ds ts : List ℕ) (left : List Kind) (y : Placed) (ps : Parts) (hr : Holding) (reached : ℕ → Option ℕ) → ((q : ℕ) → IsReached ks (is_heir tb ks r (part ds ts)) q (reached q)) → Takes tb s ks hs r ds ts left y ps → AreMeant tb s below (at ks) ws hs → IsTakenFrom ks (kinds_after tb ks r ds ts reached) hs (held_after hs r ds ts y hr) r (λ q. is_some (part ds ts q)) (is_heir tb ks r (part ds ts)) (ends tb ks r (part ds ts) (length ds) reached) reached
 is_taken_from tb s below ks ws hs r ds ts left y ps hr reached reaches t m = record {
   owner = t.owner;
   free = λ q d. let p = some_is (part ds ts q) d in places_free ks ds q t.places (part_dest 0 ds ts q p.0 p.1);
@@ -170,11 +170,11 @@ is_taken_from tb s below ks ws hs r ds ts left y ps hr reached reaches t m = rec
   reaches = reaches;
 }
 
--- the registers behind it have what these kinds say
-behind_means : (tb : Table) (s : Store) (below : List Placed) (ks : List Kind) (ws : ℕ → ℕ) (hs : ℕ → Holding) (r : ℕ) (ds ts : List ℕ) (left : List Kind) (y : Placed) (ps : Parts) (hr : Holding) (reached : ℕ → Option ℕ) → ((q : ℕ) → IsReached ks (is_heir tb ks r (part ds ts)) q (reached q)) → Takes tb s ks hs r ds ts left y ps → ((ls : ℕ → Kind) (gs : ℕ → Holding) → Means tb s below ls gs (credit (length ds)) (ws r) hr) → AreMeant tb s below (at ks) ws hs → (q : ℕ) (o : Option Part) → part ds ts q ≡ o → Means tb s below (kinds_behind tb ks r ds ts reached) (held_behind hs r ds ts y hr) (part_or tb r (at ks q) o (if q == r then credit (length ds) else forget (ends tb ks r (part ds ts) (length ds) reached) (fate (reached q) r (at ks q)))) (by_part (λ j. word_or (part_of y j)) o (ws q)) (by_part (λ j. tree_or (part_of y j)) o (put r hr hs q))
-behind_means tb s below ks ws hs r ds ts left y ps hr reached reaches t c m q None e =
-    let ls : ℕ → Kind = kinds_behind tb ks r ds ts reached in
-    let gs : ℕ → Holding = held_behind hs r ds ts y hr in
+-- the registers after it have what these kinds say
+after_means : (tb : Table) (s : Store) (below : List Placed) (ks : List Kind) (ws : ℕ → ℕ) (hs : ℕ → Holding) (r : ℕ) (ds ts : List ℕ) (left : List Kind) (y : Placed) (ps : Parts) (hr : Holding) (reached : ℕ → Option ℕ) → ((q : ℕ) → IsReached ks (is_heir tb ks r (part ds ts)) q (reached q)) → Takes tb s ks hs r ds ts left y ps → ((ls : ℕ → Kind) (gs : ℕ → Holding) → Means tb s below ls gs (credit (length ds)) (ws r) hr) → AreMeant tb s below (at ks) ws hs → (q : ℕ) (o : Option Part) → part ds ts q ≡ o → Means tb s below (kinds_after tb ks r ds ts reached) (held_after hs r ds ts y hr) (part_or tb r (at ks q) o (if q == r then credit (length ds) else forget (ends tb ks r (part ds ts) (length ds) reached) (fate (reached q) r (at ks q)))) (by_part (λ j. word_or (part_of y j)) o (ws q)) (by_part (λ j. tree_or (part_of y j)) o (put r hr hs q))
+after_means tb s below ks ws hs r ds ts left y ps hr reached reaches t c m q None e =
+    let ls : ℕ → Kind = kinds_after tb ks r ds ts reached in
+    let gs : ℕ → Holding = held_after hs r ds ts y hr in
     let gone : Kind = forget (ends tb ks r (part ds ts) (length ds) reached) (fate (reached q) r (at ks q)) in
     elim (or_not (q == r)) as (λ v. Means tb s below ls gs (if q == r then credit (length ds) else gone) (ws q) (put r hr hs q)) [
       | inl same ↦ rw (chosen (q == r) (credit (length ds)) gone same, chosen (q == r) hr (hs q) same, equal q r same) (c ls gs)
@@ -182,15 +182,15 @@ behind_means tb s below ks ws hs r ds ts left y ps hr reached reaches t c m q No
           (other_means tb s below ks ws ls hs gs r (λ q. is_some (part ds ts q)) (is_heir tb ks r (part ds ts)) (ends tb ks r (part ds ts) (length ds) reached) reached (at ks q) (ws q) (hs q) (reached q)
           (is_taken_from tb s below ks ws hs r ds ts left y ps hr reached reaches t m) m (leads_to ks (is_heir tb ks r (part ds ts)) q (reached q) (reaches q)) (m.each q))
     ]
-behind_means tb s below ks ws hs r ds ts left y ps hr reached reaches t c m q (Some p) e =
+after_means tb s below ks ws hs r ds ts left y ps hr reached reaches t c m q (Some p) e =
     let g = gets_part tb s below ks ws hs r ds ts left y ps q p t m e in
-    rw g.part (g.means below (kinds_behind tb ks r ds ts reached) (held_behind hs r ds ts y hr))
+    rw g.part (g.means below (kinds_after tb ks r ds ts reached) (held_after hs r ds ts y hr))
 
-at_left : (tb : Table) (s : Store) (ks : List Kind) (hs : ℕ → Holding) (r : ℕ) (ds ts : List ℕ) (left : List Kind) (y : Placed) (ps : Parts) (t : Takes tb s ks hs r ds ts left y ps) (q : ℕ) → at left q ≡ kinds_behind tb ks r ds ts t.taken.0 q
+at_left : (tb : Table) (s : Store) (ks : List Kind) (hs : ℕ → Holding) (r : ℕ) (ds ts : List ℕ) (left : List Kind) (y : Placed) (ps : Parts) (t : Takes tb s ks hs r ds ts left y ps) (q : ℕ) → at left q ≡ kinds_after tb ks r ds ts t.taken.0 q
 at_left tb s ks hs r ds ts left y ps t q =
     let reached = t.taken.0 in
     let there = owned_within ks r t.owner in
-    ap (λ ls. at ls q) t.taken.2 ∙ becomes ks (kinds_behind tb ks r ds ts reached) (λ q past.
+    ap (λ ls. at ls q) t.taken.2 ∙ becomes ks (kinds_after tb ks r ds ts reached) (λ q past.
     let no_dest : has ds q ≡ false = elim (or_not (has ds q)) as (λ v. has ds q ≡ false) [
       | inl h ↦ let z = has_below (length ks) ds q t.within h in absurd (omega arith)
       | inr n ↦ n
@@ -205,9 +205,9 @@ at_left tb s ks hs r ds ts left y ps t q =
     past_gone e None r = refl
     past_gone e (Some d) r = refl
 
-pub taken_meant : (tb : Table) (s : Store) (below : List Placed) (ks : List Kind) (ws : ℕ → ℕ) (hs : ℕ → Holding) (r : ℕ) (ds ts : List ℕ) (left : List Kind) (y : Placed) (ps : Parts) (hr : Holding) → Takes tb s ks hs r ds ts left y ps → ((ls : ℕ → Kind) (gs : ℕ → Holding) → Means tb s below ls gs (credit (length ds)) (ws r) hr) → AreMeant tb s below (at ks) ws hs → AreMeant tb s below (at left) (words_behind ws ds ts y) (held_behind hs r ds ts y hr)
-taken_meant tb s below ks ws hs r ds ts left y ps hr t c m = recast tb s below (kinds_behind tb ks r ds ts t.taken.0) (at left) (words_behind ws ds ts y) (held_behind hs r ds ts y hr) (at_left tb s ks hs r ds ts left y ps t) (record {
-  each = λ q. behind_means tb s below ks ws hs r ds ts left y ps hr t.taken.0 t.taken.1 t c m q (part ds ts q) refl;
+pub taken_meant : (tb : Table) (s : Store) (below : List Placed) (ks : List Kind) (ws : ℕ → ℕ) (hs : ℕ → Holding) (r : ℕ) (ds ts : List ℕ) (left : List Kind) (y : Placed) (ps : Parts) (hr : Holding) → Takes tb s ks hs r ds ts left y ps → ((ls : ℕ → Kind) (gs : ℕ → Holding) → Means tb s below ls gs (credit (length ds)) (ws r) hr) → AreMeant tb s below (at ks) ws hs → AreMeant tb s below (at left) (words_after ws ds ts y) (held_after hs r ds ts y hr)
+taken_meant tb s below ks ws hs r ds ts left y ps hr t c m = recast tb s below (kinds_after tb ks r ds ts t.taken.0) (at left) (words_after ws ds ts y) (held_after hs r ds ts y hr) (at_left tb s ks hs r ds ts left y ps t) (record {
+  each = λ q. after_means tb s below ks ws hs r ds ts left y ps hr t.taken.0 t.taken.1 t c m q (part ds ts q) refl;
 })
 
 -- ---- counts
@@ -224,14 +224,14 @@ uses_fate q e (Some d) r (Owned t cs) h = refl
 uses_fate q e (Some d) r (Lent t cs root from) h = refl
 uses_fate q e (Some d) r (Credit n) h = refl
 
-behind_uses : (i : ℕ) (tb : Table) (s : Store) (below : List Placed) (ks : List Kind) (ws : ℕ → ℕ) (hs : ℕ → Holding) (r : ℕ) (ds ts : List ℕ) (left : List Kind) (y : Placed) (ps : Parts) (hr : Holding) (reached : ℕ → Option ℕ) → Takes tb s ks hs r ds ts left y ps → AreMeant tb s below (at ks) ws hs → (q : ℕ) (o : Option Part) → part ds ts q ≡ o → owned_uses i (part_or tb r (at ks q) o (if q == r then credit (length ds) else forget (ends tb ks r (part ds ts) (length ds) reached) (fate (reached q) r (at ks q)))) (by_part (λ j. tree_or (part_of y j)) o (put r hr hs q)) ≡ by_part (λ j. uses_or i (part_of y j)) o (put r (owned_uses i (credit (length ds)) hr) (λ q. owned_uses i (at ks q) (hs q)) q)
-behind_uses i tb s below ks ws hs r ds ts left y ps hr reached t m q None e =
+after_uses : (i : ℕ) (tb : Table) (s : Store) (below : List Placed) (ks : List Kind) (ws : ℕ → ℕ) (hs : ℕ → Holding) (r : ℕ) (ds ts : List ℕ) (left : List Kind) (y : Placed) (ps : Parts) (hr : Holding) (reached : ℕ → Option ℕ) → Takes tb s ks hs r ds ts left y ps → AreMeant tb s below (at ks) ws hs → (q : ℕ) (o : Option Part) → part ds ts q ≡ o → owned_uses i (part_or tb r (at ks q) o (if q == r then credit (length ds) else forget (ends tb ks r (part ds ts) (length ds) reached) (fate (reached q) r (at ks q)))) (by_part (λ j. tree_or (part_of y j)) o (put r hr hs q)) ≡ by_part (λ j. uses_or i (part_of y j)) o (put r (owned_uses i (credit (length ds)) hr) (λ q. owned_uses i (at ks q) (hs q)) q)
+after_uses i tb s below ks ws hs r ds ts left y ps hr reached t m q None e =
     let gone : Kind = forget (ends tb ks r (part ds ts) (length ds) reached) (fate (reached q) r (at ks q)) in
     elim (or_not (q == r)) as (λ v. owned_uses i (if q == r then credit (length ds) else gone) (put r hr hs q) ≡ put r (owned_uses i (credit (length ds)) hr) (λ q. owned_uses i (at ks q) (hs q)) q) [
       | inl same ↦ ap₂ (owned_uses i) (chosen (q == r) (credit (length ds)) gone same) (chosen (q == r) hr (hs q) same) ∙ sym (chosen (q == r) (owned_uses i (credit (length ds)) hr) (owned_uses i (at ks q) (hs q)) same)
       | inr off ↦ ap₂ (owned_uses i) (refused (q == r) (credit (length ds)) gone off) (refused (q == r) hr (hs q) off) ∙ uses_fate i (ends tb ks r (part ds ts) (length ds) reached) (reached q) r (at ks q) (hs q) ∙ sym (refused (q == r) (owned_uses i (credit (length ds)) hr) (owned_uses i (at ks q) (hs q)) off)
     ]
-behind_uses i tb s below ks ws hs r ds ts left y ps hr reached t m q (Some p) e =
+after_uses i tb s below ks ws hs r ds ts left y ps hr reached t m q (Some p) e =
     let g = gets_part tb s below ks ws hs r ds ts left y ps q p t m e in
     ap (λ o. owned_uses i (part_kind tb r (at ks q) p) (tree_or o)) g.part ∙ g.uses i ∙ sym (ap (uses_or i) g.part)
 
@@ -249,7 +249,7 @@ plain_places i ks hs r n (d ∷ ds) p off b =
       plain_places i ks hs r n ds c.1 rest e.1,
     )
 
-pub count_taken : (i : ℕ) (tb : Table) (s : Store) (below : List Placed) (ks : List Kind) (ws : ℕ → ℕ) (hs : ℕ → Holding) (r : ℕ) (ds ts : List ℕ) (left : List Kind) (y : Placed) (ps : Parts) (hr : Holding) → Takes tb s ks hs r ds ts left y ps → AreMeant tb s below (at ks) ws hs → uses i y ≡ owned_uses i (credit (length ds)) hr + uses_of_all i ps → owned_uses i (at ks r) (hs r) ≡ uses i y → owned_by i (at left) (held_behind hs r ds ts y hr) (length ks) ≡ owned_by i (at ks) hs (length ks)
+pub count_taken : (i : ℕ) (tb : Table) (s : Store) (below : List Placed) (ks : List Kind) (ws : ℕ → ℕ) (hs : ℕ → Holding) (r : ℕ) (ds ts : List ℕ) (left : List Kind) (y : Placed) (ps : Parts) (hr : Holding) → Takes tb s ks hs r ds ts left y ps → AreMeant tb s below (at ks) ws hs → uses i y ≡ owned_uses i (credit (length ds)) hr + uses_of_all i ps → owned_uses i (at ks r) (hs r) ≡ uses i y → owned_by i (at left) (held_after hs r ds ts y hr) (length ks) ≡ owned_by i (at ks) hs (length ks)
 count_taken i tb s below ks ws hs r ds ts left y ps hr t m split own =
     let n : ℕ = length ks in
     let g : ℕ → ℕ = λ q. owned_uses i (at ks q) (hs q) in
@@ -257,7 +257,7 @@ count_taken i tb s below ks ws hs r ds ts left y ps hr t m split own =
     let h : ℕ → ℕ = put r c g in
     let u : ℕ → ℕ = λ j. uses_or i (part_of y j) in
     let there = owned_within ks r t.owner in
-    let first : owned_by i (at left) (held_behind hs r ds ts y hr) n ≡ sum_from (λ q. by_part u (part ds ts q) (h q)) 0 n = sum_same (λ q. owned_uses i (at left q) (held_behind hs r ds ts y hr q)) (λ q. by_part u (part ds ts q) (h q)) 0 n (λ q low high. ap (λ k. owned_uses i k (held_behind hs r ds ts y hr q)) (at_left tb s ks hs r ds ts left y ps t q) ∙ behind_uses i tb s below ks ws hs r ds ts left y ps hr t.taken.0 t m q (part ds ts q) refl) in
+    let first : owned_by i (at left) (held_after hs r ds ts y hr) n ≡ sum_from (λ q. by_part u (part ds ts q) (h q)) 0 n = sum_same (λ q. owned_uses i (at left q) (held_after hs r ds ts y hr q)) (λ q. by_part u (part ds ts q) (h q)) 0 n (λ q low high. ap (λ k. owned_uses i k (held_after hs r ds ts y hr q)) (at_left tb s ks hs r ds ts left y ps t q) ∙ after_uses i tb s below ks ws hs r ds ts left y ps hr t.taken.0 t m q (part ds ts q) refl) in
     let second : sum_from (λ q. by_part u (part ds ts q) (h q)) 0 n ≡ sum_from h 0 n + sum_from u 0 (length ds) = parts_sum u h n 0 ds ts t.number (plain_places i ks hs r c ds t.places t.off t.within) in
     let third : sum_from h 0 n + g r ≡ sum_from g 0 n + h r = sum_set h g 0 n r (omega arith) (omega arith) (λ q off. refused (q == r) c (g q) (unequal_is q r off)) in
     let here : h r ≡ c = chosen (r == r) c (g r) (equal_is r r refl) in

@@ -1,4 +1,4 @@
--- Take: the kinds behind it say what the registers have.
+-- Take: the kinds after it say what the registers have.
 use Rattle.std.proofs.Common.{◌≡◌, inl, inr, ℕ, zero, suc, ◌+◌, ◌<◌, true, false, ◌&&◌, not, List, [], ◌∷◌, length, Option, Some, None, refl, sym, ap, ◌∙◌, subst, true≢false, arith, nat_lt, ◌==◌}
 use Rattle.std.specs.Prelude.{option_and_then, slice_set}
 use Rattle.std.proofs.lemmas.Option.{none-some, same_Some}

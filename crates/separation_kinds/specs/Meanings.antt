@@ -100,7 +100,7 @@ Means tb s below ks hs (Owned t cs) w h = IsRooted tb s t cs w h
 Means tb s below ks hs (Lent t cs root from) w h = IsSeen tb s below ks hs t cs root from w h
 Means tb s below ks hs (Credit k) w h = IsSpare s k w h
 
--- Each register has what its kind says. Behind the last one all are Gone.
+-- Each register has what its kind says. After the last one all are Gone.
 pub record AreMeant (tb : Table) (s : Store) (below : List Placed) (ks : ℕ → Kind) (ws : ℕ → ℕ) (hs : ℕ → Holding) :
     Type 0 where
   pub each : (r : ℕ) → Means tb s below ks hs (ks r) (ws r) (hs r)
@@ -114,7 +114,7 @@ sum_from f i (suc n) = f i + sum_from f (suc i) n
 abbrev pub owned_by : ℕ → (ℕ → Kind) → (ℕ → Holding) → ℕ → ℕ
 owned_by q ks hs n = sum_from (λ r. owned_uses q (ks r) (hs r)) 0 n
 
--- the word of register r; 0 behind the last one
+-- the word of register r; 0 after the last one
 abbrev pub word_at : List ℕ → ℕ → ℕ
 word_at ws r = slice_index_or ws r 0
 

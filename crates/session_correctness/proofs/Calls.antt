@@ -1,4 +1,4 @@
--- A call over a store that holds what names hold: behind it, however it ended, each cell that isn't released is one of
+-- A call over a store that holds what names hold: after it, however it ended, each cell that isn't released is one of
 -- what is held then, once.
 use Rattle.std.proofs.Common.{◌≡◌, ◌∙◌, ℕ, ◌+◌, ◌<◌, ◌≤◌, Bool, true, false, List, [], ◌∷◌, map, length, slice_get, Option, Some, None, refl, sym, ap, subst, if◌then◌else◌, arith}
 use Rattle.tree_refinement.specs.fip_base.declared.plain.Param.{Param}
@@ -87,8 +87,8 @@ module _ (c : PlainCode) (before waits : Kinds) (n : ℕ) (kept : List ℕ) (s :
   abbrev xs : Parts
   xs = t.given.arguments
 
-  abbrev behind : List Lodged
-  behind = but_all (used_by c.types ps gs) ls
+  abbrev following : List Lodged
+  following = but_all (used_by c.types ps gs) ls
 
   -- what is used up where the run has no value
   abbrev gone : ℕ → ℕ
@@ -97,7 +97,7 @@ module _ (c : PlainCode) (before waits : Kinds) (n : ℕ) (kept : List ℕ) (s :
   scalars : AreBare c.types ps xs
   scalars = bare c.types s.store ps xs t.given.stand
 
-  at_first : (q : ℕ) → gone q + (lodged_uses behind q + released_at s.store q) ≡ there s.store q
+  at_first : (q : ℕ) → gone q + (lodged_uses following q + released_at s.store q) ≡ there s.store q
   at_first q =
       let a = arguments_and_kept c.types ls distinct ps gs xs q given scalars in
       let u = used_and_held c.types ls distinct ps gs xs q given scalars in
@@ -105,55 +105,55 @@ module _ (c : PlainCode) (before waits : Kinds) (n : ℕ) (kept : List ℕ) (s :
       let k = others q in
       omega (arith, a, u, o, k)
 
-  lent_too : (q : ℕ) → lent_uses c.types ps xs q + count q kept ≡ lent_fresh_uses ps gs xs q + lodged_uses behind q
+  lent_too : (q : ℕ) → lent_uses c.types ps xs q + count q kept ≡ lent_fresh_uses ps gs xs q + lodged_uses following q
   lent_too q = let l = lent_and_kept c.types ls distinct ps gs xs q given scalars in let k = others q in omega (arith, l, k)
 
-  -- what is held behind the call stands in each state
-  behind_stands : (last : Store) → Leaves c.types ps xs kept s.store last → AllStand c.types last behind
-  behind_stands last l =
-      all_stand_on c.types s.store last behind
+  -- what is held after the call stands in each state
+  after_stands : (last : Store) → Leaves c.types ps xs kept s.store last → AllStand c.types last following
+  after_stands last l =
+      all_stand_on c.types s.store last following
       (λ q some. l.cells q (let e = lent_too q in omega (arith, e, some)))
       (every_but_all (λ (x : Lodged). Stands c.types s.store x.type x.tree) (used_by c.types ps gs) ls stand)
 
-  -- Behind a run that gives words, with the lent values of the line given up.
-  pub done : (calls k : ℕ) (ws : List ℕ) (last : State) (left steps : ℕ) (u : Store) → after before (run_code c) k (begun s calls) ≡ Over (Value ws) last left steps → IsGivenUp (lent_fresh_uses ps gs xs) last.store u → IsHeldWith c.types behind (results c n) ws u
+  -- After a run that gives words, with the lent values of the line given up.
+  pub done : (calls k : ℕ) (ws : List ℕ) (last : State) (left steps : ℕ) (u : Store) → after before (run_code c) k (begun s calls) ≡ Over (Value ws) last left steps → IsGivenUp (lent_fresh_uses ps gs xs) last.store u → IsHeldWith c.types following (results c n) ws u
   done calls k ws last left steps u is up =
       let g : Gives c.types ps xs kept (results c n) ws last.store = run_gives c before waits n kept s t calls k ws last left steps is in
       let l : Leaves c.types ps xs kept s.store last.store = subst (λ r. Leaves c.types ps xs kept s.store (state_of r).store) is (run_leaves c before waits n kept s t calls k) in
-      let all : (q : ℕ) → lent_fresh_uses ps gs xs q + ((lodged_uses behind q + uses_of_all q g.results) + released_at last.store q) ≡ there last.store q = λ q. (let o = g.once q in let e = lent_too q in omega (arith, o, e)) in
-      let now : (q : ℕ) → (lodged_uses behind q + uses_of_all q g.results) + released_at u q ≡ there last.store q = λ q. still_apart (lent_fresh_uses ps gs xs q) (lodged_uses behind q + uses_of_all q g.results) (released_at last.store q) (released_at u q) (there last.store q) (there_few last.store q) (all q) (up.here q) (up.other q) in
+      let all : (q : ℕ) → lent_fresh_uses ps gs xs q + ((lodged_uses following q + uses_of_all q g.results) + released_at last.store q) ≡ there last.store q = λ q. (let o = g.once q in let e = lent_too q in omega (arith, o, e)) in
+      let now : (q : ℕ) → (lodged_uses following q + uses_of_all q g.results) + released_at u q ≡ there last.store q = λ q. still_apart (lent_fresh_uses ps gs xs q) (lodged_uses following q + uses_of_all q g.results) (released_at last.store q) (released_at u q) (there last.store q) (there_few last.store q) (all q) (up.here q) (up.other q) in
       record {
         store = good last.store u l.store up.cells up.wide (λ q. (let z = now q in omega (arith, z)));
-        stand = all_stand_on c.types last.store u behind (λ q some. same_at last.store u q up.cells) (behind_stands last.store l);
+        stand = all_stand_on c.types last.store u following (λ q some. same_at last.store u q up.cells) (after_stands last.store l);
         results = g.results;
         words = g.words;
         stand_too = stand_all_agree c.types last.store u (results c n) g.results (λ q some. same_at last.store u q up.cells) g.stand;
         once = λ q. (let z = now q in let e = there_at last.store u q up.cells in omega (arith, z, e));
       }
 
-  held_behind : (last u : Store) → Leaves c.types ps xs kept s.store last → u.cells ≡ last.cells → length u.released ≡ length last.released → ((q : ℕ) → lodged_uses behind q + released_at u q ≡ there last q) → IsHeld c.types behind u
-  held_behind last u l cells wide now = record {
+  held_after : (last u : Store) → Leaves c.types ps xs kept s.store last → u.cells ≡ last.cells → length u.released ≡ length last.released → ((q : ℕ) → lodged_uses following q + released_at u q ≡ there last q) → IsHeld c.types following u
+  held_after last u l cells wide now = record {
     store = good last u l.store cells wide (λ q. (let z = now q in omega (arith, z)));
-    stand = all_stand_on c.types last u behind (λ q some. same_at last u q cells) (behind_stands last l);
+    stand = all_stand_on c.types last u following (λ q some. same_at last u q cells) (after_stands last l);
     once = λ q. (let z = now q in let e = there_at last u q cells in omega (arith, z, e));
   }
 
-  held_once : (last : Store) (q : ℕ) → Leaves c.types ps xs kept s.store last → lodged_uses behind q + released_at last q ≤ there last q
+  held_once : (last : Store) (q : ℕ) → Leaves c.types ps xs kept s.store last → lodged_uses following q + released_at last q ≤ there last q
   held_once last q l = let o = l.once q in let e = lent_too q in omega (arith, o, e)
 
-  -- Behind any state of the run, with all that was used up given up.
-  pub ended : (calls k : ℕ) (u : Store) → IsGivenUp gone (state_of (after before (run_code c) k (begun s calls))).store u → IsHeld c.types behind u
+  -- After any state of the run, with all that was used up given up.
+  pub ended : (calls k : ℕ) (u : Store) → IsGivenUp gone (state_of (after before (run_code c) k (begun s calls))).store u → IsHeld c.types following u
   ended calls k u up =
       let last : Store = (state_of (after before (run_code c) k (begun s calls))).store in
       let l : Leaves c.types ps xs kept s.store last = run_leaves c before waits n kept s t calls k in
-      held_behind last u l up.cells up.wide (λ q.
+      held_after last u l up.cells up.wide (λ q.
       let f = at_first q in
       let e = l.begins q in
-      apart_without_value (gone q) (lodged_uses behind q) (released_at s.store q) (released_at last q) (released_at u q) (there last q) (there_few last q) (omega (arith, f, e)) (held_once last q l) (rises_at s.store last q l.keeps) (up.here q) (up.other q))
+      apart_without_value (gone q) (lodged_uses following q) (released_at s.store q) (released_at last q) (released_at u q) (there last q) (there_few last q) (omega (arith, f, e)) (held_once last q l) (rises_at s.store last q l.keeps) (up.here q) (up.other q))
 
   -- The same, where all cells but those of what is held are given up.
-  pub swept : (calls k : ℕ) (u : Store) → IsSwept (lodged_uses behind) (state_of (after before (run_code c) k (begun s calls))).store u → IsHeld c.types behind u
+  pub swept : (calls k : ℕ) (u : Store) → IsSwept (lodged_uses following) (state_of (after before (run_code c) k (begun s calls))).store u → IsHeld c.types following u
   swept calls k u up =
       let last : Store = (state_of (after before (run_code c) k (begun s calls))).store in
       let l : Leaves c.types ps xs kept s.store last = run_leaves c before waits n kept s t calls k in
-      held_behind last u l up.cells up.wide (λ q. apart_by_sweep (lodged_uses behind q) (released_at last q) (released_at u q) (there last q) (there_few last q) (held_once last q l) (up.here q) (up.other q))
+      held_after last u l up.cells up.wide (λ q. apart_by_sweep (lodged_uses following q) (released_at last q) (released_at u q) (there last q) (there_few last q) (held_once last q l) (up.here q) (up.other q))

@@ -102,7 +102,7 @@ held_cells tb k ls s h =
 
 -- ---- what a line makes
 
--- The cells of a size behind a line's values and credits: those before, or more where they don't suffice.
+-- The cells of a size after a line's values and credits: those before, or more where they don't suffice.
 pub made_then : (made live free more held free' : ℕ) → live + free ≡ made → held ≡ live + more → free' ≡ free - more → held + free' ≡ max made (live + more)
 made_then made live free more held free' a b c = grind (arith, a, b, c)
 

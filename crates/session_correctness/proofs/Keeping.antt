@@ -31,7 +31,7 @@ use Rattle.tree_refinement.proofs.separation.Running.{GoodRun, later_good, begun
 
 -- ---- a step
 
--- At this place the same cell is there behind the state.
+-- At this place the same cell is there after the state.
 abbrev Stays : ℕ → State → Next → Type 0
 Stays q s (Went t) = cell_at t.store q ≡ cell_at s.store q
 Stays q s (Entered t) = cell_at t.store q ≡ cell_at s.store q

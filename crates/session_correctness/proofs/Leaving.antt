@@ -41,7 +41,7 @@ lent_words_stand tb s (p ∷ ps) (MoreParts x xs) rest g =
     let more = lent_words_stand tb s ps xs rest g.1 in
     pick_two (AreTrees tb s) (is_lent_tree tb p) (record { type = p.ty; word = word_of x } ∷ lent_words tb ps (words_of xs ++ rest)) (lent_words tb ps (words_of xs ++ rest)) (x ∷ lent_trees tb ps xs) (lent_trees tb ps xs) (record { word = refl; stands = g.0 }, more) more
 
--- ---- cells of trees that stand before and behind
+-- ---- cells of trees that stand before and after
 
 mutual
   tree_same : (tb : Table) (s u : Store) (t q : ℕ) (x : Placed) → Stands tb s t x → Stands tb u t x → 0 < uses q x → cell_at u q ≡ cell_at s q

@@ -10,5 +10,5 @@ pub mod Naming
 pub mod Beginning
 pub mod Few
 pub mod Opening
-pub mod Laws
+pub mod StoreFacts
 pub use Rattle.tree_refinement.proofs as tree_refinement

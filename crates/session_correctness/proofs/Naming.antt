@@ -59,9 +59,9 @@ map_more : (ls ms : List Lodged) → map holding_of (ls ++ ms) ≡ map holding_o
 map_more [] ms = refl
 map_more (l ∷ ls) ms = ap (λ hs. holding_of l ∷ hs) (map_more ls ms)
 
--- What is held behind a call, in those words.
-pub said_behind : (ls : List Lodged) (used ns : List Name) (ts : List ℕ) (xs : Parts) → map holding_of (but_all used ls ++ lodge_all ns ts xs) ≡ without_all used (map holding_of ls) ++ hold_all ns ts (values_of xs)
-said_behind ls used ns ts xs =
+-- What is held after a call, in those words.
+pub said_after : (ls : List Lodged) (used ns : List Name) (ts : List ℕ) (xs : Parts) → map holding_of (but_all used ls ++ lodge_all ns ts xs) ≡ without_all used (map holding_of ls) ++ hold_all ns ts (values_of xs)
+said_after ls used ns ts xs =
     map_more (but_all used ls) (lodge_all ns ts xs)
     ∙ ap (λ hs. hs ++ map holding_of (lodge_all ns ts xs)) (sym (without_lodged used ls))
     ∙ ap (λ hs. without_all used (map holding_of ls) ++ hs) (holds_all ns ts xs)
@@ -134,6 +134,6 @@ distinct_all held used before (n ∷ ns) (t ∷ ts) (MoreParts x xs) ls d f h =
     let rest = distinct_all held used (n ∷ before) ns ts xs (ls ++ l ∷ []) (distinct_push ls l d none) more h.1 in
     subst AreDistinct (append_assoc ls (l ∷ []) (lodge_all ns ts xs)) rest
 
--- Behind the call each name stands once.
-pub distinct_behind : (ls : List Lodged) (used ns : List Name) (ts : List ℕ) (xs : Parts) → AreDistinct ls → AreFree (map holding_of ls) used [] ns → AreDistinct (but_all used ls ++ lodge_all ns ts xs)
-distinct_behind ls used ns ts xs d h = distinct_all (map holding_of ls) used [] ns ts xs (but_all used ls) (distinct_but_all used ls d) (λ m free. free_name m used ls free.free) h
+-- After the call each name stands once.
+pub distinct_after : (ls : List Lodged) (used ns : List Name) (ts : List ℕ) (xs : Parts) → AreDistinct ls → AreFree (map holding_of ls) used [] ns → AreDistinct (but_all used ls ++ lodge_all ns ts xs)
+distinct_after ls used ns ts xs d h = distinct_all (map holding_of ls) used [] ns ts xs (but_all used ls) (distinct_but_all used ls d) (λ m free. free_name m used ls free.free) h

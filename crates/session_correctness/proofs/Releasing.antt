@@ -1,4 +1,4 @@
--- Which cells are released behind others that are given up: those of these places too, and no other.
+-- Which cells are released after others that are given up: those of these places too, and no other.
 use Rattle.std.proofs.Common.{◌≡◌, ◌⊎◌, inl, inr, ℕ, zero, suc, ◌+◌, ◌<◌, ◌≤◌, Bool, true, false, List, [], ◌∷◌, length, Option, Some, None, slice_get, slice_set, refl, ap, ◌∙◌, subst, arith, nat_eq}
 use Rattle.std.proofs.lemmas.Bool.Decides.{nat_tests}
 use Rattle.std.proofs.lemmas.Option.{none-some}
@@ -99,12 +99,12 @@ all_up cs (p ∷ ps) rs wide few =
 -- ---- what is left behind a call
 
 -- What was used up is released: what is held stays, apart from what is released, and together these are all cells. At
--- one place: `gone` is given up, `held` isn't; `old` and `now` tell whether the cell is released before and behind.
+-- one place: `gone` is given up, `held` isn't; `old` and `now` tell whether the cell is released before and after.
 pub still_apart : (gone held old now there : ℕ) → there ≤ 1 → gone + (held + old) ≡ there → (0 < gone → now ≡ there) → (gone ≡ 0 → now ≡ old) → held + now ≡ there
 still_apart zero held old now there few all up not = let z = not refl in omega (arith, all, z)
 still_apart (suc gone) held old now there few all up not = let z = up (omega arith) in omega (arith, few, all, z)
 
--- Behind a run without a value: `first` tells whether the cell was released before the run, `last` behind it, and `now`
+-- After a run without a value: `first` reports whether the cell was released before the run, `last` after it, and `now`
 -- once all that was used up is given up.
 pub apart_without_value : (gone held first last now there : ℕ) → there ≤ 1 → gone + (held + first) ≡ there → held + last ≤ there → first ≤ last → (0 < gone → now ≡ there) → (gone ≡ 0 → now ≡ last) → held + now ≡ there
 apart_without_value zero held first last now there few all once rises up not = let z = not refl in omega (arith, few, all, once, rises, z)

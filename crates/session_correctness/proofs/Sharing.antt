@@ -1,5 +1,5 @@
 -- How the cells of what names hold, and of what a line's values are, are shared out to a call: those of its arguments,
--- those that are kept, and those that are held behind it.
+-- those that are kept, and those that are held after it.
 use Rattle.std.proofs.Common.{◌≡◌, ◌⊎◌, inl, inr, ◌∙◌, ℕ, ◌+◌, ◌<◌, Bool, true, false, List, [], ◌∷◌, ◌++◌, Some, None, if◌then◌else◌, refl, sym, ap, subst, append-nil, arith, true≢false, ◌&&◌, not}
 use Rattle.std.proofs.lemmas.Option.{none-some, same_Some}
 use Rattle.std.proofs.lemmas.Slice.Eq.{bytes_eq-Decides}
@@ -168,8 +168,8 @@ module _ (tb : Table) (ls : List Lodged) (d : AreDistinct ls) where
     there : lodged_as name (but_all before ls) ≡ Some h.0
     there = lodged_but_all name before ls (h.4 e) ∙ h.1
 
-    behind : but_all (before ++ named_by tb p (Held name)) ls ≡ but name (but_all before ls)
-    behind = ap (λ ns. but_all (before ++ ns) ls) (if_false (is_scalar tb p.ty) [] (name ∷ []) e) ∙ but_append before (name ∷ []) ls
+    following : but_all (before ++ named_by tb p (Held name)) ls ≡ but name (but_all before ls)
+    following = ap (λ ns. but_all (before ++ ns) ls) (if_false (is_scalar tb p.ty) [] (name ∷ []) e) ∙ but_append before (name ∷ []) ls
 
     out : (q : ℕ) → lodged_uses (but_all before ls) q ≡ uses q x + lodged_uses (but name (but_all before ls)) q
     out q = taken_out name h.0 (but_all before ls) q (distinct_but_all before ls d) there ∙ ap (λ y. uses q y + lodged_uses (but name (but_all before ls)) q) (sym h.3)
@@ -198,8 +198,8 @@ module _ (tb : Table) (ls : List Lodged) (d : AreDistinct ls) where
         omega (arith, r, bare, s)
     | inr e ↦
         let r = all_from (before ++ named_by tb p (Held name)) ps gs xs q h.1 b.1 in
-        let a = ap (λ ys. lodged_uses (but_all (named_by_all tb ps gs) ys) q) (behind before p name x h.0 e) in
-        let z = ap (λ ys. lodged_uses ys q) (behind before p name x h.0 e) in
+        let a = ap (λ ys. lodged_uses (but_all (named_by_all tb ps gs) ys) q) (following before p name x h.0 e) in
+        let z = ap (λ ys. lodged_uses ys q) (following before p name x h.0 e) in
         let o = out before p name x h.0 e q in
         let s = ap (λ ns. lodged_uses (but_all (ns ++ named_by_all tb ps gs) (but_all before ls)) q) (if_false (is_scalar tb p.ty) [] (name ∷ []) e) in
         omega (arith, r, a, z, o, s)
@@ -210,7 +210,7 @@ module _ (tb : Table) (ls : List Lodged) (d : AreDistinct ls) where
   pub arguments_and_kept : (ps : List Param) (gs : List Given) (xs : Parts) (q : ℕ) → AreTrees tb ls [] ps gs xs → AreBare tb ps xs → uses_of_all q xs + lodged_uses (but_all (named_by_all tb ps gs) ls) q ≡ fresh_uses gs xs q + lodged_uses ls q
   arguments_and_kept ps gs xs q h b = all_from [] ps gs xs q h b
 
-  -- ---- the lent ones and those that are held behind the call
+  -- ---- the lent ones and those that are held after the call
 
   -- whether an argument is lent
   lent_one : (p : Param) (ps : List Param) (x : Placed) (xs : Parts) (q : ℕ) → lent_uses tb (p ∷ ps) (MoreParts x xs) q ≡ (if is_lent_tree tb p then uses q x else 0) + lent_uses tb ps xs q
@@ -267,8 +267,8 @@ module _ (tb : Table) (ls : List Lodged) (d : AreDistinct ls) where
     | inr e ↦
         let named : named_by tb p (Held name) ≡ name ∷ [] = if_false (is_scalar tb p.ty) [] (name ∷ []) e in
         let r = lent_from (before ++ named_by tb p (Held name)) ps gs xs q h.1 b.1 in
-        let a = ap (λ ys. lodged_uses (but_all (named_by_all tb ps gs) ys) q) (behind before p name x h.0 e) in
-        let u = ap (λ ys. lodged_uses (but_all (used_by tb ps gs) ys) q) (behind before p name x h.0 e) in
+        let a = ap (λ ys. lodged_uses (but_all (named_by_all tb ps gs) ys) q) (following before p name x h.0 e) in
+        let u = ap (λ ys. lodged_uses (but_all (used_by tb ps gs) ys) q) (following before p name x h.0 e) in
         let s = ap (λ ns. lodged_uses (but_all (ns ++ named_by_all tb ps gs) (but_all before ls)) q) named in
         let one = lent_one p ps x xs q in
         let is = lent_is p (uses q x) (λ e. b.0 e q) in
@@ -288,7 +288,7 @@ module _ (tb : Table) (ls : List Lodged) (d : AreDistinct ls) where
   ]
 
   -- The cells of the lent arguments, and those of the names that aren't given, are those of the lent written values and
-  -- of the names that are held behind the call.
+  -- of the names that are held after the call.
   pub lent_and_kept : (ps : List Param) (gs : List Given) (xs : Parts) (q : ℕ) → AreTrees tb ls [] ps gs xs → AreBare tb ps xs → lent_uses tb ps xs q + lodged_uses (but_all (named_by_all tb ps gs) ls) q ≡ lent_fresh_uses ps gs xs q + lodged_uses (but_all (used_by tb ps gs) ls) q
   lent_and_kept ps gs xs q h b = lent_from [] ps gs xs q h b
 
@@ -317,7 +317,7 @@ module _ (tb : Table) (ls : List Lodged) (d : AreDistinct ls) where
       let is = one_used p g x q (λ e. b.0 e q) in
       omega (arith, r, one, is)
 
-  -- The cells of all names are those of the names that are used up and of those that are held behind the call.
+  -- The cells of all names are those of the names that are used up and of those that are held after the call.
   pub used_and_held : (ps : List Param) (gs : List Given) (xs : Parts) (q : ℕ) → AreTrees tb ls [] ps gs xs → AreBare tb ps xs → lodged_uses ls q ≡ used_uses ps gs xs q + lodged_uses (but_all (used_by tb ps gs) ls) q
   used_and_held ps gs xs q h b =
       let a = arguments_and_kept ps gs xs q h b in

@@ -1,7 +1,7 @@
 -- What a session keeps to between lines: what it finds under names, its store, and the words that are left, against
 -- what was said so far.
 --
--- With 6 words, behind `a = rev(Cons(1, Nil), Nil)`: the type and the word 1 are found under a, the one cell of 2 fields
+-- With 6 words, after `a = rev(Cons(1, Nil), Nil)`: the type and the word 1 are found under a, the one cell of 2 fields
 -- at 0 is that of its list, one cell of size 2 was made, and 3 words are left.
 use Rattle.std.specs.Prelude.{◌≡◌, ℕ, suc, ◌+◌, ◌*◌, ◌<◌, ◌≤◌, List, Option, length, map, option_map}
 use Rattle.tree_refinement.specs.fip_language.Core.{Name}

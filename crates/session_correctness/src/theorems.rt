@@ -16,7 +16,7 @@ ghost use Rattle.session_correctness.specs.Lodging.{Lodged, lodged_uses};
 /// In each state of a run the cells that are kept beside it, and those of its lent arguments, are as they were. For who
 /// holds values while a function runs on others.
 pub fn a_run_leaves_what_it_is_not_given()
-    ensures law { (c : PlainCode) (before waits : Kinds) (n : ℕ) (kept : List ℕ) (s : State)
+    ensures theorem { (c : PlainCode) (before waits : Kinds) (n : ℕ) (kept : List ℕ) (s : State)
         (t : IsStart c before waits n kept s) (calls k : ℕ) → Leaves c.types t.function.params t.given.arguments kept
         s.store (state_of (run_after c before s calls k)).store }
 {}
@@ -24,7 +24,7 @@ pub fn a_run_leaves_what_it_is_not_given()
 /// After a call that gave words, with the line's lent values given up, the cells that aren't released are those of what
 /// is held and of the results, each once. For who wants to know what a session's store has after `ok`.
 pub fn a_call_leaves_its_results()
-    ensures law { (c : PlainCode) (before waits : Kinds) (h : CallOf c before waits) (calls k : ℕ) (ws : List ℕ)
+    ensures theorem { (c : PlainCode) (before waits : Kinds) (h : CallOf c before waits) (calls k : ℕ) (ws : List ℕ)
         (last : State) (left steps : ℕ) (u : Store) → run_after c before h.state calls k ≡
         Over (Value ws) last left steps → IsGivenUp (lent h) last.store u →
         IsHeldWith c.types (held_after c h) (results c h.entry) ws u }
@@ -33,22 +33,22 @@ pub fn a_call_leaves_its_results()
 /// After any state of a call's run, with all that it was given gone, the cells that aren't released are those of what
 /// is held. For who wants to know what a session's store has after a trap, or want of calls or frames.
 pub fn a_call_without_a_value_leaves_what_is_held()
-    ensures law { (c : PlainCode) (before waits : Kinds) (h : CallOf c before waits) (calls k : ℕ) (u : Store) →
+    ensures theorem { (c : PlainCode) (before waits : Kinds) (h : CallOf c before waits) (calls k : ℕ) (u : Store) →
         IsGivenUp (gone h) (state_of (run_after c before h.state calls k)).store u →
         IsHeld c.types (held_after c h) u }
 {}
 
 /// The same, where all cells but those of what is held are given up. For who looks through the whole store.
 pub fn a_swept_store_has_what_is_held()
-    ensures law { (c : PlainCode) (before waits : Kinds) (h : CallOf c before waits) (calls k : ℕ) (u : Store) →
+    ensures theorem { (c : PlainCode) (before waits : Kinds) (h : CallOf c before waits) (calls k : ℕ) (u : Store) →
         IsSwept (lodged_uses (held_after c h)) (state_of (run_after c before h.state calls k)).store u →
         IsHeld c.types (held_after c h) u }
 {}
 
 /// The cells of a size that aren't released are as many as those of the values that are held. For who counts the cells
 /// of a session.
-#[tactic(auto, using(crate::proofs::Laws::counted))]
+#[tactic(auto, using(crate::proofs::StoreFacts::counted))]
 pub fn cells_are_those_of_what_is_held()
-    ensures law { (tb : Table) (k : ℕ) (ls : List Lodged) (s : Store) → IsHeld tb ls s →
+    ensures theorem { (tb : Table) (k : ℕ) (ls : List Lodged) (s : Store) → IsHeld tb ls s →
         count_held k s ≡ lodged_cells k ls }
 {}

@@ -1,8 +1,8 @@
--- The parts of a line, one behind another.
+-- The parts of a line, one after another.
 use Rattle.std.proofs.Common.{◌≡◌, ◌∙◌, ℕ, List, [], ◌∷◌, ◌++◌, append_assoc, append-nil, refl, sym, ap, ap₂, subst, drop}
 use Rattle.fip_language.specs.Core.{Name}
 use Rattle.session_semantics.specs.Lines.{Symbol, Blank, Open, Close, Comma, Equals, Question, Minus}
-use Rattle.session_semantics.specs.Lines.{symbol, symbols, skip, word, behind, BeginsSmall, BeginsCapital, NameText, SignText}
+use Rattle.session_semantics.specs.Lines.{symbol, symbols, skip, word, following, BeginsSmall, BeginsCapital, NameText, SignText}
 use Rattle.session_semantics.specs.Lines.{Written, Number, Named, NumberText, WrittenText, PartsText}
 use Rattle.session_semantics.specs.Lines.{Given, Held, Fresh, GivenText, MoreGivenText, AllGivenText, MoreNamesText, CallText, Line, Calls, Shows, GivesUp, LineText}
 use Rattle.session_semantics.proofs.OneForm.{name_once, sign_once, close_is_no_comma, given_once, all_given_once, names_once}
@@ -41,7 +41,7 @@ one_name_more ns ms n e = ap names_of e ∙ put ns
 comma_is_no_equals : (cs r q : List Symbol) → SignText Comma cs r → SignText Equals cs q → ⊥
 comma_is_no_equals cs r q a b = let e = sym a ∙ b in absurd cc
 
--- names were read behind others, and more may come
+-- names were read after others, and more may come
 pub record Naming (start now : List Symbol) (before after : List Name) : Type 0 where
   pub more : List Name
   pub are : after ≡ before ++ more
@@ -112,7 +112,7 @@ skip_again (c ∷ cs) = refl
 
 skipped_text : (cs : List Symbol) (w : Written) (rest : List Symbol) → WrittenText cs w rest → WrittenText (skip cs) w rest
 skipped_text cs (Number i) rest t = subst (λ x. NumberText x i rest) (sym (skip_again cs)) t
-skipped_text cs (Named n ws) rest t = subst (λ x. BeginsCapital x × (n ≡ word x) × PartsText (behind x) ws rest) (sym (skip_again cs)) t
+skipped_text cs (Named n ws) rest t = subst (λ x. BeginsCapital x × (n ≡ word x) × PartsText (following x) ws rest) (sym (skip_again cs)) t
 
 pub value_read : (bytes : List ℕ) (s : Span) (cs mid : List Symbol) (w : Written) → symbols (drop s.start bytes) ≡ skip cs → symbols (drop s.end bytes) ≡ mid → WrittenText cs w mid → GivenRead bytes (W.Value s) cs mid
 value_read bytes s cs mid w start end t = record {
@@ -125,7 +125,7 @@ pub no_given : (cs : List Symbol) (g : Given) (rest : List Symbol) → ((n : Nam
 no_given cs (Held n) rest name value t = name n rest t
 no_given cs (Fresh w) rest name value t = value w rest t
 
--- arguments were read behind others, and more may come
+-- arguments were read after others, and more may come
 pub record Giving (bytes : List ℕ) (start now : List Symbol) (before after : List Argument) : Type 0 where
   pub more : List Given
   pub are : (gs : List Given) → AreGiven bytes before gs → AreGiven bytes after (gs ++ more)

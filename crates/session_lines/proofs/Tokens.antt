@@ -8,7 +8,7 @@ use Rattle.std.proofs.lemmas.List.{drop_more, get_or-drop, length-drop}
 use Rattle.fip_language.specs.Character.{is_blank, is_digit, is_upper, is_letter}
 use Rattle.fip_language.specs.Core.{Name}
 use Rattle.session_semantics.specs.Lines.{Symbol, Blank, Open, Close, Comma, Equals, Question, Minus, Underscore, Digit, Small, Capital, Other}
-use Rattle.session_semantics.specs.Lines.{symbol, symbols, skip, word, behind, is_keyword, BeginsSmall, NameText, SignText}
+use Rattle.session_semantics.specs.Lines.{symbol, symbols, skip, word, following, is_keyword, BeginsSmall, NameText, SignText}
 use Rattle.session_lines.specs.Scanned.{IsSignOf}
 use Rattle.fip_language.proofs.Facts.{drop_past as none_left, take_next as take_more}
 
@@ -131,7 +131,7 @@ never_name b c e f h = let x = sym (ap is_name_byte e ∙ f) ∙ h in cc
 blank_or_name : (b : ℕ) → is_blank b ≡ true → is_name_byte b ≡ true → ⊥
 blank_or_name b e f = grind (arith, nat_tests)
 
-in_word : (b : ℕ) (s : Symbol) (cs : List Symbol) → IsOf b s → is_name_byte b ≡ true → (word (s ∷ cs) ≡ b ∷ word cs) × (behind (s ∷ cs) ≡ behind cs)
+in_word : (b : ℕ) (s : Symbol) (cs : List Symbol) → IsOf b s → is_name_byte b ≡ true → (word (s ∷ cs) ≡ b ∷ word cs) × (following (s ∷ cs) ≡ following cs)
 in_word b Blank cs h e = absurd (blank_or_name b h e)
 in_word b Open cs h e = absurd (never_name b 40 h refl e)
 in_word b Close cs h e = absurd (never_name b 41 h refl e)
@@ -151,7 +151,7 @@ small_name b l m = grind (arith, nat_tests)
 capital_name : (b : ℕ) → is_upper b ≡ true → is_name_byte b ≡ true
 capital_name b e = grind (arith, nat_tests)
 
-ends_word : (b : ℕ) (s : Symbol) (cs : List Symbol) → IsOf b s → is_name_byte b ≡ false → (word (s ∷ cs) ≡ []) × (behind (s ∷ cs) ≡ s ∷ cs)
+ends_word : (b : ℕ) (s : Symbol) (cs : List Symbol) → IsOf b s → is_name_byte b ≡ false → (word (s ∷ cs) ≡ []) × (following (s ∷ cs) ≡ s ∷ cs)
 ends_word b Blank cs h e = (refl, refl)
 ends_word b Open cs h e = (refl, refl)
 ends_word b Close cs h e = (refl, refl)
@@ -169,13 +169,13 @@ ends_word b Other cs h e = (refl, refl)
 pub record IsReading (bytes : List ℕ) (at i : ℕ) : Type 0 where
   pub within : at ≤ i
   pub word : word (symbols (drop at bytes)) ≡ take (i - at) (drop at bytes) ++ word (symbols (drop i bytes))
-  pub behind : behind (symbols (drop at bytes)) ≡ behind (symbols (drop i bytes))
+  pub following : following (symbols (drop at bytes)) ≡ following (symbols (drop i bytes))
 
 pub reading_starts : (bytes : List ℕ) (at : ℕ) → IsReading bytes at at
 reading_starts bytes at = record {
   within = omega arith;
   word = ap (λ n. take n (drop at bytes) ++ word (symbols (drop at bytes))) (let z : 0 ≡ at - at = omega arith in z);
-  behind = refl;
+  following = refl;
 }
 
 pub reading_on : (bytes : List ℕ) (at i : ℕ) → i < length bytes → is_name_byte (get_or bytes i 0) ≡ true → IsReading bytes at i → IsReading bytes at (i + 1)
@@ -193,30 +193,30 @@ reading_on bytes at i lt e r =
       within = omega (arith, le);
       word = r.word ∙ ap (λ ws. take (i - at) (drop at bytes) ++ ws) (ap word (symbols_more bytes i lt) ∙ w.0)
           ∙ sym (append_assoc (take (i - at) (drop at bytes)) (b ∷ []) (word cs)) ∙ ap (λ xs. xs ++ word cs) (sym front);
-      behind = r.behind ∙ ap behind (symbols_more bytes i lt) ∙ w.1;
+      following = r.following ∙ ap following (symbols_more bytes i lt) ∙ w.1;
     }
 
 -- a name that ends at place i
 pub record IsRead (bytes : List ℕ) (at i : ℕ) : Type 0 where
   pub word : word (symbols (drop at bytes)) ≡ take (i - at) (drop at bytes)
-  pub behind : behind (symbols (drop at bytes)) ≡ symbols (drop i bytes)
+  pub following : following (symbols (drop at bytes)) ≡ symbols (drop i bytes)
 
-ended : (bytes : List ℕ) (at i : ℕ) → IsReading bytes at i → word (symbols (drop i bytes)) ≡ [] → behind (symbols (drop i bytes)) ≡ symbols (drop i bytes) → IsRead bytes at i
+ended : (bytes : List ℕ) (at i : ℕ) → IsReading bytes at i → word (symbols (drop i bytes)) ≡ [] → following (symbols (drop i bytes)) ≡ symbols (drop i bytes) → IsRead bytes at i
 ended bytes at i r e f = record {
   word = r.word ∙ ap (λ ws. take (i - at) (drop at bytes) ++ ws) e ∙ append-nil (take (i - at) (drop at bytes));
-  behind = r.behind ∙ f;
+  following = r.following ∙ f;
 }
 
 pub reading_ends : (bytes : List ℕ) (at i : ℕ) → i < length bytes → is_name_byte (get_or bytes i 0) ≡ false → IsReading bytes at i → IsRead bytes at i
 reading_ends bytes at i lt e r =
     let b = get_or bytes i 0 in
     let w = ends_word b (symbol b) (symbols (drop (i + 1) bytes)) (of_symbol b) e in
-    ended bytes at i r (ap word (symbols_more bytes i lt) ∙ w.0) (ap behind (symbols_more bytes i lt) ∙ w.1 ∙ sym (symbols_more bytes i lt))
+    ended bytes at i r (ap word (symbols_more bytes i lt) ∙ w.0) (ap following (symbols_more bytes i lt) ∙ w.1 ∙ sym (symbols_more bytes i lt))
 
 pub reading_over : (bytes : List ℕ) (at i : ℕ) → length bytes ≤ i → IsReading bytes at i → IsRead bytes at i
 reading_over bytes at i le r =
     let none = no_symbols bytes i le in
-    ended bytes at i r (ap word none) (ap behind none ∙ sym none)
+    ended bytes at i r (ap word none) (ap following none ∙ sym none)
 
 -- ---- a name that comes next
 
@@ -241,13 +241,13 @@ small_range : (b : ℕ) (s : Symbol) (cs : List Symbol) → IsOf b s → BeginsS
 small_range b (Small c) cs h k = (h.1, h.2)
 small_range b s cs h k = absurd k
 
--- the name that begins behind the blanks and ends at place i
+-- the name that begins after the blanks and ends at place i
 pub name_read : (bytes : List ℕ) (at start i : ℕ) → skip (symbols (drop at bytes)) ≡ symbols (drop start bytes) → start < length bytes → 97 ≤ get_or bytes start 0 → get_or bytes start 0 ≤ 122 → IsRead bytes start i → is_keyword (take (i - start) (drop start bytes)) ≡ false → NameText (symbols (drop at bytes)) (take (i - start) (drop start bytes)) (symbols (drop i bytes))
 name_read bytes at start i skips lt low high r free = record {
   small = subst BeginsSmall (sym (skips ∙ symbols_more bytes start lt)) (begins_small (get_or bytes start 0) low high (symbols (drop (start + 1) bytes)));
   is = sym (ap word skips ∙ r.word);
   free = free;
-  then' = sym (ap behind skips ∙ r.behind);
+  then' = sym (ap following skips ∙ r.following);
 }
 
 pub no_name_left : (bytes : List ℕ) (at start : ℕ) (name : Name) (rest : List Symbol) → skip (symbols (drop at bytes)) ≡ symbols (drop start bytes) → length bytes ≤ start → NameText (symbols (drop at bytes)) name rest → ⊥

@@ -4,7 +4,7 @@ use Rattle.std.specs.Prelude.{ℤ, ◌==◌}
 use Rattle.std.proofs.lemmas.Bool.Decides.{nat_tests}
 use Rattle.fip_language.specs.Character.{is_digit, is_upper}
 use Rattle.session_semantics.specs.Lines.{Symbol, Blank, Open, Close, Comma, Equals, Question, Minus, Underscore, Digit, Small, Capital, Other}
-use Rattle.session_semantics.specs.Lines.{symbol, symbols, skip, word, behind, number, after_number, signed, BeginsCapital, DigitsText, NumberText, IsOpened, SignText}
+use Rattle.session_semantics.specs.Lines.{symbol, symbols, skip, word, following, number, after_number, signed, BeginsCapital, DigitsText, NumberText, IsOpened, SignText}
 use Rattle.session_semantics.specs.Lines.{Written, Number, Named, NoParts, MoreParts, WrittenText}
 use Rattle.session_semantics.proofs.OneForm.{sign_once, close_is_no_comma, number_is_no_name, opened}
 use Rattle.session_lines.specs.declared.scan.Step.TheVariants.{Wants, Read}
@@ -13,14 +13,14 @@ use Rattle.session_lines.proofs.Tokens.{IsOf, of_symbol, symbols_more, no_symbol
 
 -- ---- the name of a constructor, and its bracket
 
-pub named : (n : ℕ) (cs : List Symbol) → BeginsCapital (skip cs) → GoesOn (Completes Wants n cs) (HasParts n (behind (skip cs)))
+pub named : (n : ℕ) (cs : List Symbol) → BeginsCapital (skip cs) → GoesOn (Completes Wants n cs) (HasParts n (following (skip cs)))
 named n cs cap = record { to = to; from = from }
   where
-    to : (rest : List Symbol) → Completes Wants n cs rest → HasParts n (behind (skip cs)) rest
+    to : (rest : List Symbol) → Completes Wants n cs rest → HasParts n (following (skip cs)) rest
     to rest (Number i, after, t, c) = absurd (number_is_no_name (skip cs) after i t cap)
     to rest (Named name ws, after, (b, e, p), c) = (ws, after, p, c)
 
-    from : (rest : List Symbol) → HasParts n (behind (skip cs)) rest → Completes Wants n cs rest
+    from : (rest : List Symbol) → HasParts n (following (skip cs)) rest → Completes Wants n cs rest
     from rest (ws, after, p, c) = (Named (word (skip cs)) ws, after, (cap, refl, p), c)
 
 pub bracket : (n : ℕ) (cs ds : List Symbol) → SignText Open cs ds → GoesOn (HasParts n cs) (Completes Wants (suc n) ds)
@@ -85,7 +85,7 @@ pub no_value : (n : ℕ) (cs ds rest : List Symbol) → IsUnsigned (skip cs) ds 
 no_value n cs ds rest u never cap (Number i, after, t, c) = never (number_then (skip cs) ds after i u t).0
 no_value n cs ds rest u never cap (Named name ws, after, (b, e, p), c) = cap b
 
--- ---- behind a part
+-- ---- after a part
 
 pub comma : (n : ℕ) (cs ds : List Symbol) → SignText Comma cs ds → GoesOn (Completes Read (suc n) cs) (Completes Wants (suc n) ds)
 comma n cs ds s = record { to = to; from = from }
@@ -123,7 +123,7 @@ pub no_part_more : (n : ℕ) (cs rest : List Symbol) → 0 < n → ((ds : List S
 no_part_more zero cs rest lt f g h = absurd (omega (arith, lt))
 no_part_more (suc n) cs rest lt f g h = no_part n cs rest f g h
 
--- ---- one behind another
+-- ---- one after another
 
 pub goes_nowhere : (p : List Symbol → Type 0) → GoesOn p p
 goes_nowhere p = record { to = λ rest h. h; from = λ rest h. h }
@@ -229,12 +229,12 @@ no_digit_left bytes i le b = subst BeginsDigit (no_symbols bytes i le) b
 
 -- the digits from a place on end at place i
 pub record AreRead (bytes : List ℕ) (at i : ℕ) : Type 0 where
-  pub behind : after_number (symbols (drop at bytes)) ≡ symbols (drop i bytes)
+  pub following : after_number (symbols (drop at bytes)) ≡ symbols (drop i bytes)
   pub none : i ≡ at → BeginsDigit (symbols (drop at bytes)) → ⊥
 
 digits_over : (bytes : List ℕ) (at i : ℕ) → AreDigits bytes at i → (BeginsDigit (symbols (drop i bytes)) → ⊥) → AreRead bytes at i
 digits_over bytes at i r never = record {
-  behind = r.after' ∙ after_none (symbols (drop i bytes)) never;
+  following = r.after' ∙ after_none (symbols (drop i bytes)) never;
   none = λ e. subst (λ k. BeginsDigit (symbols (drop k bytes)) → ⊥) e never;
 }
 
@@ -267,8 +267,8 @@ nothing_there bytes i n cs rest skips le h = no_value n cs [] rest (subst (λ x.
 minus_symbol : (b : ℕ) → b ≡ 45 → symbol b ≡ Minus
 minus_symbol b e = ap symbol e
 
-pub behind_minus : (bytes : List ℕ) (i : ℕ) → i < length bytes → get_or bytes i 0 ≡ 45 → IsUnsigned (symbols (drop i bytes)) (symbols (drop (i + 1) bytes))
-behind_minus bytes i lt e = subst (λ x. IsUnsigned x (symbols (drop (i + 1) bytes))) (sym (symbols_more bytes i lt ∙ ap (λ s. s ∷ symbols (drop (i + 1) bytes)) (minus_symbol (get_or bytes i 0) e))) refl
+pub after_minus : (bytes : List ℕ) (i : ℕ) → i < length bytes → get_or bytes i 0 ≡ 45 → IsUnsigned (symbols (drop i bytes)) (symbols (drop (i + 1) bytes))
+after_minus bytes i lt e = subst (λ x. IsUnsigned x (symbols (drop (i + 1) bytes))) (sym (symbols_more bytes i lt ∙ ap (λ s. s ∷ symbols (drop (i + 1) bytes)) (minus_symbol (get_or bytes i 0) e))) refl
 
 unsigned_is : (b : ℕ) (s : Symbol) (cs : List Symbol) → IsOf b s → (b ≡ 45 → ⊥) → IsUnsigned (s ∷ cs) (s ∷ cs)
 unsigned_is b Minus cs h never = absurd (never h)

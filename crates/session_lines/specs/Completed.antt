@@ -1,6 +1,6 @@
 -- For private contracts alone: what completes a value of which a part was read.
 --
--- Behind `Cons(1` one bracket is open and a value was read; `, Nil)` completes it, and so does `)`.
+-- After `Cons(1` one bracket is open and a value was read; `, Nil)` completes it, and so does `)`.
 use Rattle.std.specs.Prelude.{◌≡◌, ℕ, zero, suc, List, ◌∷◌}
 use Rattle.session_semantics.specs.Lines.{Symbol, Minus, Digit, Written, Parts, WrittenText, PartsText, FurtherText}
 use Rattle.session_lines.specs.declared.scan.Step.{Step}
@@ -11,12 +11,12 @@ abbrev pub BeginsDigit : List Symbol → Type 0
 BeginsDigit (Digit d ∷ cs) = Unit {0}
 BeginsDigit cs = ⊥
 
--- the digits of an int, behind its sign
+-- the digits of an int, after its sign
 abbrev pub IsUnsigned : List Symbol → List Symbol → Type 0
 IsUnsigned (Minus ∷ cs) ds = ds ≡ cs
 IsUnsigned cs ds = ds ≡ cs
 
--- so many brackets are closed, behind further parts, and then rest
+-- so many brackets are closed, after further parts, and then rest
 abbrev pub Closes : ℕ → List Symbol → List Symbol → Type 0
 Closes zero cs rest = rest ≡ cs
 Closes (suc n) cs rest = (ws : Parts) × (after : List Symbol) × FurtherText cs ws after × Closes n after rest
@@ -26,7 +26,7 @@ abbrev pub Completes : Step → ℕ → List Symbol → List Symbol → Type 0
 Completes Wants n cs rest = (w : Written) × (after : List Symbol) × WrittenText cs w after × Closes n after rest
 Completes Read n cs rest = Closes n cs rest
 
--- the same, behind the name of a constructor
+-- the same, after the name of a constructor
 abbrev pub HasParts : ℕ → List Symbol → List Symbol → Type 0
 HasParts n cs rest = (ws : Parts) × (after : List Symbol) × PartsText cs ws after × Closes n after rest
 

@@ -1,4 +1,4 @@
--- For private contracts alone: the parts of a line, as they are read one behind another.
+-- For private contracts alone: the parts of a line, as they are read one after another.
 use Rattle.std.specs.Prelude.{◌≡◌, ℕ, List, [], ◌∷◌, ◌++◌}
 use Rattle.fip_language.specs.Core.{Name}
 use Rattle.session_semantics.specs.Lines.{Symbol, Open, NameText, SignText, Given, GivenText, MoreGivenText, AllGivenText}

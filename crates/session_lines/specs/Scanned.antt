@@ -1,6 +1,6 @@
--- What is left of a line behind the tokens that were read.
+-- What is left of a line after the tokens that were read.
 --
--- Behind rev of the line `rev (Nil, Nil)` the symbols of ` (Nil, Nil)` are left, where ( comes next.
+-- After rev of the line `rev (Nil, Nil)` the symbols of ` (Nil, Nil)` are left, where ( comes next.
 use Rattle.std.specs.Prelude.{◌≡◌, ◌↔◌, ℕ, List, drop}
 use Rattle.session_semantics.specs.Lines.{Symbol, symbol, symbols}
 use Rattle.session_lines.specs.declared.scan.Scanner.{Scanner}

@@ -63,7 +63,7 @@ fn argument<'l>(scanner: &mut Scanner<'l>) -> Option<Written<'l>>
     }
 }
 
-// The arguments behind an argument, and the bracket behind them. Whether these come next.
+// The arguments after an argument, and the bracket after them. Whether these come next.
 fn more_arguments<'l>(
     scanner: &mut Scanner<'l>,
     list: &mut Vec<Written<'l>>,
@@ -83,7 +83,7 @@ fn more_arguments<'l>(
     Ok(scanner.sign(b')'))
 }
 
-// The arguments between the brackets, and the bracket behind them. None where these don't come next.
+// The arguments between the brackets, and the bracket after them. None where these don't come next.
 fn given<'l>(alloc: Global, scanner: &mut Scanner<'l>) -> Result<Option<Vec<Written<'l>>>, NoMemory>
     ensures bytes { scanner.new.bytes.now ≡ scanner.old.bytes.now }
     ensures read { IfOk result (λ o. IfSome o (λ list.
@@ -127,7 +127,7 @@ fn arguments<'l>(
     }
 }
 
-// The names behind a result's name, and the `=` behind them. Whether these come next.
+// The names after a result's name, and the `=` after them. Whether these come next.
 fn more_results<'l>(scanner: &mut Scanner<'l>, names: &mut Vec<&'l [u8]>) -> Result<bool, NoMemory>
     ensures bytes { scanner.new.bytes.now ≡ scanner.old.bytes.now }
     ensures read { IfOk result (λ found. found ≡ true →
@@ -164,7 +164,7 @@ fn results<'l>(alloc: Global, scanner: &mut Scanner<'l>) -> Result<Option<Vec<&'
     }
 }
 
-// The function that is called and its arguments, behind the names of its results, to the end of the line. None where
+// The function that is called and its arguments, after the names of its results, to the end of the line. None where
 // these don't come next.
 fn called<'l>(
     alloc: Global,
@@ -208,7 +208,7 @@ fn call_line<'l>(alloc: Global, scanner: &mut Scanner<'l>) -> Result<Option<Call
     }
 }
 
-// A name, behind which the line ends.
+// A name, after which the line ends.
 fn last_name<'l>(scanner: &mut Scanner<'l>) -> Option<&'l [u8]>
     ensures read { IfSome result (λ n. LastName (left scanner.old) n.now) }
     ensures none { result ≡ None → (n : Name) → LastName (left scanner.old) n → ⊥ }
@@ -219,7 +219,7 @@ fn last_name<'l>(scanner: &mut Scanner<'l>) -> Option<&'l [u8]>
     }
 }
 
-// What a line asks behind its `?`. None where no name ends it.
+// What a line asks after its `?`. None where no name ends it.
 fn shown<'l>(scanner: &mut Scanner<'l>) -> Option<Line<'l>>
     ensures read { (bytes : List ℕ) → SignText L.Question (symbols bytes) (left scanner.old) →
         IfSome result (λ line. Says bytes line) }
@@ -232,7 +232,7 @@ fn shown<'l>(scanner: &mut Scanner<'l>) -> Option<Line<'l>>
     }
 }
 
-// What a line gives up behind its `-`. None where no name ends it.
+// What a line gives up after its `-`. None where no name ends it.
 fn given_up<'l>(scanner: &mut Scanner<'l>) -> Option<Line<'l>>
     ensures read { (bytes : List ℕ) → SignText L.Minus (symbols bytes) (left scanner.old) →
         IfSome result (λ line. Says bytes line) }

@@ -3,8 +3,8 @@ ghost use Rattle.std.specs.Prelude.{◌≡◌, ◌≢◌, ◌<◌, ◌≤◌, �
 ghost use Rattle.fip_language.specs.Every.{Every};
 ghost use Rattle.session_semantics.specs.Lines.{lines_of};
 
-/// The line that begins at a place, without its LF, and the place behind that. An LF ends a line, and may be left out
-/// behind the last one.
+/// The line that begins at a place, without its LF, and the place after that. An LF ends a line, and may be left out
+/// after the last one.
 pub fn line_at(input: &[u8], at: usize) -> (&[u8], usize)
     requires within { at < length input.now }
     ensures on { at < result.1 }

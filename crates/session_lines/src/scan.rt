@@ -5,7 +5,7 @@ ghost use Rattle.std.specs.Prelude.{length, take, drop};
 ghost use Rattle.fip_language.specs.Character.{is_blank, is_digit, is_letter, is_upper};
 ghost use Rattle.fip_language.specs.Core.{Name};
 ghost use Rattle.session_semantics.specs.Lines as L;
-ghost use Rattle.session_semantics.specs.Lines.{Symbol, symbols, skip, word, behind, after_number, NameText, SignText};
+ghost use Rattle.session_semantics.specs.Lines.{Symbol, symbols, skip, word, following, after_number, NameText, SignText};
 ghost use Rattle.session_semantics.specs.Lines.{Written, WrittenText};
 ghost use Rattle.session_lines.specs.Scanned.{left, IsSignOf};
 ghost use Rattle.session_lines.specs.Completed.{BeginsDigit, IsUnsigned, HasParts, Completes, GoesOn};
@@ -21,7 +21,7 @@ fn is_blank(byte: u8) -> bool
 }
 
 // The first place from `at` on where no blank stands, or the end.
-fn behind_blanks(bytes: &[u8], at: usize) -> usize
+fn after_blanks(bytes: &[u8], at: usize) -> usize
     ensures from { at ≤ result }
     ensures within { at ≤ length bytes.now → result ≤ length bytes.now }
     ensures skips { skip (symbols (drop at bytes.now)) ≡ symbols (drop result bytes.now) }
@@ -35,11 +35,11 @@ fn behind_blanks(bytes: &[u8], at: usize) -> usize
 }
 
 // The first place from `at` on with which no name goes on, or the end.
-fn behind_name(bytes: &[u8], at: usize) -> usize
+fn after_name(bytes: &[u8], at: usize) -> usize
     ensures from { at ≤ result }
     ensures within { at ≤ length bytes.now → result ≤ length bytes.now }
     ensures name { word (symbols (drop at bytes.now)) ≡ take (result - at) (drop at bytes.now) }
-    ensures behind { behind (symbols (drop at bytes.now)) ≡ symbols (drop result bytes.now) }
+    ensures following { following (symbols (drop at bytes.now)) ≡ symbols (drop result bytes.now) }
 {
     for i in at..bytes.len() {
         if !is_name_byte(bytes[i]) {
@@ -50,10 +50,10 @@ fn behind_name(bytes: &[u8], at: usize) -> usize
 }
 
 // The first place from `at` on where no digit stands, or the end.
-fn behind_digits(bytes: &[u8], at: usize) -> usize
+fn after_digits(bytes: &[u8], at: usize) -> usize
     ensures from { at ≤ result }
     ensures within { at ≤ length bytes.now → result ≤ length bytes.now }
-    ensures behind { after_number (symbols (drop at bytes.now)) ≡ symbols (drop result bytes.now) }
+    ensures following { after_number (symbols (drop at bytes.now)) ≡ symbols (drop result bytes.now) }
     ensures some { at < result → BeginsDigit (symbols (drop at bytes.now)) }
     ensures none { result ≡ at → BeginsDigit (symbols (drop at bytes.now)) → ⊥ }
 {
@@ -65,8 +65,8 @@ fn behind_digits(bytes: &[u8], at: usize) -> usize
     at.max(bytes.len())
 }
 
-// Where the digits of an int begin that stands at a place: there, or behind a minus.
-fn behind_minus(bytes: &[u8], at: usize) -> usize
+// Where the digits of an int begin that stands at a place: there, or after a minus.
+fn after_minus(bytes: &[u8], at: usize) -> usize
     requires there { at < length bytes.now }
     ensures from { at ≤ result }
     ensures within { result ≤ length bytes.now }
@@ -79,7 +79,7 @@ fn behind_minus(bytes: &[u8], at: usize) -> usize
     }
 }
 
-/// Where a value stands in a line: the place of its first byte, and the place behind its last one.
+/// Where a value stands in a line: the place of its first byte, and the place after its last one.
 #[derive(Clone, Copy, PartialEq, Eq)]
 pub struct Span {
     pub start: usize,
@@ -122,14 +122,14 @@ impl<'l> Scanner<'l> {
         Scanner { bytes, at: 0 }
     }
 
-    /// The place behind the last token that was read.
+    /// The place after the last token that was read.
     pub fn at(&self) -> usize
         ensures is { result ≡ self.now.at }
     {
         self.at
     }
 
-    /// Goes on at a place behind tokens that were read otherwise.
+    /// Goes on at a place after tokens that were read otherwise.
     pub fn go_to(&mut self, at: usize)
         ensures at { self.new.at ≡ at }
         ensures bytes { self.new.bytes.now ≡ self.old.bytes.now }
@@ -148,7 +148,7 @@ impl<'l> Scanner<'l> {
         ensures none { result ≡ false → (c : Symbol) (rest : List Symbol) → IsSignOf wanted c →
             SignText c (left self.old) rest → ⊥ }
     {
-        let place = behind_blanks(self.bytes, self.at);
+        let place = after_blanks(self.bytes, self.at);
         let is_next = self.bytes.get(place).copied() == Some(wanted);
         if is_next {
             self.at = place.saturating_add(1);
@@ -165,12 +165,12 @@ impl<'l> Scanner<'l> {
         ensures read { IfSome result (λ n. NameText (left self.old) n.now (left self.new)) }
         ensures none { result ≡ None → (name : Name) (rest : List Symbol) → NameText (left self.old) name rest → ⊥ }
     {
-        let start = behind_blanks(self.bytes, self.at);
+        let start = after_blanks(self.bytes, self.at);
         let first = self.bytes.get(start)?;
         if !first.is_ascii_lowercase() {
             return None;
         }
-        let end = behind_name(self.bytes, start);
+        let end = after_name(self.bytes, start);
         let name = self.bytes.get(start..end)?;
         if is_keyword(name) {
             return None;
@@ -184,10 +184,10 @@ impl<'l> Scanner<'l> {
         ensures end { result ≡ true → skip (left self.now) ≡ [] }
         ensures more { result ≡ false → skip (left self.now) ≡ [] → ⊥ }
     {
-        behind_blanks(self.bytes, self.at) >= self.bytes.len()
+        after_blanks(self.bytes, self.at) >= self.bytes.len()
     }
 
-    // The bracket behind the name of a constructor with fields; it is read and counted.
+    // The bracket after the name of a constructor with fields; it is read and counted.
     fn fields(&mut self, depth: &mut usize) -> Step
         ensures bytes { self.new.bytes.now ≡ self.old.bytes.now }
         ensures on { self.old.at ≤ self.new.at }
@@ -211,10 +211,10 @@ impl<'l> Scanner<'l> {
         ensures within { place ≤ length self.old.bytes.now → result ≡ true →
             self.new.at ≤ length self.old.bytes.now }
         ensures some { result ≡ true → BeginsDigit (symbols (drop place self.old.bytes.now)) }
-        ensures behind { result ≡ true → after_number (symbols (drop place self.old.bytes.now)) ≡ left self.new }
+        ensures following { result ≡ true → after_number (symbols (drop place self.old.bytes.now)) ≡ left self.new }
         ensures none { result ≡ false → BeginsDigit (symbols (drop place self.old.bytes.now)) → ⊥ }
     {
-        let end = behind_digits(self.bytes, place);
+        let end = after_digits(self.bytes, place);
         let is_some = end > place;
         if is_some {
             self.at = end;
@@ -222,7 +222,7 @@ impl<'l> Scanner<'l> {
         is_some
     }
 
-    // The first token of a value: an int, or the name of a constructor and the bracket behind it where it has fields,
+    // The first token of a value: an int, or the name of a constructor and the bracket after it where it has fields,
     // which is counted.
     fn first(&mut self, depth: &mut usize) -> Option<Step>
         ensures bytes { self.new.bytes.now ≡ self.old.bytes.now }
@@ -233,22 +233,22 @@ impl<'l> Scanner<'l> {
             GoesOn (Completes Wants depth.old (left self.old)) (Completes s depth.new (left self.new))) }
         ensures none { result ≡ None → (rest : List Symbol) → Completes Wants depth.old (left self.old) rest → ⊥ }
     {
-        let start = behind_blanks(self.bytes, self.at);
+        let start = after_blanks(self.bytes, self.at);
         if start >= self.bytes.len() {
             return None;
         }
         if is_upper(self.bytes[start]) {
-            self.at = behind_name(self.bytes, start);
+            self.at = after_name(self.bytes, start);
             return Some(self.fields(depth));
         }
-        if self.digits(behind_minus(self.bytes, start)) {
+        if self.digits(after_minus(self.bytes, start)) {
             Some(Step::Read)
         } else {
             None
         }
     }
 
-    // Behind a value in brackets stands a comma, or their `)`.
+    // After a value in brackets stands a comma, or their `)`.
     fn next_or_close(&mut self, depth: &mut usize) -> Option<Step>
         requires some { 0 < depth.old }
         ensures bytes { self.new.bytes.now ≡ self.old.bytes.now }
@@ -318,7 +318,7 @@ impl<'l> Scanner<'l> {
         ensures end { IfSome result (λ s. s.end ≡ self.new.at) }
         ensures none { result ≡ None → (w : Written) (rest : List Symbol) → WrittenText (left self.old) w rest → ⊥ }
     {
-        let start = behind_blanks(self.bytes, self.at);
+        let start = after_blanks(self.bytes, self.at);
         let mut ahead = *self;
         if !ahead.whole_value() {
             return None;

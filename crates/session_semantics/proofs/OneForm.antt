@@ -2,7 +2,7 @@
 use Rattle.std.proofs.Common.{◌≡◌, ℕ, ℤ, List, [], ◌∷◌, Bool, true, false, refl, sym, ap, ◌∙◌, subst}
 use Rattle.command_outcome.specs.fip_language.Core.{Name}
 use Rattle.session_semantics.specs.Lines.{Symbol, Blank, Open, Close, Comma, Equals, Question, Minus, Underscore, Digit, Small, Capital, Other}
-use Rattle.session_semantics.specs.Lines.{symbols, skip, behind, BeginsSmall, BeginsCapital, NameText, SignText}
+use Rattle.session_semantics.specs.Lines.{symbols, skip, following, BeginsSmall, BeginsCapital, NameText, SignText}
 use Rattle.session_semantics.specs.Lines.{Written, Number, Named, Parts, NoParts, MoreParts, DigitsText, NumberText, IsOpened}
 use Rattle.session_semantics.specs.Lines.{WrittenText, PartsText, FurtherText, Given, Held, Fresh, GivenText, MoreGivenText, AllGivenText}
 use Rattle.session_semantics.specs.Lines.{MoreNamesText, CallText, Line, Calls, Shows, GivesUp, MarkedText, LineText, SpellsLine, fresh_of, SpellsTask}
@@ -81,7 +81,7 @@ mutual
   written_once (Number i) (Named n ws) cs r q a b = absurd (number_is_no_name (skip cs) r i a b.0)
   written_once (Named n ws) (Number j) cs r q a b = absurd (number_is_no_name (skip cs) q j b a.0)
   written_once (Named n ws) (Named m us) cs r q (a, e, x) (b, f, y) =
-      let same = parts_once ws us (behind (skip cs)) r q x y in
+      let same = parts_once ws us (following (skip cs)) r q x y in
       let name = e ∙ sym f in
       ((λ i. Named (name i) (same.0 i)), same.1)
 

@@ -1,7 +1,7 @@
 -- The lines of a session and of a list of tasks, as they are written.
 -- A line of a session calls a function and keeps its results under names, `a, b = split(xs, Cons(1, Nil))`; or shows
 -- what a name holds, `?a`; or gives it up, `-a`. A line of a list of tasks calls a function, `rev(Cons(1, Nil), Nil)`.
--- A space, a tab or a CR may stand before each word and sign, and behind the last; the - of an int touches its digits.
+-- A space, a tab or a CR may stand before each word and sign, and after the last; the - of an int touches its digits.
 -- A keyword is no name. A relation `XText cs x rest` says: the symbols cs are the text of x, and then rest.
 use Rattle.std.specs.Prelude.{◌≡◌, ℕ, ◌+◌, ◌-◌, ◌*◌, Bool, true, false, ◌&&◌, ◌||◌, nat_le, ◌==◌, if◌then◌else◌}
 use Rattle.std.specs.Prelude.{ℤ, pos, neg_ℤ, List, [], ◌∷◌, map, codes}
@@ -10,7 +10,7 @@ use Rattle.command_outcome.specs.fip_language.Declarations.{same_name}
 use Rattle.command_outcome.specs.fip_language.Character.{is_blank, is_digit, is_upper}
 pub use Rattle.command_outcome.specs.fip_language.Character.{is_keyword}
 
--- the lines of a text: an LF ends each, and may miss behind the last
+-- the lines of a text: an LF ends each, and may miss after the last
 abbrev pub put_before : ℕ → List (List ℕ) → List (List ℕ)
 put_before b [] = (b ∷ []) ∷ []
 put_before b (line ∷ lines) = (b ∷ line) ∷ lines
@@ -60,7 +60,7 @@ skip [] = []
 skip (Blank ∷ cs) = skip cs
 skip (c ∷ cs) = c ∷ cs
 
--- the bytes of the word in front, as long as it goes, and what is behind it
+-- the bytes of the word in front, as long as it goes, and what is after it
 abbrev pub word : List Symbol → List ℕ
 word [] = []
 word (Underscore ∷ cs) = 95 ∷ word cs
@@ -69,13 +69,13 @@ word (Small b ∷ cs) = b ∷ word cs
 word (Capital b ∷ cs) = b ∷ word cs
 word (c ∷ cs) = []
 
-abbrev pub behind : List Symbol → List Symbol
-behind [] = []
-behind (Underscore ∷ cs) = behind cs
-behind (Digit d ∷ cs) = behind cs
-behind (Small b ∷ cs) = behind cs
-behind (Capital b ∷ cs) = behind cs
-behind (c ∷ cs) = c ∷ cs
+abbrev pub following : List Symbol → List Symbol
+following [] = []
+following (Underscore ∷ cs) = following cs
+following (Digit d ∷ cs) = following cs
+following (Small b ∷ cs) = following cs
+following (Capital b ∷ cs) = following cs
+following (c ∷ cs) = c ∷ cs
 
 abbrev pub BeginsSmall : List Symbol → Type 0
 BeginsSmall (Small b ∷ cs) = Unit {0}
@@ -90,7 +90,7 @@ pub record NameText (cs : List Symbol) (name : Name) (rest : List Symbol) : Type
   pub small : BeginsSmall (skip cs)
   pub is : name ≡ word (skip cs)
   pub free : is_keyword name ≡ false
-  pub then' : rest ≡ behind (skip cs)
+  pub then' : rest ≡ following (skip cs)
 
 abbrev pub SignText : Symbol → List Symbol → List Symbol → Type 0
 SignText sign cs rest = skip cs ≡ sign ∷ rest
@@ -105,7 +105,7 @@ mutual
     NoParts : Parts
     MoreParts : (w : Written) (ws : Parts) → Parts
 
--- the number n with the digits in front written behind it, as many as come, and what is behind them
+-- the number n with the digits in front written after it, as many as come, and what is after them
 abbrev pub number : ℕ → List Symbol → ℕ
 number n [] = n
 number n (Digit d ∷ cs) = number (10 * n + d) cs
@@ -137,15 +137,15 @@ abbrev mutual
   pub WrittenText : List Symbol → Written → List Symbol → Type 0
   WrittenText cs (Number i) rest = NumberText (skip cs) i rest
   WrittenText cs (Named name parts) rest = BeginsCapital (skip cs) × (name ≡ word (skip cs))
-      × PartsText (behind (skip cs)) parts rest
+      × PartsText (following (skip cs)) parts rest
 
-  -- what stands behind a constructor's name
+  -- what stands after a constructor's name
   pub PartsText : List Symbol → Parts → List Symbol → Type 0
   PartsText cs NoParts rest = (IsOpened (skip cs) → ⊥) × (rest ≡ cs)
   PartsText cs (MoreParts w ws) rest = (inner : List Symbol) × (after : List Symbol)
       × SignText Open cs inner × WrittenText inner w after × FurtherText after ws rest
 
-  -- the parts behind a part
+  -- the parts after a part
   pub FurtherText : List Symbol → Parts → List Symbol → Type 0
   FurtherText cs NoParts rest = SignText Close cs rest
   FurtherText cs (MoreParts w ws) rest = (next : List Symbol) × (after : List Symbol)
@@ -170,7 +170,7 @@ abbrev pub AllGivenText : List Symbol → List Given → List Symbol → Type 0
 AllGivenText cs [] rest = SignText Close cs rest
 AllGivenText cs (g ∷ gs) rest = (after : List Symbol) × GivenText cs g after × MoreGivenText after gs rest
 
--- the names of results behind the first, and the = behind them
+-- the names of results after the first, and the = after them
 abbrev pub MoreNamesText : List Symbol → List Name → List Symbol → Type 0
 MoreNamesText cs [] rest = SignText Equals cs rest
 MoreNamesText cs (n ∷ ns) rest = (next : List Symbol) × (after : List Symbol)

@@ -182,8 +182,8 @@ ok_text = codes "ok\n"
 abbrev pub store_text : ℕ → ℕ → List ℕ
 store_text n m = codes "store too small: " ++ (decimal n ++ (codes " needed, " ++ (decimal m ++ codes " left\n")))
 
-abbrev pub told : List ℕ → List ℕ → List ℕ
-told text name = text ++ (name ++ line_end)
+abbrev pub reported : List ℕ → List ℕ → List ℕ
+reported text name = text ++ (name ++ line_end)
 
 -- a call of instance i, whose header is d, with these results and arguments
 pub record Called (o : Setting) (s : State) (results : List Name) (i : ℕ) (d : Instance) (gs : List Given)
@@ -213,17 +213,17 @@ holding s hs = record { held = s.held ++ hs; made = s.made }
 pub data CallReplies (o : Setting) (s : State) (results : List Name) (entry : Name) (gs : List Given) :
     List ℕ → State → Type 0 where
   NoEntry : ((i : ℕ) (d : Instance) → IsEntry o.program entry i d → ⊥) →
-      CallReplies o s results entry gs (told (codes "no entry ") entry) s
+      CallReplies o s results entry gs (reported (codes "no entry ") entry) s
   WrongNumber : (i : ℕ) (d : Instance) → IsEntry o.program entry i d →
       ((length gs ≢ length d.params) ⊎ (length results ≢ length d.results)) →
       CallReplies o s results entry gs (codes "wrong number\n") s
   BadArgument : (i : ℕ) (d : Instance) (k : ℕ) → IsEntry o.program entry i d → length gs ≡ length d.params →
       length results ≡ length d.results → IsWrong o.program.types s.held [] d.params gs k →
-      CallReplies o s results entry gs (told (codes "bad argument ") (decimal (suc k))) s
+      CallReplies o s results entry gs (reported (codes "bad argument ") (decimal (suc k))) s
   BadResult : (i : ℕ) (d : Instance) (vs : Values) (name : Name) → IsEntry o.program entry i d →
       length results ≡ length d.results → AreTaken o.program.types s.held [] d.params gs vs →
       IsTakenName s.held (used_by o.program.types d.params gs) [] results name →
-      CallReplies o s results entry gs (told (codes "bad result ") name) s
+      CallReplies o s results entry gs (reported (codes "bad result ") name) s
   TooSmall : (i : ℕ) (d : Instance) (vs : Values) → IsEntry o.program entry i d →
       Called o s results i d gs vs → left o s < needed s gs vs d.credits →
       CallReplies o s results entry gs (store_text (needed s gs vs d.credits) (left o s)) s
@@ -238,9 +238,9 @@ pub data CallReplies (o : Setting) (s : State) (results : List Name) (entry : Na
 pub data Replies (o : Setting) (s : State) (bytes : List ℕ) : List ℕ → State → Type 0 where
   BadLine : ((line : Line) → SpellsLine bytes line → ⊥) → Replies o s bytes (codes "bad line\n") s
   NothingShown : (name : Name) → SpellsLine bytes (Shows name) → held_as name s.held ≡ None →
-      Replies o s bytes (told (codes "no name ") name) s
+      Replies o s bytes (reported (codes "no name ") name) s
   NothingGivenUp : (name : Name) → SpellsLine bytes (GivesUp name) → held_as name s.held ≡ None →
-      Replies o s bytes (told (codes "no name ") name) s
+      Replies o s bytes (reported (codes "no name ") name) s
   Shown : (name : Name) (h : Holding) → SpellsLine bytes (Shows name) → held_as name s.held ≡ Some h →
       Replies o s bytes (printed o.program.types h.type h.value line_end) s
   GivenUp : (name : Name) (h : Holding) → SpellsLine bytes (GivesUp name) → held_as name s.held ≡ Some h →

@@ -1,4 +1,4 @@
-// Sessions and lists of tasks: what they reply. Definitions and their laws; no code.
+// Sessions and lists of tasks: what they reply. Definitions and their theorems; no code.
 #![tactic(auto)]
 
 pub mod theorems;

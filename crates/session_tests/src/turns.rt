@@ -60,7 +60,7 @@ fn gives(
 }
 
 // Whether the second task gives its value where the first one has taken so many turns, and the first one gives its own
-// behind that.
+// after that.
 fn are_apart(
     alloc: Global,
     known: &Front,

@@ -11,14 +11,14 @@ use Rattle.fip_language.specs.Values.{Value, Int, Node, Values, End, More}
 use Rattle.fip_language.specs.ValueText as V
 use Rattle.fip_language.specs.ValueText.{bound, int_of, Digits, IntText, ValueText, FieldsText, MoreText}
 use Rattle.session_lines.specs.session_semantics.Lines.{Symbol, Blank, Open, Close, Comma, Equals, Question, Minus, Underscore, Digit, Small, Capital, Other}
-use Rattle.session_lines.specs.session_semantics.Lines.{skip, word, behind, number, after_number, signed, DigitsText, NumberText, IsOpened, SignText}
+use Rattle.session_lines.specs.session_semantics.Lines.{skip, word, following, number, after_number, signed, DigitsText, NumberText, IsOpened, SignText}
 use Rattle.session_lines.specs.session_semantics.Lines.{Written, Number, Named, Parts, NoParts, MoreParts, WrittenText, PartsText, FurtherText, Fresh, BeginsCapital}
 use Rattle.session_lines.specs.session_semantics.Typed.{IsValue, AreValues}
 use Rattle.session_semantics.proofs.OneForm.{given_once, number_is_no_name}
 use Rattle.value_text.proofs.Runs.{int_fits}
 use Rattle.value_text.proofs.Tables.{same_bytes, upper_bytes}
-use Rattle.session_values.proofs.Symbols.{chr, AreRead, Suffix, all_left, one_less, less, read_left, skip_left, behind_left, number_left}
-use Rattle.session_values.proofs.Symbols.{skip_chr, behind_chr, number_chr, after_chr, names_same, begins_capital, is_open, is_close, is_comma}
+use Rattle.session_values.proofs.Symbols.{chr, AreRead, Suffix, all_left, one_less, less, read_left, skip_left, after_left, number_left}
+use Rattle.session_values.proofs.Symbols.{skip_chr, following_chr, number_chr, after_chr, names_same, begins_capital, is_open, is_close, is_comma}
 
 -- ---- from the text of a type to what is written
 
@@ -147,7 +147,7 @@ more_not_open tb (k ∷ ks) after (More v vs) rest h = comma_not_open after h.0 
 
 module _ (tb : Table) (sound : IsSoundTable tb) where
   mutual
-    -- Only behind a constructor without fields it matters that no ( comes.
+    -- Only after a constructor without fields it matters that no ( comes.
     pub value_written : (k : ℕ) (ss : List Symbol) (v : Value) (rest : List Character) → AreRead ss → ValueText tb k (map chr ss) v rest → ((c : ℕ) → v ≡ Node c End → NotOpen rest) → IsWritten tb k ss v rest
     value_written zero ss (Int i) rest r h not =
         let n = number_written (skip ss) i rest (subst (λ cs. IntText cs i rest) (skip_chr ss) h) in
@@ -161,13 +161,13 @@ module _ (tb : Table) (sound : IsSoundTable tb) where
         let n = names_same ts rt in
         let upper = sound.names t c s h.1 in
         let named : word ts ≡ s.name = same_bytes (word ts) s.name n.bytes (upper_bytes s.name upper) (sym n.same ∙ ap V.name_of (sym (skip_chr ss)) ∙ h.2) in
-        let rest_text : FieldsText tb s.fields (map chr (behind ts)) vs rest = subst (λ cs. FieldsText tb s.fields cs vs rest) (ap V.after_name (skip_chr ss) ∙ behind_chr ts) h.3 in
-        let rb = read_left ts (behind ts) (behind_left ts) rt in
-        let f = fields_written s.fields (behind ts) vs rest rb rest_text (λ e. not c (ap (Node c) e)) in
+        let rest_text : FieldsText tb s.fields (map chr (following ts)) vs rest = subst (λ cs. FieldsText tb s.fields cs vs rest) (ap V.after_name (skip_chr ss) ∙ following_chr ts) h.3 in
+        let rb = read_left ts (following ts) (after_left ts) rt in
+        let f = fields_written s.fields (following ts) vs rest rb rest_text (λ e. not c (ap (Node c) e)) in
         record {
           w = Named s.name f.ws;
           rs = f.rs;
-          left = less ss ts f.rs (skip_left ss) (less ts (behind ts) f.rs (behind_left ts) f.left);
+          left = less ss ts f.rs (skip_left ss) (less ts (following ts) f.rs (after_left ts) f.left);
           rest_is = f.rest_is;
           text = (begins_capital ts rt (ap is_upper_name named ∙ upper), sym named, f.text);
           value = (s, h.1, refl, f.values);
@@ -275,8 +275,8 @@ number_spelt (Small b ∷ ss) i rs h fits = absurd h
 number_spelt (Capital b ∷ ss) i rs h fits = absurd h
 number_spelt (Other ∷ ss) i rs h fits = absurd h
 
-behind_sign : (s : Symbol) (ss inner rs : List Symbol) → SignText s ss inner → Suffix rs inner → Suffix rs ss
-behind_sign s ss inner rs e h = less ss (skip ss) rs (skip_left ss) (subst (Suffix rs) (sym e) (one_less s inner rs h))
+after_sign : (s : Symbol) (ss inner rs : List Symbol) → SignText s ss inner → Suffix rs inner → Suffix rs ss
+after_sign s ss inner rs e h = less ss (skip ss) rs (skip_left ss) (subst (Suffix rs) (sym e) (one_less s inner rs h))
 
 sign_read : (s : Symbol) (ss inner : List Symbol) → SignText s ss inner → AreRead ss → AreRead inner
 sign_read s ss inner e r = (subst AreRead e (read_left ss (skip ss) (skip_left ss) r)).1
@@ -296,11 +296,11 @@ module _ (tb : Table) where
         let ts = skip ss in
         let rt = read_left ss ts (skip_left ss) r in
         let n = names_same ts rt in
-        let rb = read_left ts (behind ts) (behind_left ts) rt in
-        let f = fields_spelt s.fields (behind ts) ws vs rs rb h.2 is.3 in
+        let rb = read_left ts (following ts) (after_left ts) rt in
+        let f = fields_spelt s.fields (following ts) ws vs rs rb h.2 is.3 in
         let named : V.name_of (V.skip (map chr ss)) ≡ characters s.name = ap V.name_of (skip_chr ss) ∙ n.same ∙ ap characters (sym h.1 ∙ sym is.2) in (
-          less ss ts rs (skip_left ss) (less ts (behind ts) rs (behind_left ts) f.0),
-          (s, is.1, named, subst (λ cs. FieldsText tb s.fields cs vs (map chr rs)) (sym (ap V.after_name (skip_chr ss) ∙ behind_chr ts)) f.1),
+          less ss ts rs (skip_left ss) (less ts (following ts) rs (after_left ts) f.0),
+          (s, is.1, named, subst (λ cs. FieldsText tb s.fields cs vs (map chr rs)) (sym (ap V.after_name (skip_chr ss) ∙ following_chr ts)) f.1),
         )
 
     fields_spelt : (ks : List ℕ) (ss : List Symbol) (ws : Parts) (vs : Values) (rs : List Symbol) → AreRead ss → PartsText ss ws rs → AreValues tb ks ws vs → Suffix rs ss × FieldsText tb ks (map chr ss) vs (map chr rs)
@@ -315,12 +315,12 @@ module _ (tb : Table) where
         let ri = sign_read Open ss inner h.2 r in
         let x = value_spelt k inner w v after ri h.3 is.0 in
         let m = more_spelt ks after ws vs rs (read_left inner after x.0 ri) h.4 is.1 in (
-          behind_sign Open ss inner rs h.2 (less inner after rs x.0 m.0),
+          after_sign Open ss inner rs h.2 (less inner after rs x.0 m.0),
           (map chr inner, map chr after, skip_chr ss ∙ ap (map chr) h.2, x.1, m.1),
         )
 
     more_spelt : (ks : List ℕ) (ss : List Symbol) (ws : Parts) (vs : Values) (rs : List Symbol) → AreRead ss → FurtherText ss ws rs → AreValues tb ks ws vs → Suffix rs ss × MoreText tb ks (map chr ss) vs (map chr rs)
-    more_spelt [] ss NoParts End rs r h is = (behind_sign Close ss rs rs h (all_left rs), skip_chr ss ∙ ap (map chr) h)
+    more_spelt [] ss NoParts End rs r h is = (after_sign Close ss rs rs h (all_left rs), skip_chr ss ∙ ap (map chr) h)
     more_spelt [] ss NoParts (More v vs) rs r h is = absurd is
     more_spelt [] ss (MoreParts w ws) vs rs r h is = absurd is
     more_spelt (k ∷ ks) ss NoParts vs rs r h is = absurd is
@@ -331,7 +331,7 @@ module _ (tb : Table) where
         let ri = sign_read Comma ss next h.2 r in
         let x = value_spelt k next w v after ri h.3 is.0 in
         let m = more_spelt ks after ws vs rs (read_left next after x.0 ri) h.4 is.1 in (
-          behind_sign Comma ss next rs h.2 (less next after rs x.0 m.0),
+          after_sign Comma ss next rs h.2 (less next after rs x.0 m.0),
           (map chr next, map chr after, skip_chr ss ∙ ap (map chr) h.2, x.1, m.1),
         )
 
@@ -370,15 +370,15 @@ ints_left (Other ∷ ss) i rs h = absurd h
 mutual
   written_left : (ss : List Symbol) (w : Written) (rs : List Symbol) → WrittenText ss w rs → Suffix rs ss
   written_left ss (Number i) rs h = less ss (skip ss) rs (skip_left ss) (ints_left (skip ss) i rs h)
-  written_left ss (Named name ws) rs h = less ss (skip ss) rs (skip_left ss) (less (skip ss) (behind (skip ss)) rs (behind_left (skip ss)) (parts_left (behind (skip ss)) ws rs h.2))
+  written_left ss (Named name ws) rs h = less ss (skip ss) rs (skip_left ss) (less (skip ss) (following (skip ss)) rs (after_left (skip ss)) (parts_left (following (skip ss)) ws rs h.2))
 
   parts_left : (ss : List Symbol) (ws : Parts) (rs : List Symbol) → PartsText ss ws rs → Suffix rs ss
   parts_left ss NoParts rs h = subst (Suffix rs) h.1 (all_left rs)
-  parts_left ss (MoreParts w ws) rs h = behind_sign Open ss h.0 rs h.2 (less h.0 h.1 rs (written_left h.0 w h.1 h.3) (further_left h.1 ws rs h.4))
+  parts_left ss (MoreParts w ws) rs h = after_sign Open ss h.0 rs h.2 (less h.0 h.1 rs (written_left h.0 w h.1 h.3) (further_left h.1 ws rs h.4))
 
   further_left : (ss : List Symbol) (ws : Parts) (rs : List Symbol) → FurtherText ss ws rs → Suffix rs ss
-  further_left ss NoParts rs h = behind_sign Close ss rs rs h (all_left rs)
-  further_left ss (MoreParts w ws) rs h = behind_sign Comma ss h.0 rs h.2 (less h.0 h.1 rs (written_left h.0 w h.1 h.3) (further_left h.1 ws rs h.4))
+  further_left ss NoParts rs h = after_sign Close ss rs rs h (all_left rs)
+  further_left ss (MoreParts w ws) rs h = after_sign Comma ss h.0 rs h.2 (less h.0 h.1 rs (written_left h.0 w h.1 h.3) (further_left h.1 ws rs h.4))
 
 no_longer : (rs ss : List Symbol) → Suffix rs ss → length rs ≤ length ss
 no_longer rs ss h = let a = ap length h.1 in let b = length-append h.0 rs in omega (arith, a, b)
@@ -406,13 +406,13 @@ module _ (tb : Table) (sound : IsSoundTable tb) where
   no_fields [] cs rest h = (refl, sym h)
   no_fields (k ∷ ks) cs rest h = absurd h
 
-  bare_by : (k c : ℕ) (ss rs : List Symbol) (rest : List Character) (s : Shape) → slice_get (shapes tb k) c ≡ Some s → word (skip ss) ≡ s.name → BeginsCapital (skip ss) → s.fields ≡ [] → rest ≡ map chr (behind (skip ss)) → length rest ≡ length rs → (w : Written) → WrittenText ss w rs → IsValue tb (suc k) w (Node c End)
+  bare_by : (k c : ℕ) (ss rs : List Symbol) (rest : List Character) (s : Shape) → slice_get (shapes tb k) c ≡ Some s → word (skip ss) ≡ s.name → BeginsCapital (skip ss) → s.fields ≡ [] → rest ≡ map chr (following (skip ss)) → length rest ≡ length rs → (w : Written) → WrittenText ss w rs → IsValue tb (suc k) w (Node c End)
   bare_by k c ss rs rest s there named capital none is same (Number i) t = absurd (number_is_no_name (skip ss) rs i t capital)
   bare_by k c ss rs rest s there named capital none is same (Named name NoParts) t = (s, there, sym named ∙ sym t.1, subst (λ ks. AreValues tb ks NoParts End) (sym none) tt)
   bare_by k c ss rs rest s there named capital none is same (Named name (MoreParts w ws)) t =
-      let x = brackets_shorter (behind (skip ss)) w ws rs t.2 in
+      let x = brackets_shorter (following (skip ss)) w ws rs t.2 in
       let y = ap length is in
-      let z = length-map (behind (skip ss)) chr in
+      let z = length-map (following (skip ss)) chr in
       absurd (let n : ⊥ = omega (arith, x, y, z, same) in n)
 
   bare_is : (k c : ℕ) (ss : List Symbol) (w : Written) (rs : List Symbol) (rest : List Character) → AreRead ss → WrittenText ss w rs → ValueText tb k (map chr ss) (Node c End) rest → length rest ≡ length rs → IsValue tb k w (Node c End)
@@ -425,7 +425,7 @@ module _ (tb : Table) (sound : IsSoundTable tb) where
       let upper = sound.names k c s h.1 in
       let named : word ts ≡ s.name = same_bytes (word ts) s.name n.bytes (upper_bytes s.name upper) (sym n.same ∙ ap V.name_of (sym (skip_chr ss)) ∙ h.2) in
       let f = no_fields s.fields (V.after_name (V.skip (map chr ss))) rest h.3 in
-      bare_by k c ss rs rest s h.1 named (begins_capital ts rt (ap is_upper_name named ∙ upper)) f.0 (f.1 ∙ ap V.after_name (skip_chr ss) ∙ behind_chr ts) same w t
+      bare_by k c ss rs rest s h.1 named (begins_capital ts rt (ap is_upper_name named ∙ upper)) f.0 (f.1 ∙ ap V.after_name (skip_chr ss) ∙ following_chr ts) same w t
 
   pub written_is : (k : ℕ) (ss : List Symbol) (w : Written) (v : Value) (rs : List Symbol) (rest : List Character) → AreRead ss → WrittenText ss w rs → ValueText tb k (map chr ss) v rest → length rest ≡ length rs → IsValue tb k w v
   written_is k ss w v rs rest r t h same = by (bare_or v)

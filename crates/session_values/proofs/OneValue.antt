@@ -93,7 +93,7 @@ module _ (tb : Table) (sound : IsSoundTable tb) (bytes : List ℕ) (one : IsOneL
       let s = value_spelt tb k (at_place p) t.0 u after (are_read (drop p bytes)) t.1 t.2 in
       (map chr after, subst (λ cs. ValueText tb k cs u (map chr after)) (sym (chars_at p)) s.1)
 
--- ---- values behind values
+-- ---- values after values
 
 pub join_snoc : (a : Values) (v : Value) (b : Values) → join (snoc a v) b ≡ join a (More v b)
 join_snoc End v b = refl

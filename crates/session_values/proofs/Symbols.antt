@@ -1,5 +1,5 @@
 -- The symbols of a line as the characters of values.
--- Idea: but for an LF, each byte's character is told by its symbol; and what is left behind blanks, names and numbers is
+-- Idea: but for an LF, each byte's character is reported by its symbol; and what is left behind blanks, names and numbers is
 -- the same of both.
 use Rattle.std.proofs.Common.{◌≡◌, ◌≢◌, ◌∙◌, ◌≤◌, ◌+◌, ◌-◌, ◌*◌, ℕ, zero, suc, Bool, true, false, List, [], ◌∷◌, ◌++◌, map, drop, append_assoc, refl, sym, ap, ap₂, subst, arith}
 use Rattle.std.specs.Prelude.{◌||◌, ◌&&◌, ◌==◌, if◌then◌else◌}
@@ -10,7 +10,7 @@ use Rattle.fip_language.specs.Character as C
 use Rattle.fip_language.specs.Character.{Character, character, characters, is_blank, is_digit, is_upper, is_letter, are_name_bytes, is_upper_name}
 use Rattle.fip_language.specs.ValueText as V
 use Rattle.session_lines.specs.session_semantics.Lines.{Symbol, Blank, Open, Close, Comma, Equals, Question, Minus, Underscore, Digit, Small, Capital, Other}
-use Rattle.session_lines.specs.session_semantics.Lines.{symbol, symbols, skip, word, behind, number, after_number, BeginsCapital}
+use Rattle.session_lines.specs.session_semantics.Lines.{symbol, symbols, skip, word, following, number, after_number, BeginsCapital}
 use Rattle.value_text.proofs.Tables.{character_is_digit, character_letter}
 use Rattle.session_lines.proofs.Tokens.{IsOf, of_symbol}
 use Rattle.fip_language.proofs.Facts.{or_last as or_right}
@@ -123,13 +123,13 @@ skip_left [] = all_left []
 skip_left (Blank ∷ ss) = one_less Blank ss (skip ss) (skip_left ss)
 skip_left (s ∷ ss) = all_left (s ∷ ss)
 
-pub behind_left : (ss : List Symbol) → Suffix (behind ss) ss
-behind_left [] = all_left []
-behind_left (Underscore ∷ ss) = one_less Underscore ss (behind ss) (behind_left ss)
-behind_left (Digit d ∷ ss) = one_less (Digit d) ss (behind ss) (behind_left ss)
-behind_left (Small b ∷ ss) = one_less (Small b) ss (behind ss) (behind_left ss)
-behind_left (Capital b ∷ ss) = one_less (Capital b) ss (behind ss) (behind_left ss)
-behind_left (s ∷ ss) = all_left (s ∷ ss)
+pub after_left : (ss : List Symbol) → Suffix (following ss) ss
+after_left [] = all_left []
+after_left (Underscore ∷ ss) = one_less Underscore ss (following ss) (after_left ss)
+after_left (Digit d ∷ ss) = one_less (Digit d) ss (following ss) (after_left ss)
+after_left (Small b ∷ ss) = one_less (Small b) ss (following ss) (after_left ss)
+after_left (Capital b ∷ ss) = one_less (Capital b) ss (following ss) (after_left ss)
+after_left (s ∷ ss) = all_left (s ∷ ss)
 
 pub number_left : (ss : List Symbol) → Suffix (after_number ss) ss
 number_left [] = all_left []
@@ -153,20 +153,20 @@ skip_chr (Small b ∷ ss) = refl
 skip_chr (Capital b ∷ ss) = refl
 skip_chr (Other ∷ ss) = refl
 
-pub behind_chr : (ss : List Symbol) → V.after_name (map chr ss) ≡ map chr (behind ss)
-behind_chr [] = refl
-behind_chr (Blank ∷ ss) = refl
-behind_chr (Open ∷ ss) = refl
-behind_chr (Close ∷ ss) = refl
-behind_chr (Comma ∷ ss) = refl
-behind_chr (Equals ∷ ss) = refl
-behind_chr (Question ∷ ss) = refl
-behind_chr (Minus ∷ ss) = refl
-behind_chr (Underscore ∷ ss) = behind_chr ss
-behind_chr (Digit d ∷ ss) = behind_chr ss
-behind_chr (Small b ∷ ss) = behind_chr ss
-behind_chr (Capital b ∷ ss) = behind_chr ss
-behind_chr (Other ∷ ss) = refl
+pub following_chr : (ss : List Symbol) → V.after_name (map chr ss) ≡ map chr (following ss)
+following_chr [] = refl
+following_chr (Blank ∷ ss) = refl
+following_chr (Open ∷ ss) = refl
+following_chr (Close ∷ ss) = refl
+following_chr (Comma ∷ ss) = refl
+following_chr (Equals ∷ ss) = refl
+following_chr (Question ∷ ss) = refl
+following_chr (Minus ∷ ss) = refl
+following_chr (Underscore ∷ ss) = following_chr ss
+following_chr (Digit d ∷ ss) = following_chr ss
+following_chr (Small b ∷ ss) = following_chr ss
+following_chr (Capital b ∷ ss) = following_chr ss
+following_chr (Other ∷ ss) = refl
 
 pub number_chr : (n : ℕ) (ss : List Symbol) → V.number n (map chr ss) ≡ number n ss
 number_chr n [] = refl

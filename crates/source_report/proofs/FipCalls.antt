@@ -10,10 +10,10 @@ use Rattle.cell_lower.specs.fip_language.Every.{Among}
 use Rattle.cell_lower.specs.fip_trees.Tree as T
 use Rattle.cell_lower.specs.fip_trees.Tree.{Name, Program, Instance}
 use Rattle.ownership_agreement.specs.fip_rules.Checks as O
-use Rattle.ownership_agreement.specs.fip_rules.Marks.{Breach, told}
+use Rattle.ownership_agreement.specs.fip_rules.Marks.{Breach, reported}
 use Rattle.ownership_agreement.specs.fip_rules.Rules as R
 use Rattle.ownership_agreement.specs.fip_rules.Shape as S
-use Rattle.ownership_agreement.specs.fip_rules.Shapes.{Names, Bind, token, called, binds, within, behind, taking, binders, takes, clause_shape, shape, shape_block, shape_clauses, parameters, no_names}
+use Rattle.ownership_agreement.specs.fip_rules.Shapes.{Names, Bind, token, called, binds, within, following, taking, binders, takes, clause_shape, shape, shape_block, shape_clauses, parameters, no_names}
 use Rattle.ownership_agreement.specs.fip_rules.World.{World, world, weaker, weaker_than, is_weaker}
 use Rattle.ownership_agreement.specs.fip_rules.World as W
 use Rattle.cell_lower.specs.tail_groups.Members.{FipCallsFip}
@@ -71,19 +71,19 @@ within_binds i n fip (b ∷ bs) e v h = inl (inl (within_binds i (suc n) fip bs 
 first_breaks : (w : World) (i : ℕ) (fip taken : Bool) (c : Names) (done : S.Shape) (cs : T.Clauses) (v : Breach) → R.Breaks i fip done v → R.Breaks i fip (shape_clauses w taken c done cs) v
 first_breaks w i fip taken c done T.NoClauses v h = h
 first_breaks w i fip taken c done (T.MoreClauses q b cs) v h =
-    first_breaks w i fip taken c (S.Either done (clause_shape (behind c done) (taking w taken (binders q)) (λ d. shape_block w d b))) cs v (inl h)
+    first_breaks w i fip taken c (S.Either done (clause_shape (following c done) (taking w taken (binders q)) (λ d. shape_block w d b))) cs v (inl h)
 
 call_breaks : (i : ℕ) (fip : Bool) (g : ℕ) (p : Place) (n : Name) (w : World) → weaker w g ≡ true → R.Breaks i fip (called w g p n) (R.broken E55 i (token p n))
 call_breaks i fip g p n w e = subst (λ b. R.Breaks i fip (if b then S.Fault E55 (token p n) else S.Skip) (R.broken E55 i (token p n))) (sym e) refl
 
 clause_by : (w : World) (c : Names) (i : ℕ) (fip taken : Bool) (q : T.Pattern) (b : T.Block) (cs : T.Clauses) (done : S.Shape) (t : Bool) (s : Site) →
     Among s (block_sites t b) ⊎ Among s (clauses_sites t cs) →
-    (Among s (block_sites t b) → R.Breaks i fip (shape_block w (within (behind c done) (taking w taken (binders q))) b) (at_site i s)) →
-    (Among s (clauses_sites t cs) → R.Breaks i fip (shape_clauses w taken c (S.Either done (clause_shape (behind c done) (taking w taken (binders q)) (λ d. shape_block w d b))) cs) (at_site i s)) →
+    (Among s (block_sites t b) → R.Breaks i fip (shape_block w (within (following c done) (taking w taken (binders q))) b) (at_site i s)) →
+    (Among s (clauses_sites t cs) → R.Breaks i fip (shape_clauses w taken c (S.Either done (clause_shape (following c done) (taking w taken (binders q)) (λ d. shape_block w d b))) cs) (at_site i s)) →
     R.Breaks i fip (shape_clauses w taken c done (T.MoreClauses q b cs)) (at_site i s)
 clause_by w c i fip taken q b cs done t s (inl x) f g =
-    first_breaks w i fip taken c (S.Either done (clause_shape (behind c done) (taking w taken (binders q)) (λ d. shape_block w d b))) cs (at_site i s)
-    (inr (within_binds i (behind c done).next fip (taking w taken (binders q)) (shape_block w (within (behind c done) (taking w taken (binders q))) b) (at_site i s) (f x)))
+    first_breaks w i fip taken c (S.Either done (clause_shape (following c done) (taking w taken (binders q)) (λ d. shape_block w d b))) cs (at_site i s)
+    (inr (within_binds i (following c done).next fip (taking w taken (binders q)) (shape_block w (within (following c done) (taking w taken (binders q))) b) (at_site i s) (f x)))
 clause_by w c i fip taken q b cs done t s (inr x) f g = g x
 
 clauses_by : (w : World) (c : Names) (i : ℕ) (fip taken : Bool) (r : T.Pattern) (b : T.Block) (cs : T.Clauses) (t : Bool) (s : Site) →
@@ -114,19 +114,19 @@ mutual
   block_breaks : (w : World) (c : Names) (i : ℕ) (fip t : Bool) (b : T.Block) (s : Site) → weaker w s.callee ≡ true → Among s (block_sites t b) → R.Breaks i fip (shape_block w c b) (at_site i s)
   block_breaks w c i fip t (T.Last e) s k h = site_breaks w c i fip t e s k h
   block_breaks w c i fip t (T.Let bs e rest) s k h =
-      let next = behind c (shape w c e) in
+      let next = following c (shape w c e) in
       by (among_either s (sites false e) (block_sites t rest) h) (site_breaks w c i fip false e s k) (block_breaks w (within next (taking w true bs)) i fip t rest s k)
     where
       by : Among s (sites false e) ⊎ Among s (block_sites t rest) → (Among s (sites false e) → R.Breaks i fip (shape w c e) (at_site i s)) →
-          (Among s (block_sites t rest) → R.Breaks i fip (shape_block w (within (behind c (shape w c e)) (taking w true bs)) rest) (at_site i s)) →
+          (Among s (block_sites t rest) → R.Breaks i fip (shape_block w (within (following c (shape w c e)) (taking w true bs)) rest) (at_site i s)) →
           R.Breaks i fip (shape_block w c (T.Let bs e rest)) (at_site i s)
       by (inl x) f g = inl (f x)
-      by (inr x) f g = inr (within_binds i (behind c (shape w c e)).next fip (taking w true bs) (shape_block w (within (behind c (shape w c e)) (taking w true bs)) rest) (at_site i s) (g x))
+      by (inr x) f g = inr (within_binds i (following c (shape w c e)).next fip (taking w true bs) (shape_block w (within (following c (shape w c e)) (taking w true bs)) rest) (at_site i s) (g x))
 
   clauses_break : (w : World) (c : Names) (i : ℕ) (fip t taken : Bool) (cs : T.Clauses) (done : S.Shape) (s : Site) → weaker w s.callee ≡ true → Among s (clauses_sites t cs) → R.Breaks i fip (shape_clauses w taken c done cs) (at_site i s)
   clauses_break w c i fip t taken T.NoClauses done s k h = absurd h
   clauses_break w c i fip t taken (T.MoreClauses q b cs) done s k h =
-      let next = behind c done in
+      let next = following c done in
       let here = S.Either done (clause_shape next (taking w taken (binders q)) (λ d. shape_block w d b)) in
       clause_by w c i fip taken q b cs done t s (among_either s (block_sites t b) (clauses_sites t cs) h)
       (λ x. block_breaks w (within next (taking w taken (binders q))) i fip t b s k x) (λ x. clauses_break w c i fip t taken cs here s k x)
@@ -174,7 +174,7 @@ fip_calls source p h i d s at fip calls =
         (block_breaks (world p d.kind) (within no_names (parameters (world p d.kind) d.params d.binders)) i (W.is_fip d.kind) true d.body s weak called_at) in
         let ruled : W.is_ruled d.kind ≡ true = ap W.is_ruled kind in
         let zero_on : i ≡ 0 + i = omega arith in
-        h.unbroken (told (at_site i s)) (at_site i s, some_breaks p 0 i p.instances d (at_site i s) at (subst (λ n. O.BreaksInstance p n d (at_site i s)) zero_on (ruled, shape_breaks)), refl)
+        h.unbroken (reported (at_site i s)) (at_site i s, some_breaks p 0 i p.instances d (at_site i s) at (subst (λ n. O.BreaksInstance p n d (at_site i s)) zero_on (ruled, shape_breaks)), refl)
 
     by : (e : Instance) → slice_get p.instances s.callee ≡ Some e → d.kind ≡ Fip → (Tail.is_fip e.kind ≡ true) ⊎ (is_weaker Fip e.kind ≡ true) → (e : Instance) × (slice_get p.instances s.callee ≡ Some e) × (Tail.is_fip e.kind ≡ true)
     by e f kind (inl k) = (e, f, k)

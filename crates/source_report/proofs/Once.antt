@@ -73,17 +73,17 @@ get n [] = 0
 get zero (x ∷ xs) = x
 get (suc n) (x ∷ xs) = get n xs
 
-abbrev behind : ℕ → List ℕ → List ℕ
-behind zero xs = xs
-behind (suc n) [] = []
-behind (suc n) (x ∷ xs) = behind n xs
+abbrev following : ℕ → List ℕ → List ℕ
+following zero xs = xs
+following (suc n) [] = []
+following (suc n) (x ∷ xs) = following n xs
 
 same_refusal : (v w : Violation) → rank v ≡ rank w → AreSame (refusal v) (refusal w)
 same_refusal v w e =
     let first : v.place.at ≡ w.place.at = ap (λ (l : List ℕ). get 0 l) e in
     let second : number v.rule ≡ number w.rule = ap (λ (l : List ℕ). get 1 l) e in
     let fourth : v.size ≡ w.size = ap (λ (l : List ℕ). get 3 l) e in
-    let rest : v.detail ≡ w.detail = ap (λ (l : List ℕ). behind 4 l) e in
+    let rest : v.detail ≡ w.detail = ap (λ (l : List ℕ). following 4 l) e in
     record { rule = rule_once v.rule w.rule second; offset = ap (λ n. Some n) first; size = fourth; detail = rest }
 
 -- two violations, each of them of what the other is the least of

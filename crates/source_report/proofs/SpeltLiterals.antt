@@ -1,5 +1,5 @@
--- The literals in the patterns of a source have 64 bits. A literal of a pattern never stands directly behind a minus that
--- isn't the pattern's own: behind a sign of the grammar no minus waits. So its limit is that of its pattern.
+-- The literals in the patterns of a source have 64 bits. A literal of a pattern never stands directly after a minus that
+-- isn't the pattern's own: after a sign of the grammar no minus waits. So its limit is that of its pattern.
 use Rattle.std.proofs.Common.{◌≡◌, ◌≤◌, ◌<◌, ◌-◌, ◌^◌, inl, inr, ℕ, zero, suc, Bool, true, false, List, [], ◌∷◌, ◌++◌, length, take, Option, Some, None, slice_get, ℤ, pos, neg_ℤ, FitsSigned, refl, sym, ap, ◌∙◌, subst, arith, append_assoc}
 use Rattle.std.specs.Int.{w64}
 use Rattle.cell_lower.specs.fip_language.declared.Place.{Place}
@@ -17,7 +17,7 @@ use Rattle.fip_grammar.specs.declared.Sign.{Sign}
 use Rattle.fip_grammar.specs.declared.Sign.TheVariants as S
 use Rattle.fip_grammar.specs.Token.{Word, Lower, Upper, Number, Operate, Mark, Token, token, value_of}
 use Rattle.fip_grammar.specs.Grammar.{Sees, MaySee, Type', TypeArguments, FurtherTypes, FurtherTypeList, IsLiteral, Pattern', PatternFields, FurtherPatterns, BindName, Annotation, Bind', FurtherBinds, Binder', match_sign, left_tightness, tightness, Spelled, Arguments, Fields, Further, Block', Clauses', FurtherClauses, Result', Lent, SignatureParameter', FurtherSignatureParameters, SignatureParameters, Signature', Static', FurtherStatics, Statics, Parameter', FurtherParameters, Parameters, Credits, Kind', FunctionParts, Function', FurtherTypeNames, TypeNames, FieldTypes, DataConstructor', FurtherConstructors, DataConstructors, Data', Declaration', Spells}
-use Rattle.fip_grammar.specs.Limits.{Seen, nothing_seen, behind, seen_from, seen, limit, Breaks, IsSpelt}
+use Rattle.fip_grammar.specs.Limits.{Seen, nothing_seen, following, seen_from, seen, limit, Breaks, IsSpelt}
 use Rattle.cell_lower.proofs.fip_language.Facts.{fits_above, fits_below, get_seam as got, take_seam as taken}
 
 -- ---- what fits
@@ -65,13 +65,13 @@ FitsDeclaration (T.FunctionDeclaration f) = FitsBlock f.body
 
 abbrev Keeps : Seen → List Token → Type 0
 Keeps b [] = Unit {0}
-Keeps b (t ∷ ts) = ((ds : List ℕ) → t.word ≡ Number ds → value_of ds ≤ limit b.is_sign) × Keeps (behind b t.word) ts
+Keeps b (t ∷ ts) = ((ds : List ℕ) → t.word ≡ Number ds → value_of ds ≤ limit b.is_sign) × Keeps (following b t.word) ts
 
--- behind some tokens
+-- after some tokens
 abbrev Ok : List Token → Type 0
 Ok ts = (b : Seen) × Keeps b ts
 
--- behind some tokens of which the last is no minus that waits
+-- after some tokens of which the last is no minus that waits
 abbrev Calm : List Token → Type 0
 Calm ts = (b : Seen) × (b.is_sign ≡ false) × Keeps b ts
 
@@ -79,10 +79,10 @@ calm_ok : (ts : List Token) → Calm ts → Ok ts
 calm_ok ts h = (h.0, h.2)
 
 after_word : (w : Word) (p : Place) (ts rest : List Token) → ts ≡ token w p ∷ rest → Ok ts → Ok rest
-after_word w p ts rest e o = let h : Ok (token w p ∷ rest) = subst Ok e o in (behind h.0 w, h.1.1)
+after_word w p ts rest e o = let h : Ok (token w p ∷ rest) = subst Ok e o in (following h.0 w, h.1.1)
 
 after_sign : (s : Sign) (ts rest : List Token) → Sees s ts rest → Ok ts → Calm rest
-after_sign s ts rest h o = let k : Ok (token (Mark s) h.0 ∷ rest) = subst Ok h.1 o in (behind k.0 (Mark s), refl, k.1.1)
+after_sign s ts rest h o = let k : Ok (token (Mark s) h.0 ∷ rest) = subst Ok h.1 o in (following k.0 (Mark s), refl, k.1.1)
 
 past : (s : Sign) (ts rest : List Token) → Sees s ts rest → Ok ts → Ok rest
 past s ts rest h o = calm_ok rest (after_sign s ts rest h o)
@@ -123,8 +123,8 @@ literal_fits ts v p rest (inl h) c =
     subst (λ v. FitsSigned w64 v) (sym h.2) (fits_above (value_of h.0) (subst (λ b. value_of h.0 ≤ limit b) k.1 few))
 literal_fits ts v p rest (inr h) c =
     let k : Calm (token (Operate O.Subtract) p ∷ token (Number h.0) h.1 ∷ rest) = subst Calm h.2 c in
-    let few : value_of h.0 ≤ limit (behind k.0 (Operate O.Subtract)).is_sign = k.2.1.0 h.0 refl in
-    subst (λ v. FitsSigned w64 v) (sym h.3) (fits_below (value_of h.0) (within_limit (behind k.0 (Operate O.Subtract)).is_sign (value_of h.0) few))
+    let few : value_of h.0 ≤ limit (following k.0 (Operate O.Subtract)).is_sign = k.2.1.0 h.0 refl in
+    subst (λ v. FitsSigned w64 v) (sym h.3) (fits_below (value_of h.0) (within_limit (following k.0 (Operate O.Subtract)).is_sign (value_of h.0) few))
 
 mutual
   pattern_ok : (ts : List Token) (q : T.Pattern) (rest : List Token) → Pattern' ts q rest → Calm ts → FitsPattern q × Ok rest
@@ -364,9 +364,9 @@ program_ok ts (d ∷ ds) h o =
 
 -- ---- E04 is not broken
 
-seen_one : (b : Seen) (xs : List Token) (t : Token) → seen_from b (xs ++ t ∷ []) ≡ behind (seen_from b xs) t.word
+seen_one : (b : Seen) (xs : List Token) (t : Token) → seen_from b (xs ++ t ∷ []) ≡ following (seen_from b xs) t.word
 seen_one b [] t = refl
-seen_one b (x ∷ xs) t = seen_one (behind b x.word) xs t
+seen_one b (x ∷ xs) t = seen_one (following b x.word) xs t
 
 module _ (all : List Token) (unbroken : (r : Rule) (t : ℕ) → Breaks all r t → ⊥) where
   keeps_at : (done : List Token) (t : Token) (rest : List Token) → done ++ t ∷ rest ≡ all → (ds : List ℕ) → t.word ≡ Number ds → value_of ds ≤ limit (seen_from nothing_seen done).is_sign

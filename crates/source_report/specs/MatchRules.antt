@@ -4,7 +4,7 @@
 --
 -- Cons(x, Cons(x, x)) breaks E42 at the second x and at the third. With data ints { Nil; Cons(int, ints) } the clauses
 -- Nil and Cons(_, Cons(_, _)) leave the values Cons(i, Nil), so the match breaks E40 with the text Cons(_, Nil). Of _, 1
--- the second clause breaks E41. Of 0, 1, 2 the match breaks E40 with the text 3: literals never are all of int. Behind
+-- the second clause breaks E41. Of 0, 1, 2 the match breaks E40 with the text 3: literals never are all of int. After
 -- Cons(0, _) a clause Cons(_, Nil) is reached.
 use Rattle.std.specs.Prelude.{◌⊎◌, ℕ, suc, List, [], ◌∷◌, ◌++◌, map, if◌then◌else◌}
 use Rattle.cell_lower.specs.fip_language.declared.rule.Rule.TheVariants.{E43}
@@ -42,7 +42,7 @@ shape_faults i (d ∷ ds) =
 
 -- ---- E40 and E41, in instance i
 
--- E41 at one of these clauses, each behind those before it
+-- E41 at one of these clauses, each after those before it
 abbrev pub SomeUnreached : Table → ℕ → ℕ → List K.Pattern → List Pattern → Violation → Type 0
 SomeUnreached tb i t before [] v = ⊥
 SomeUnreached tb i t before (q ∷ qs) v =

@@ -1,4 +1,4 @@
-// The report of a source: its phases, joined. Definitions and their laws, no code.
+// The report of a source: its phases, joined. Definitions and their theorems, no code.
 #![tactic(auto)]
 
 mod binder_theorems;

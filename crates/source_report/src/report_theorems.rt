@@ -1,4 +1,4 @@
-// Laws of the report.
+// Theorems of the report.
 ghost use Rattle.std.specs.Prelude.{◌≡◌, ◌↔◌, ℕ, List};
 ghost use Rattle.cell_lower.specs.fip_base.declared.refusal.Refusal.{Refusal};
 ghost use Rattle.cell_lower.specs.fip_trees.Tree.{Program};

@@ -19,7 +19,7 @@ use Rattle.specialisation_correctness.specs.fip_grammar.declared.Sign.{Sign}
 use Rattle.specialisation_correctness.specs.fip_grammar.declared.Sign.TheVariants as S
 use Rattle.specialisation_correctness.specs.fip_grammar.Token.{Word, Lower, Upper, Number, Operate, Mark, Token, token, value_of}
 use Rattle.specialisation_correctness.specs.fip_grammar.Grammar.{Sees, MaySee, Type', TypeArguments, FurtherTypes, FurtherTypeList, IsLiteral, Pattern', PatternFields, FurtherPatterns, BindName, Annotation, Bind', FurtherBinds, Binder', match_sign, left_tightness, tightness, Spelled, Arguments, Fields, Further, Block', Clauses', FurtherClauses, Result', Lent, SignatureParameter', FurtherSignatureParameters, SignatureParameters, Signature', Static', FurtherStatics, Statics, Parameter', FurtherParameters, Parameters, Credits, Kind', FunctionParts, Function', FurtherTypeNames, TypeNames, FieldTypes, DataConstructor', FurtherConstructors, DataConstructors, Data', Declaration', Spells}
-use Rattle.specialisation_correctness.specs.fip_grammar.Limits.{ends_operand, is_minus, Seen, nothing_seen, behind, seen_from, seen, limit, Breaks, IsSpelt}
+use Rattle.specialisation_correctness.specs.fip_grammar.Limits.{ends_operand, is_minus, Seen, nothing_seen, following, seen_from, seen, limit, Breaks, IsSpelt}
 use Rattle.in_place_safety.proofs.type_safety.type_check.fip_language.Facts.{and_not_true as never_both, fits_above, fits_below, get_seam as got, take_seam as taken}
 
 -- ---- what fits
@@ -60,17 +60,17 @@ FitsDeclaration (T.FunctionDeclaration f) = FitsBlock f.body
 
 abbrev Keeps : Seen → List Token → Type 0
 Keeps b [] = Unit {0}
-Keeps b (t ∷ ts) = ((ds : List ℕ) → t.word ≡ Number ds → value_of ds ≤ limit b.is_sign) × Keeps (behind b t.word) ts
+Keeps b (t ∷ ts) = ((ds : List ℕ) → t.word ≡ Number ds → value_of ds ≤ limit b.is_sign) × Keeps (following b t.word) ts
 
--- behind some tokens
+-- after some tokens
 abbrev Ok : List Token → Type 0
 Ok ts = (b : Seen) × Keeps b ts
 
--- behind some tokens of which the last is no minus that waits
+-- after some tokens of which the last is no minus that waits
 abbrev Calm : List Token → Type 0
 Calm ts = (b : Seen) × (b.is_sign ≡ false) × Keeps b ts
 
--- behind some tokens of which the last ends an operand
+-- after some tokens of which the last ends an operand
 abbrev Ended : List Token → Type 0
 Ended ts = (b : Seen) × (b.ends_operand ≡ true) × Keeps b ts
 
@@ -81,18 +81,18 @@ ended_ok : (ts : List Token) → Ended ts → Ok ts
 ended_ok ts h = (h.0, h.2)
 
 after_word : (w : Word) (p : Place) (ts rest : List Token) → ts ≡ token w p ∷ rest → Ok ts → Ok rest
-after_word w p ts rest e o = let h : Ok (token w p ∷ rest) = subst Ok e o in (behind h.0 w, h.1.1)
+after_word w p ts rest e o = let h : Ok (token w p ∷ rest) = subst Ok e o in (following h.0 w, h.1.1)
 
 after_operand : (w : Word) (p : Place) (ts rest : List Token) → ends_operand w ≡ true → ts ≡ token w p ∷ rest → Ok ts → Ended rest
-after_operand w p ts rest f e o = let h : Ok (token w p ∷ rest) = subst Ok e o in (behind h.0 w, f, h.1.1)
+after_operand w p ts rest f e o = let h : Ok (token w p ∷ rest) = subst Ok e o in (following h.0 w, f, h.1.1)
 
 after_operator : (w : Word) (p : Place) (ts rest : List Token) → ts ≡ token w p ∷ rest → Ended ts → Calm rest
 after_operator w p ts rest e o =
     let h : Ended (token w p ∷ rest) = subst Ended e o in
-    (behind h.0 w, never_both (is_minus w) h.0.ends_operand h.1, h.2.1)
+    (following h.0 w, never_both (is_minus w) h.0.ends_operand h.1, h.2.1)
 
 after_mark : (s : Sign) (p : Place) (ts rest : List Token) → ts ≡ token (Mark s) p ∷ rest → Ok ts → Calm rest
-after_mark s p ts rest e o = let k : Ok (token (Mark s) p ∷ rest) = subst Ok e o in (behind k.0 (Mark s), refl, k.1.1)
+after_mark s p ts rest e o = let k : Ok (token (Mark s) p ∷ rest) = subst Ok e o in (following k.0 (Mark s), refl, k.1.1)
 
 after_sign : (s : Sign) (ts rest : List Token) → Sees s ts rest → Ok ts → Calm rest
 after_sign s ts rest h o = after_mark s h.0 ts rest h.1 o
@@ -139,8 +139,8 @@ literal_fits ts v p rest (inl h) c =
     subst (λ v. FitsSigned w64 v) (sym h.2) (fits_above (value_of h.0) (subst (λ b. value_of h.0 ≤ limit b) k.1 few))
 literal_fits ts v p rest (inr h) c =
     let k : Calm (token (Operate O.Subtract) p ∷ token (Number h.0) h.1 ∷ rest) = subst Calm h.2 c in
-    let few : value_of h.0 ≤ limit (behind k.0 (Operate O.Subtract)).is_sign = k.2.1.0 h.0 refl in
-    subst (λ v. FitsSigned w64 v) (sym h.3) (fits_below (value_of h.0) (within_limit (behind k.0 (Operate O.Subtract)).is_sign (value_of h.0) few))
+    let few : value_of h.0 ≤ limit (following k.0 (Operate O.Subtract)).is_sign = k.2.1.0 h.0 refl in
+    subst (λ v. FitsSigned w64 v) (sym h.3) (fits_below (value_of h.0) (within_limit (following k.0 (Operate O.Subtract)).is_sign (value_of h.0) few))
 
 mutual
   pattern_past : (ts : List Token) (q : T.Pattern) (rest : List Token) → Pattern' ts q rest → Ok ts → Ok rest
@@ -378,9 +378,9 @@ program_ok ts (d ∷ ds) h o =
 
 -- ---- E04 is not broken
 
-seen_one : (b : Seen) (xs : List Token) (t : Token) → seen_from b (xs ++ t ∷ []) ≡ behind (seen_from b xs) t.word
+seen_one : (b : Seen) (xs : List Token) (t : Token) → seen_from b (xs ++ t ∷ []) ≡ following (seen_from b xs) t.word
 seen_one b [] t = refl
-seen_one b (x ∷ xs) t = seen_one (behind b x.word) xs t
+seen_one b (x ∷ xs) t = seen_one (following b x.word) xs t
 
 module _ (all : List Token) (unbroken : (r : Rule) (t : ℕ) → Breaks all r t → ⊥) where
   keeps_at : (done : List Token) (t : Token) (rest : List Token) → done ++ t ∷ rest ≡ all → (ds : List ℕ) → t.word ≡ Number ds → value_of ds ≤ limit (seen_from nothing_seen done).is_sign

@@ -1,4 +1,4 @@
-// The laws of sources that are accepted. Each is the contract of a function that does nothing.
+// The theorems of sources that are accepted. Each is the contract of a function that does nothing.
 ghost use Rattle.std.specs.Prelude.{◌≡◌, ◌≤◌, ℕ, List, Some, slice_get};
 ghost use Rattle.in_place_safety.specs.fip_base.declared.plain.Stack.{Stack};
 ghost use Rattle.in_place_safety.specs.fip_language.declared.FunKind.TheVariants.{Fip};
@@ -16,19 +16,19 @@ ghost use Rattle.specialisation_correctness.specs.source_report.Report.{IsTyped,
 /// The numbers of a typed program mean something: its literals have 64 bits, each constructor is one of its type's, and
 /// each call is of an instance. For who evaluates it.
 pub fn typed_programs_are_formed()
-    ensures law { (source : List ℕ) (program : Program) → IsTyped source program → IsFormed program }
+    ensures theorem { (source : List ℕ) (program : Program) → IsTyped source program → IsFormed program }
 {}
 
 /// A program that typing and coverage accept is well typed: each of its matches has a clause for each value. For who
 /// joins the checks.
 pub fn matched_programs_are_well_typed()
-    ensures law { (source : List ℕ) (program : Program) → IsMatched source program → IsWellTyped program }
+    ensures theorem { (source : List ℕ) (program : Program) → IsMatched source program → IsWellTyped program }
 {}
 
 /// An instance of a program that typing and coverage accept, on values of its parameters' types, gives values of its
 /// results' types, or ends in a trap, out of calls or of frames: it never gets stuck. For who runs any instance.
 pub fn matched_programs_do_not_get_stuck()
-    ensures law { (source : List ℕ) (program : Program) (i : ℕ) (f : Instance) (arguments : Values) (calls frames : ℕ) →
+    ensures theorem { (source : List ℕ) (program : Program) (i : ℕ) (f : Instance) (arguments : Values) (calls frames : ℕ) →
         IsMatched source program → slice_get program.instances i ≡ Some f →
         HaveTypes program.types (parameter_types f) arguments →
         IsSoundAnswer program.types f.results (flat_meaning program i arguments calls frames).answer }
@@ -36,7 +36,7 @@ pub fn matched_programs_do_not_get_stuck()
 
 /// A program that breaks no rule on types, coverage, ownership and credits passes all checks. For who joins the checks.
 pub fn credited_programs_are_checked()
-    ensures law { (source : List ℕ) (program : Program) (members : List Member) → IsCredited source program →
+    ensures theorem { (source : List ℕ) (program : Program) (members : List Member) → IsCredited source program →
         AreMembers program.instances members → IsChecked program members }
 {}
 
@@ -45,7 +45,7 @@ pub fn credited_programs_are_checked()
 /// given, or ends in a trap or out of calls; it is never stuck, and its stack stays within its number. For who runs it
 /// where there is no allocator.
 pub fn accepted_sources_run_in_place()
-    ensures law { (source : List ℕ) (program : Program) (members : List Member) (i : ℕ) (f : Instance) (m : Member)
+    ensures theorem { (source : List ℕ) (program : Program) (members : List Member) (i : ℕ) (f : Instance) (m : Member)
         (s : Stack) (arguments : Values) (calls frames : ℕ) →
         IsAccepted source program →
         AreMembers program.instances members → slice_get program.instances i ≡ Some f →
@@ -58,7 +58,7 @@ pub fn accepted_sources_run_in_place()
 
 /// In the program of an accepted source each fip instance has a stack number. For who reserves its stack.
 pub fn fip_instances_have_a_stack()
-    ensures law { (source : List ℕ) (program : Program) (members : List Member) (i : ℕ) (f : Instance) →
+    ensures theorem { (source : List ℕ) (program : Program) (members : List Member) (i : ℕ) (f : Instance) →
         IsAccepted source program → AreMembers program.instances members →
         slice_get program.instances i ≡ Some f → f.kind ≡ Fip →
         (m : Member) × (s : Stack) × (slice_get members i ≡ Some m) × (m.stack ≡ Some s) }

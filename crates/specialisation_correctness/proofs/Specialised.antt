@@ -80,17 +80,17 @@ module _ (core : Core) (declared : IsDeclared core) where
       none_of_each (function_faults (declared_names core)) core.functions
       (none_right data_part function_part (none_right (name_faults core) (data_part ++ function_part) unbroken_core)) f (at_among core.functions j f e)
 
-  behind_credits : (j : ℕ) (f : Function) → slice_get core.functions j ≡ Some f → repeats [] (static_mentions f.statics) ++ (repeats [] (parameter_mentions f.parameters) ++ (header_faults (function_scope (declared_names core) f) f ++ block_faults (function_scope (declared_names core) f) f.body)) ≡ []
-  behind_credits j f e = none_right (credit_faults f.credits) _ (function_unbroken j f e)
+  after_credits : (j : ℕ) (f : Function) → slice_get core.functions j ≡ Some f → repeats [] (static_mentions f.statics) ++ (repeats [] (parameter_mentions f.parameters) ++ (header_faults (function_scope (declared_names core) f) f ++ block_faults (function_scope (declared_names core) f) f.body)) ≡ []
+  after_credits j f e = none_right (credit_faults f.credits) _ (function_unbroken j f e)
 
   statics_once : (j : ℕ) (f : Function) → slice_get core.functions j ≡ Some f → repeats [] (static_mentions f.statics) ≡ []
-  statics_once j f e = none_left (repeats [] (static_mentions f.statics)) _ (behind_credits j f e)
+  statics_once j f e = none_left (repeats [] (static_mentions f.statics)) _ (after_credits j f e)
 
   body_unbroken : (j : ℕ) (f : Function) → slice_get core.functions j ≡ Some f → block_faults (function_scope (declared_names core) f) f.body ≡ []
   body_unbroken j f e =
       let hs = header_faults (function_scope (declared_names core) f) f in
       let bs = block_faults (function_scope (declared_names core) f) f.body in
-      none_right hs bs (none_right (repeats [] (parameter_mentions f.parameters)) (hs ++ bs) (none_right (repeats [] (static_mentions f.statics)) (repeats [] (parameter_mentions f.parameters) ++ (hs ++ bs)) (behind_credits j f e)))
+      none_right hs bs (none_right (repeats [] (parameter_mentions f.parameters)) (hs ++ bs) (none_right (repeats [] (static_mentions f.statics)) (repeats [] (parameter_mentions f.parameters) ++ (hs ++ bs)) (after_credits j f e)))
 
   same_constructors : (declared_names core).constructors ≡ (written_names core).constructors
   same_constructors = ap (λ (n : Names). n.constructors) (all_declared core unbroken_core)

@@ -1,4 +1,4 @@
-// The laws on what a typed program means. Each is the contract of a function that does nothing.
+// The theorems on what a typed program means. Each is the contract of a function that does nothing.
 ghost use Rattle.std.specs.Prelude.{◌≡◌, ℕ, List, [], Some, slice_get, true};
 ghost use Rattle.source_report.specs.fip_language.Core.{Function, Core};
 ghost use Rattle.source_report.specs.fip_language.Meaning.{meaning};

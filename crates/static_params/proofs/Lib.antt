@@ -4,7 +4,7 @@ pub mod FlatViews
 pub mod Making
 pub mod Tabling
 pub mod Specialising
-pub mod AnswerLaws
+pub mod AnswerTheorems
 pub mod Meanings
 pub mod GoodTypes
 pub mod GoodInstances

@@ -25,7 +25,7 @@ number_at bs i xs s h w =
     ap (λ n. cond (nat_lt n (length xs)) (Some n) None) (prefix_at bs i xs s h w)
     ∙ ap (λ m. cond (nat_lt (position_or_len (same_closed (tree_at (trees bs) i)) (all_at (trees bs) xs)) m) (Some (position_or_len (same_closed (tree_at (trees bs) i)) (all_at (trees bs) xs))) None) (sym (map_length (λ (j : ℕ). tree_at (trees bs) j) xs))
 
--- others came behind
+-- others came after
 pub number_grown : (bs cs : List Branch) (i : ℕ) (xs : List ℕ) (c : Closed) → AreShared cs → Grows bs cs → AreWithin bs xs → i < length cs + 1 → tree_at (trees cs) i ≡ c → position (nat_eq i) xs ≡ number_in (all_at (trees bs) xs) c
 number_grown bs cs i xs c s g w h e =
     number_at cs i xs s h (within_more bs cs xs g w)
@@ -46,7 +46,7 @@ numbers_more ns k l g a = record {
   few_types = a.few_types;
 }
 
--- what is made stays where others come behind
+-- what is made stays where others come after
 pub making_more : (s : D.Source) (ns : N.Numbers) (here : Here) (k l : Kept) → Grows k.branches l.branches → IsRight s l → IsMakingOf s ns here k → IsMakingOf s ns here l
 making_more s ns here k l g r m = record {
   right = r;

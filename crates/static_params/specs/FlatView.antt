@@ -80,7 +80,7 @@ pub record IsMakingOf (s : D.Source) (ns : N.Numbers) (here : Here) (k : Kept) :
 abbrev pub IsMaking : Flattening → Type 0
 IsMaking f = IsMakingOf f.source.now f.numbers.now f.here f.shared
 
--- other trees came behind, which changes nothing of what is made
+-- other trees came after, which changes nothing of what is made
 pub record Stays (f g : Flattening) : Type 0 where
   pub ready : IsMaking g
   pub grows : Grows f.shared.branches g.shared.branches

@@ -346,7 +346,7 @@ fn instances_of(
     Ok(instances)
 }
 
-// Puts the instances of the functions at these places behind the others.
+// Puts the instances of the functions at these places after the others.
 fn put_instances(
     flattening: &mut Flattening<'_, '_, '_>,
     places: &[usize],
@@ -363,7 +363,7 @@ fn put_instances(
     Ok(())
 }
 
-// Puts the instance of the function at a place behind the others.
+// Puts the instance of the function at a place after the others.
 fn put_instance(
     flattening: &mut Flattening<'_, '_, '_>,
     place: usize,
@@ -384,7 +384,7 @@ fn put_instance(
     }
 }
 
-// Puts the instance that is made behind the others.
+// Puts the instance that is made after the others.
 fn put_found(
     flattening: &mut Flattening<'_, '_, '_>,
     instances: &mut Vec<Instance>,

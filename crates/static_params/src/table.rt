@@ -186,7 +186,7 @@ fn put_declaring(
     }
 }
 
-// Puts a number behind the others where it has a data type.
+// Puts a number after the others where it has a data type.
 fn put_number(
     source: &Source<'_, '_>,
     number: u32,

@@ -1,5 +1,5 @@
 // What the definitions say of every program: it has one list of instances and one of types, and is either accepted,
-// with one tree, or refused. Each law is the contract of a function that does nothing.
+// with one tree, or refused. Each theorem is the contract of a function that does nothing.
 ghost use Rattle.std.specs.Prelude.{◌≡◌, List};
 ghost use Rattle.fip_trees.specs.declared.least.Violation.{Violation};
 ghost use Rattle.fip_trees.specs.declared.program.Program.{Program};

@@ -1,6 +1,6 @@
 -- Trees are gone into one after another, and each cell of them is met once.
 -- Idea: what is ahead is a list of trees whose cells are known; each turn takes the first and puts those of its fields
--- behind the others, so that what was seen and what is ahead have together the cells that were ahead at first.
+-- after the others, so that what was seen and what is ahead have together the cells that were ahead at first.
 use Rattle.std.proofs.Common.{◌≡◌, ◌≢◌, ◌∙◌, ◌≤◌, ◌<◌, ◌+◌, ◌/◌, ◌%◌, ℕ, zero, suc, List, [], ◌∷◌, ◌++◌, length, take, get_or, Option, Some, None, append_assoc, append-nil, length-append, refl, sym, ap, ap₂, subst, arith}
 use Rattle.std.specs.Prelude.{slice_get, ◌*◌}
 use Rattle.std.proofs.lemmas.Option.{none-some}
@@ -14,7 +14,7 @@ use Rattle.store_trees.specs.Added.{root_of, places_of, Adds}
 use Rattle.store_trees.specs.Walked.{with_root, roots_of, Ahead, IsAhead, root, roots, AllStand, uses_ahead, cells_ahead, AreAhead, AddsAll}
 use Rattle.fip_base.proofs.fip_language.Facts.{take_whole as take_all}
 
--- ---- trees ahead, one list behind another
+-- ---- trees ahead, one list after another
 
 roots_join : (as' bs : List Ahead) → roots (as' ++ bs) ≡ roots as' ++ roots bs
 roots_join [] bs = refl
@@ -170,11 +170,11 @@ walking_on tb cs front first next list longer t w n e =
     let all = subst (AllStand tb cs) n.are w.stand in
     let h = heads tb cs a.fields a.parts all.0.stand in
     let before : list ≡ front ++ (w.seen ++ root a ∷ roots n.rest) = w.are ∙ ap (λ l. front ++ (w.seen ++ roots l)) n.are in
-    let behind : roots n.rest ++ roots_of a.fields a.parts ≡ roots (n.rest ++ h.list) = ap (λ ts. roots n.rest ++ ts) (sym h.are) ∙ sym (roots_join n.rest h.list) in
+    let following : roots n.rest ++ roots_of a.fields a.parts ≡ roots (n.rest ++ h.list) = ap (λ ts. roots n.rest ++ ts) (sym h.are) ∙ sym (roots_join n.rest h.list) in
     record {
       seen = w.seen ++ root a ∷ [];
       ahead = n.rest ++ h.list;
-      are = e ∙ ap (λ l. l ++ roots_of a.fields a.parts) before ∙ regroup front w.seen (root a) (roots n.rest) (roots_of a.fields a.parts) ∙ ap (λ ts. front ++ ((w.seen ++ root a ∷ []) ++ ts)) behind;
+      are = e ∙ ap (λ l. l ++ roots_of a.fields a.parts) before ∙ regroup front w.seen (root a) (roots n.rest) (roots_of a.fields a.parts) ∙ ap (λ ts. front ++ ((w.seen ++ root a ∷ []) ++ ts)) following;
       at = (let s = w.at in let l = length-append w.seen (root a ∷ []) in omega (arith, s, l));
       stand = stand_join tb cs n.rest h.list all.1 h.stand;
       same = λ q. (
@@ -268,8 +268,8 @@ odd_root tb cs ty w x z e h q = let o = odd_cell tb cs ty w x z e h q in record 
 pub no_fields_past : (tb : Table) (ty c : ℕ) (s : Shape) → length tb < ty → slice_get (constructors tb ty) c ≡ Some s → ⊥
 no_fields_past tb ty c s lt e = none-some s (sym (past_types tb ty c lt) ∙ e)
 
-pub no_fields_behind : (ss : List Shape) (c : ℕ) (s : Shape) → length ss ≤ c → slice_get ss c ≡ Some s → ⊥
-no_fields_behind ss c s le e = none-some s (sym (past_is ss c le) ∙ e)
+pub no_fields_after : (ss : List Shape) (c : ℕ) (s : Shape) → length ss ≤ c → slice_get ss c ≡ Some s → ⊥
+no_fields_after ss c s le e = none-some s (sym (past_is ss c le) ∙ e)
 
 pub fields_there : (ss : List Shape) (c : ℕ) (r s : Shape) → c < length ss → r ≡ get_or ss c r → slice_get ss c ≡ Some s → r.fields ≡ s.fields
 fields_there ss c r s lt is e = let z : Some r ≡ Some s = sym (index_is ss c r lt is) ∙ e in let y : r ≡ s = cc in ap (λ (x : Shape). x.fields) y

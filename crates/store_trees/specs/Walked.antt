@@ -59,7 +59,7 @@ pub record AreAhead (tb : Table) (cs : Cells) (front : List Tree) (ahead : List 
   pub at : start ≡ length front
   pub stand : AllStand tb cs ahead
 
--- behind the front there is a tree for each of their cells
+-- after the front there is a tree for each of their cells
 pub record AddsAll (front list : List Tree) (ahead : List Ahead) : Type 0 where
   pub added : List Tree
   pub are : list ≡ front ++ added

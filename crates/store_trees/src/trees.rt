@@ -94,7 +94,7 @@ fn tree_at(list: &[Tree], i: usize) -> Option<Tree>
     list.get(i).copied()
 }
 
-/// Some trees of a store, those of a cell's fields behind the cell's own.
+/// Some trees of a store, those of a cell's fields after the cell's own.
 #[derive(Drop)]
 pub struct Trees {
     list: Vec<Tree>,

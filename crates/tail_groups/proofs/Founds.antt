@@ -15,7 +15,7 @@ use Rattle.tail_groups.specs.declared.check.Counted.{Counted}
 use Rattle.tail_groups.specs.Found.{counted, frame_by, member, members_from, AreFound}
 use Rattle.tail_groups.specs.Members.{frame, FipCallsFip, stack, AreMembers}
 use Rattle.tail_groups.specs.Registers.{registers}
-use Rattle.tail_groups.specs.Rules.{is_fip, told, Violates}
+use Rattle.tail_groups.specs.Rules.{is_fip, reported, Violates}
 use Rattle.tail_groups.specs.Sites.{Site, called, instance_sites, instance_calls, call_rows}
 use Rattle.fip_language.proofs.Facts.{false_of_not as no_tail, get_map as map_at, get_of_map as at_map, if_some_true as fip_frame, last_length as length_one, map_length}
 
@@ -41,9 +41,9 @@ member_at p ss n (c ∷ cs) (suc i) m h =
     let e : suc n + i ≡ n + suc i = omega arith in
     (r.0, r.1, r.2 ∙ ap (λ k. member p ss k r.0) e)
 
-get_behind : {A : Type 0} (pre : List A) (x d : A) (xs : List A) → get_or (pre ++ x ∷ xs) (length pre) d ≡ x
-get_behind [] x d xs = refl
-get_behind (y ∷ pre) x d xs = get_behind pre x d xs
+get_after : {A : Type 0} (pre : List A) (x d : A) (xs : List A) → get_or (pre ++ x ∷ xs) (length pre) d ≡ x
+get_after [] x d xs = refl
+get_after (y ∷ pre) x d xs = get_after pre x d xs
 
 append_one : {A : Type 0} (pre : List A) (x : A) (xs : List A) → (pre ++ x ∷ []) ++ xs ≡ pre ++ x ∷ xs
 append_one [] x xs = refl
@@ -56,7 +56,7 @@ stacks_from p pre [] (c ∷ cs) e = absurd (omega (arith, e))
 stacks_from p pre (s ∷ ss) [] e = absurd (omega (arith, e))
 stacks_from p pre (s ∷ ss) (c ∷ cs) e =
     let rest : map stack (members_from p ((pre ++ s ∷ []) ++ ss) (length (pre ++ s ∷ [])) cs) ≡ ss = stacks_from p (pre ++ s ∷ []) ss cs (omega (arith, e)) in
-    let first : get_or (pre ++ s ∷ ss) (length pre) None ≡ s = get_behind pre s None ss in
+    let first : get_or (pre ++ s ∷ ss) (length pre) None ≡ s = get_after pre s None ss in
     ap (λ z. z ∷ map stack (members_from p (pre ++ s ∷ ss) (suc (length pre)) cs)) first
     ∙ ap (λ zs. s ∷ zs)
     (ap (λ xs. map stack (members_from p xs (suc (length pre)) cs)) (sym (append_one pre s ss))
@@ -109,7 +109,7 @@ module _ (p : Program) (g : Partition) (right : IsPartition (call_rows p.instanc
       let d = framed p.instances f h.0 in
       let s = site_of p.instances f b true d.0 d.1 h.1 in
       let same : group_number g f ≡ group_number g s.0.callee = subst (λ c. group_number g f ≡ group_number g c) (same_callee b true s.0 s.2) e in
-      none (told f s.0) (f, d.0, s.0, record { instance = d.1; fip = d.2; call = s.1; waits = no_tail s.0.is_tail (same_waits b true s.0 s.2); together = (right.same f s.0.callee).0 same }, refl)
+      none (reported f s.0) (f, d.0, s.0, record { instance = d.1; fip = d.2; call = s.1; waits = no_tail s.0.is_tail (same_waits b true s.0 s.2); together = (right.same f s.0.callee).0 same }, refl)
 
   asked : AreAsked (call_rows p.instances) g (map frame p.instances)
   asked = record {

@@ -13,7 +13,7 @@ use Rattle.call_groups.specs.CallGraph.{In, group_number, IsPartition}
 use Rattle.call_groups.specs.declared.search.Partition.{Partition}
 use Rattle.tail_groups.proofs.Shared.{block_same}
 use Rattle.tail_groups.specs.Sites.{Site, instance_sites, call_rows}
-use Rattle.tail_groups.specs.Rules.{is_fip, told, Violates}
+use Rattle.tail_groups.specs.Rules.{is_fip, reported, Violates}
 use Rattle.tail_groups.specs.Notes.{site_notes, notes, instance_notes, all_notes, IsNoted}
 use Rattle.fip_language.proofs.Facts.{equal_true as yes_same, same_number as same_yes}
 
@@ -30,23 +30,23 @@ by_site false true w h g = inl refl
 by_site false false w h g = absurd (cc)
 
 -- some calls
-notes_in : (p : Partition) (i : ℕ) (ss : List Site) (v : Violation) → L.In v (notes p i ss) → (s : Site) × In s ss × (s.is_tail ≡ false) × (group_number p s.callee ≡ group_number p i) × (v ≡ told i s)
+notes_in : (p : Partition) (i : ℕ) (ss : List Site) (v : Violation) → L.In v (notes p i ss) → (s : Site) × In s ss × (s.is_tail ≡ false) × (group_number p s.callee ≡ group_number p i) × (v ≡ reported i s)
 notes_in p i [] v h = absurd h
 notes_in p i (s ∷ ss) v h = elim (in_either v (site_notes p i s) (notes p i ss) h) [
   | inl g ↦
-      let r = site_by s.is_tail (group_number p s.callee == group_number p i) v (told i s) g in
+      let r = site_by s.is_tail (group_number p s.callee == group_number p i) v (reported i s) g in
       (s, (0, refl), r.0, same_yes (group_number p s.callee) (group_number p i) r.1, r.2)
   | inr g ↦ let r = notes_in p i ss v g in (r.0, (suc r.1.0, r.1.1), r.2, r.3, r.4)
 ]
 
-in_notes : (p : Partition) (i : ℕ) (ss : List Site) (j : ℕ) (s : Site) → slice_get ss j ≡ Some s → s.is_tail ≡ false → group_number p s.callee ≡ group_number p i → L.In (told i s) (notes p i ss)
+in_notes : (p : Partition) (i : ℕ) (ss : List Site) (j : ℕ) (s : Site) → slice_get ss j ≡ Some s → s.is_tail ≡ false → group_number p s.callee ≡ group_number p i → L.In (reported i s) (notes p i ss)
 in_notes p i [] j s h t g = absurd (none-some s h)
 in_notes p i (x ∷ ss) zero s h t g =
     let same : x ≡ s = same_Some x s h in
-    in_left (told i s) (site_notes p i x) (notes p i ss)
-    (subst (λ y. L.In (told i s) (site_notes p i y)) (sym same)
-    (by_site s.is_tail (group_number p s.callee == group_number p i) (told i s) t (yes_same (group_number p s.callee) (group_number p i) g)))
-in_notes p i (x ∷ ss) (suc j) s h t g = in_right (told i s) (site_notes p i x) (notes p i ss) (in_notes p i ss j s h t g)
+    in_left (reported i s) (site_notes p i x) (notes p i ss)
+    (subst (λ y. L.In (reported i s) (site_notes p i y)) (sym same)
+    (by_site s.is_tail (group_number p s.callee == group_number p i) (reported i s) t (yes_same (group_number p s.callee) (group_number p i) g)))
+in_notes p i (x ∷ ss) (suc j) s h t g = in_right (reported i s) (site_notes p i x) (notes p i ss) (in_notes p i ss j s h t g)
 
 -- one instance
 instance_by : (fip : Bool) (p : Partition) (i : ℕ) (ss : List Site) (v : Violation) → L.In v (if fip then notes p i ss else []) → (fip ≡ true) × L.In v (notes p i ss)
@@ -84,10 +84,10 @@ module _ (p : Program) (g : Partition) (right : IsPartition (call_rows p.instanc
   violates_in v h =
       let w = h.3 in
       let at : 0 + h.0 ≡ h.0 = omega arith in
-      let one : L.In (told h.0 h.2) (notes g h.0 (instance_sites h.1)) = in_notes g h.0 (instance_sites h.1) w.call.0 h.2 w.call.1 w.waits (sym ((right.same h.0 h.2.callee).1 w.together)) in
-      let all : L.In (told h.0 h.2) (instance_notes g h.0 h.1) = subst (λ ns. L.In (told h.0 h.2) ns) (sym (same_notes g h.0 h.1)) (by_instance (is_fip h.1.kind) g h.0 (instance_sites h.1) (told h.0 h.2) w.fip one) in
+      let one : L.In (reported h.0 h.2) (notes g h.0 (instance_sites h.1)) = in_notes g h.0 (instance_sites h.1) w.call.0 h.2 w.call.1 w.waits (sym ((right.same h.0 h.2.callee).1 w.together)) in
+      let all : L.In (reported h.0 h.2) (instance_notes g h.0 h.1) = subst (λ ns. L.In (reported h.0 h.2) ns) (sym (same_notes g h.0 h.1)) (by_instance (is_fip h.1.kind) g h.0 (instance_sites h.1) (reported h.0 h.2) w.fip one) in
       subst (λ u. L.In u (all_notes g 0 p.instances)) (sym h.4)
-      (in_all g 0 p.instances (told h.0 h.2) h.0 h.1 w.instance (subst (λ k. L.In (told h.0 h.2) (instance_notes g k h.1)) (sym at) all))
+      (in_all g 0 p.instances (reported h.0 h.2) h.0 h.1 w.instance (subst (λ k. L.In (reported h.0 h.2) (instance_notes g k h.1)) (sym at) all))
 
   in_violates : (v : Violation) → L.In v (all_notes g 0 p.instances) → Violates p v
   in_violates v h =

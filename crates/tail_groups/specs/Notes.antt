@@ -8,10 +8,10 @@ use Rattle.fip_trees.specs.Tree.{Clauses, NoClauses, MoreClauses, Instance}
 use Rattle.call_groups.specs.CallGraph.{group_number, IsPartition}
 use Rattle.call_groups.specs.declared.search.Partition.{Partition}
 use Rattle.tail_groups.specs.Sites.{Site, site, call_rows}
-use Rattle.tail_groups.specs.Rules.{is_fip, told}
+use Rattle.tail_groups.specs.Rules.{is_fip, reported}
 
 abbrev pub site_notes : Partition → ℕ → Site → List Violation
-site_notes p i s = if not s.is_tail && (group_number p s.callee == group_number p i) then told i s ∷ [] else []
+site_notes p i s = if not s.is_tail && (group_number p s.callee == group_number p i) then reported i s ∷ [] else []
 
 abbrev pub notes : Partition → ℕ → List Site → List Violation
 notes p i [] = []

@@ -22,11 +22,11 @@ pub record WaitsForItsGroup (p : Program) (i : ℕ) (d : Instance) (s : Site) : 
   pub together : SameGroup (call_rows p.instances) i s.callee
 
 -- the violation that it is: at the call, naming what is called
-abbrev pub told : ℕ → Site → Violation
-told i s = violation E59 s.place i 0 s.name
+abbrev pub reported : ℕ → Site → Violation
+reported i s = violation E59 s.place i 0 s.name
 
 abbrev pub Violates : Program → Violation → Type 0
-Violates p v = (i : ℕ) × (d : Instance) × (s : Site) × WaitsForItsGroup p i d s × (v ≡ told i s)
+Violates p v = (i : ℕ) × (d : Instance) × (s : Site) × WaitsForItsGroup p i d s × (v ≡ reported i s)
 
 -- a refusal names the least violation
 abbrev pub Says : Program → PhaseError → Type 0

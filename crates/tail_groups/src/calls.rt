@@ -8,7 +8,7 @@ use call_groups::Call;
 use fip_base::plain::NoMemory;
 use fip_trees::program::{Block, Clause, Expression};
 
-/// Puts the calls of a block behind others.
+/// Puts the calls of a block after others.
 #[cycle(block)]
 #[tactic(auto, using(crate::proofs::Shared::calling))]
 pub fn add_block(calls: &mut Vec<Call>, is_tail: bool, block: &Block) -> Result<(), NoMemory>

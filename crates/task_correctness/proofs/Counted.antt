@@ -110,15 +110,15 @@ further p j q h = omega (arith, h)
 here : (p : ℕ) → p ≡ p + 0
 here p = omega arith
 
-behind : (p : ℕ) (o : Option Cell) (os : List (Option Cell)) (P : ℕ → Type 0) → Each p (o ∷ os) P → Each (suc p) os P
-behind p o os P h j q c e at = h (suc j) q c (further p j q e) at
+following : (p : ℕ) (o : Option Cell) (os : List (Option Cell)) (P : ℕ → Type 0) → Each p (o ∷ os) P → Each (suc p) os P
+following p o os P h j q c e at = h (suc j) q c (further p j q e) at
 
 among_sums : (k n : ℕ) (f : Renaming) (s : Store) (p : ℕ) (os : List (Option Cell)) → Each p os (λ q. f q < n) → held_among_from k f s p os ≡ sums n (λ q. times (renamed_to f p os q) (held_at k s q))
 among_sums k n f s p [] h = sym (no_sums n (λ q. times 0 (held_at k s q)) (λ q. times_none 0 (held_at k s q) refl))
-among_sums k n f s p (None ∷ os) h = among_sums k n f s (suc p) os (behind p None os (λ q. f q < n) h)
+among_sums k n f s p (None ∷ os) h = among_sums k n f s (suc p) os (following p None os (λ q. f q < n) h)
 among_sums k n f s p (Some c ∷ os) h =
     let first = pick n (f p) (held_at k s) (h 0 p c (here p) refl) in
-    let rest = among_sums k n f s (suc p) os (behind p (Some c) os (λ q. f q < n) h) in
+    let rest = among_sums k n f s (suc p) os (following p (Some c) os (λ q. f q < n) h) in
     let both = add_sums n (λ q. times (one_at q (f p)) (held_at k s q)) (λ q. times (renamed_to f (suc p) os q) (held_at k s q)) in
     let same = same_sums n (λ q. times (one_at q (f p) + renamed_to f (suc p) os q) (held_at k s q)) (λ q. times (one_at q (f p)) (held_at k s q) + times (renamed_to f (suc p) os q) (held_at k s q)) (λ q. times_add (one_at q (f p)) (renamed_to f (suc p) os q) (held_at k s q)) in
     omega (arith, first, rest, both, same)
@@ -127,22 +127,22 @@ among_sums k n f s p (Some c ∷ os) h =
 
 none_to : (f : Renaming) (p : ℕ) (os : List (Option Cell)) (q : ℕ) → Each p os (λ r. f r ≢ q) → renamed_to f p os q ≡ 0
 none_to f p [] q h = refl
-none_to f p (None ∷ os) q h = none_to f (suc p) os q (behind p None os (λ r. f r ≢ q) h)
+none_to f p (None ∷ os) q h = none_to f (suc p) os q (following p None os (λ r. f r ≢ q) h)
 none_to f p (Some c ∷ os) q h =
     let first = one_apart q (f p) (λ e. h 0 p c (here p) refl (sym e)) in
-    let rest = none_to f (suc p) os q (behind p (Some c) os (λ r. f r ≢ q) h) in
+    let rest = none_to f (suc p) os q (following p (Some c) os (λ r. f r ≢ q) h) in
     omega (arith, first, rest)
 
 -- it rises
 abbrev Rises : Renaming → ℕ → List (Option Cell) → Type 0
 Rises f p os = (i j q r : ℕ) (c d : Cell) → q ≡ p + i → r ≡ p + j → cell_in os i ≡ Some c → cell_in os j ≡ Some d → q < r → f q < f r
 
-rises_behind : (f : Renaming) (p : ℕ) (o : Option Cell) (os : List (Option Cell)) → Rises f p (o ∷ os) → Rises f (suc p) os
-rises_behind f p o os h i j q r c d a b x y less = h (suc i) (suc j) q r c d (further p i q a) (further p j r b) x y less
+rises_after : (f : Renaming) (p : ℕ) (o : Option Cell) (os : List (Option Cell)) → Rises f p (o ∷ os) → Rises f (suc p) os
+rises_after f p o os h i j q r c d a b x y less = h (suc i) (suc j) q r c d (further p i q a) (further p j r b) x y less
 
 one_to : (f : Renaming) (p : ℕ) (os : List (Option Cell)) (q : ℕ) → Rises f p os → renamed_to f p os q ≤ 1
 one_to f p [] q h = omega arith
-one_to f p (None ∷ os) q h = one_to f (suc p) os q (rises_behind f p None os h)
+one_to f p (None ∷ os) q h = one_to f (suc p) os q (rises_after f p None os h)
 one_to f p (Some c ∷ os) q h = elim (same_place q (f p)) [
   | inl e ↦ (
       let first = one_here q (f p) e in
@@ -153,7 +153,7 @@ one_to f p (Some c ∷ os) q h = elim (same_place q (f p)) [
       omega (arith, first, rest))
   | inr n ↦ (
       let first = one_apart q (f p) n in
-      let rest = one_to f (suc p) os q (rises_behind f p (Some c) os h) in
+      let rest = one_to f (suc p) os q (rises_after f p (Some c) os h) in
       omega (arith, first, rest))
 ]
 

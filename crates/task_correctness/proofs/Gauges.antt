@@ -22,7 +22,7 @@ use Rattle.machine_correctness.proofs.separation.Stores.{same_place}
 use Rattle.machine_correctness.proofs.separation_kinds.Agree.{one_here, one_apart}
 use Rattle.fip_tasks.specs.code_verify.Checked.{Checked}
 use Rattle.fip_tasks.specs.fip_machine.declared.gauge.Gauge.{Gauge}
-use Rattle.fip_tasks.specs.fip_machine.GaugeView.{Tells}
+use Rattle.fip_tasks.specs.fip_machine.GaugeView.{Reports}
 use Rattle.fip_tasks.specs.task_semantics.Schedules.{Shared, turn, turned, settled, scheduled, alone, in_store}
 use Rattle.fip_tasks.specs.task_semantics.Projected.{Renaming, AreRenamed, Begun, BeginTogether, AreLoaded, IsSameRun, IsSeenAs}
 use Rattle.fip_tasks.proofs.task_semantics.RunsAlike.{RunGoes, later_alike}
@@ -63,14 +63,14 @@ module _ (before waits : Kinds) (c : PlainCode) (tasks : List Begun) (first : Sh
   abbrev code : R.PlainCode
   code = run_code c
 
-  -- the runs behind some turns
+  -- the runs after some turns
   abbrev at : List ℕ → Shared
   at ks = scheduled before code ks first
 
   at_more : (ks : List ℕ) (j : ℕ) → at (ks ++ j ∷ []) ≡ turn before code (at ks) j
   at_more ks j = goes_on before code ks (j ∷ []) first
 
-  -- a task alone behind them
+  -- a task alone after them
   abbrev alone_at : List ℕ → ℕ → Begun → Run
   alone_at ks k b = alone before code k ks (begun b.state b.calls)
 
@@ -93,7 +93,7 @@ module _ (before waits : Kinds) (c : PlainCode) (tasks : List Begun) (first : Sh
   goes ks j b r store is on =
       let start : IsStart c before waits b.function [] b.state = loaded j b is in
       later_alike before waits c b.function b.places [] (alone_at ks j b) (in_store (at ks).store r) start.sound start.literals start.kinds
-          (run_good c before waits b.function [] b.state b.calls (count j ks) start) (subst IsStore (sym (cells_in (at ks).store r)) store) (each_is_alone before waits c tasks first loaded together ks j b r is on)
+      (run_good c before waits b.function [] b.state b.calls (count j ks) start) (subst IsStore (sym (cells_in (at ks).store r)) store) (each_is_alone before waits c tasks first loaded together ks j b r is on)
 
   turn_at : (t : Shared) (j : ℕ) (r : Run) → slice_get t.runs j ≡ Some r → turn before code t j ≡ settled t j (later before code (in_store t.store r))
   turn_at t j r e = ap (turned before code t j) e
@@ -241,7 +241,7 @@ counted_alone before waits c tasks first schedule k b loaded together is = recor
   released = λ size some. lost before waits c tasks first loaded together k b is size some schedule [] together.store;
 }
 
-pub gauge_alone : (v : Checked) (before waits : Kinds) (tasks : List Begun) (first : Shared) (schedule : List ℕ) (turns : Turns) (k : ℕ) (b : Begun) (a : Standing) (g : Gauge) → AreLoaded before waits (plain v.code) tasks → BeginTogether before waits (run_code (plain v.code)) tasks first → HaveFollowed v before first schedule turns → slice_get tasks k ≡ Some b → slice_get turns.tasks k ≡ Some a → ((size : ℕ) → 1 ≤ size → size ≤ MOST_FIELDS → started_of a size ≡ count_held size b.state.store) → IsGaugeOf a g → Tells g (seen before (R.plain v.code) (count k schedule) (begun b.state b.calls))
+pub gauge_alone : (v : Checked) (before waits : Kinds) (tasks : List Begun) (first : Shared) (schedule : List ℕ) (turns : Turns) (k : ℕ) (b : Begun) (a : Standing) (g : Gauge) → AreLoaded before waits (plain v.code) tasks → BeginTogether before waits (run_code (plain v.code)) tasks first → HaveFollowed v before first schedule turns → slice_get tasks k ≡ Some b → slice_get turns.tasks k ≡ Some a → ((size : ℕ) → 1 ≤ size → size ≤ MOST_FIELDS → started_of a size ≡ count_held size b.state.store) → IsGaugeOf a g → Reports g (seen before (R.plain v.code) (count k schedule) (begun b.state b.calls))
 gauge_alone v before waits tasks first schedule turns k b a g loaded together followed is on starts gauge =
     let code = R.plain v.code in
     let r : Run = begun b.state b.calls in

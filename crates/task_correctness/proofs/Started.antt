@@ -1,4 +1,4 @@
--- Calls that are laid one behind another are started there: by recursion on their list.
+-- Calls that are laid one after another are started there: by recursion on their list.
 use Rattle.std.proofs.Common.{◌≡◌, ◌≤◌, ℕ, zero, suc, ◌+◌, List, [], ◌∷◌, Option, Some, None, refl, sym, ap, subst, ◌∙◌, length, map, length-append, arith}
 use Rattle.std.proofs.lemmas.List.{length-map}
 use Rattle.std.proofs.lemmas.Option.{none-some, same_Some, slice_get-map}
@@ -25,7 +25,7 @@ use Rattle.fip_tasks.specs.declared.task.Start.{Start}
 use Rattle.task_correctness.specs.Answered.{IsStartOf, AreStartsOf}
 use Rattle.machine_correctness.proofs.compiler_correctness.derivation_correctness.source_report.cell_lower.fip_language.Facts.{mapped_from as mapped}
 
--- a verified function, behind its plain form
+-- a verified function, after its plain form
 pub function_of : (c : Code) (n : ℕ) (f : PlainFunction) → function_at (plain c) n ≡ Some f → (g : Function) × (slice_get c.functions.items n ≡ Some g) × (plain_function g ≡ f)
 function_of c n f e = mapped plain_function (slice_get c.functions.items n) f (sym (slice_get-map plain_function c.functions.items n) ∙ e)
 

@@ -1,5 +1,5 @@
 -- After every schedule a loaded task can go on: its run is that of the task alone, which is never stuck and whose Drops
--- the verifier knows. That no instruction is one that can't be done is told by one turn more.
+-- the verifier knows. That no instruction is one that can't be done is reported by one turn more.
 use Rattle.std.proofs.Common.{◌≡◌, ℕ, suc, List, [], ◌∷◌, ◌++◌, Option, Some, None, refl, sym, ap, subst, ◌∙◌, length, replicate, length-set}
 use Rattle.std.specs.Prelude.{slice_get}
 use Rattle.fip_tasks.specs.fip_language.Store.{count}
@@ -49,7 +49,7 @@ never : (before waits : Kinds) (code : R.PlainCode) (n : ℕ) (f : Renaming) (a 
 never before waits code n f (Going s l m) u left steps h = h
 never before waits code n f (Over e s l m) u left steps h = no_end code n f s.store u.store e h.0
 
--- the run behind one turn more, whose instruction can't be done
+-- the run after one turn more, whose instruction can't be done
 stuck_next : (kinds : Kinds) (code : R.PlainCode) (t : Shared) (k : ℕ) (u : State) (left steps : ℕ) → slice_get t.runs k ≡ Some (Going u left steps) → next kinds code (record u { store = t.store }) ≡ Stuck → slice_get (turn kinds code t k).runs k ≡ Some (Over Unsound (record u { store = t.store }) left (suc steps))
 stuck_next kinds code t k u left steps at x =
     let here : State = record u { store = t.store } in

@@ -1,4 +1,4 @@
--- How tasks are started whose arguments are loaded, one behind another or anywhere, and what one of them has answered.
+-- How tasks are started whose arguments are loaded, one after another or anywhere, and what one of them has answered.
 --
 -- rev(Cons(1, Nil), Cons(3, Nil)) and rev(Cons(2, Nil), Cons(4, Nil)) have two cells each: the first is started with
 -- the words 1 and 7, the second with 13 and 19. The second has answered Value once it has the word 13 as its result,

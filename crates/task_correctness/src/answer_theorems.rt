@@ -1,4 +1,4 @@
-// The laws on tasks of an accepted source's code. Each is the contract of a function that does nothing.
+// The theorems on tasks of an accepted source's code. Each is the contract of a function that does nothing.
 ghost use Rattle.std.specs.Prelude.{◌≡◌, ◌<◌, ℕ, List, [], Some, length, slice_get};
 ghost use Rattle.fip_tasks.specs.fip_language.Core.{Core};
 ghost use Rattle.fip_tasks.specs.fip_language.Meaning.{meaning};
@@ -23,12 +23,12 @@ ghost use Rattle.fip_tasks.specs.Turns.{Standing, Turns};
 ghost use Rattle.machine_correctness.specs.Meant.{IsMeant};
 ghost use Rattle.machine_correctness.specs.Starts.{IsCodeOf};
 
-/// Where calls of functions of an accepted source's code are loaded one behind another, a task that has ended, whatever
+/// Where calls of functions of an accepted source's code are loaded one after another, a task that has ended, whatever
 /// turns were taken, ended as the source means by the function of its name on its arguments, with its calls and
 /// frames: with words that stand in the shared store for the values that are meant, in the same trap, or out of calls
 /// or frames. For who prints what the tasks of a list came to.
 pub fn tasks_end_as_the_source_means()
-    ensures law { (source : List ℕ) (core : Core) (code : Code) (before waits : Kinds) (tasks : List Task)
+    ensures theorem { (source : List ℕ) (core : Core) (code : Code) (before waits : Kinds) (tasks : List Task)
         (alone : List Begun) (first : Shared) (schedule : List ℕ) (k : ℕ) (t : Task) (e : End) (last : State)
         (left steps : ℕ) → IsCodeOf source core code → AreKinds (plain code) before waits →
         AreLaid (plain code) tasks alone first → slice_get tasks k ≡ Some t → 0 < length t.header.name →
@@ -40,10 +40,10 @@ pub fn tasks_end_as_the_source_means()
 
 /// And so the calls on tasks answer: where tasks stand where the runs of a schedule do, whatever its turns are, one
 /// that has an end has the one that the source means by the function of its name on its arguments, with its calls and
-/// frames; behind a value the words of its results stand in the store for the values that are meant. For who prints
+/// frames; after a value the words of its results stand in the store for the values that are meant. For who prints
 /// what tasks answer.
 pub fn tasks_answer_what_the_source_means()
-    ensures law { (source : List ℕ) (core : Core) (v : Checked) (before waits : Kinds) (tasks : List Task)
+    ensures theorem { (source : List ℕ) (core : Core) (v : Checked) (before waits : Kinds) (tasks : List Task)
         (alone : List Begun) (first : Shared) (schedule : List ℕ) (turns : Turns) (k : ℕ) (t : Task) (a : Standing)
         (e : Ended) → IsCodeOf source core v.code → AreKinds (plain v.code) before waits →
         AreLaid (plain v.code) tasks alone first →
@@ -55,7 +55,7 @@ pub fn tasks_answer_what_the_source_means()
 
 /// And so do tasks whose cells lie apart in the store, at any places. For who makes the cells of tasks in any order.
 pub fn apart_tasks_answer_what_the_source_means()
-    ensures law { (source : List ℕ) (core : Core) (v : Checked) (before waits : Kinds) (ls : List Lying)
+    ensures theorem { (source : List ℕ) (core : Core) (v : Checked) (before waits : Kinds) (ls : List Lying)
         (alone : List Begun) (first : Shared) (schedule : List ℕ) (turns : Turns) (k : ℕ) (l : Lying) (a : Standing)
         (e : Ended) → IsCodeOf source core v.code → AreKinds (plain v.code) before waits →
         AreApart (plain v.code) ls alone first →

@@ -1,4 +1,4 @@
-// The laws that join tasks on the machine with what is known of schedules. Each is the contract of a function that does
+// The theorems that join tasks on the machine with what is known of schedules. Each is the contract of a function that does
 // nothing.
 ghost use Rattle.std.specs.Prelude.{◌≡◌, ℕ, List, Some, slice_get};
 ghost use Rattle.machine_correctness.specs.machine_semantics.Codes as R;
@@ -31,20 +31,20 @@ pub fn loaded_tasks_can_turn()
         CanFinish v before (scheduled before (R.plain v.code) schedule first) k }
 {}
 
-/// Calls that are loaded one behind another begin where their functions are loaded, each with its words. For who starts
+/// Calls that are loaded one after another begin where their functions are loaded, each with its words. For who starts
 /// tasks: they stand where a schedule of these calls begins.
 pub fn laid_tasks_are_started()
-    ensures law { (v : Checked) (tasks : List Task) (alone : List Begun) (first : Shared) (starts : List Start) →
+    ensures theorem { (v : Checked) (tasks : List Task) (alone : List Begun) (first : Shared) (starts : List Start) →
         IsSound (plain v.code) → AreLaid (plain v.code) tasks alone first → AreStartsOf 0 tasks starts →
         AreStarted v (shared_store tasks) starts first }
 {}
 
-/// Where tasks that were loaded one behind another stand where the runs of a schedule do, whatever its turns are, one
+/// Where tasks that were loaded one after another stand where the runs of a schedule do, whatever its turns are, one
 /// that has an end ended as its function ends on trees with its arguments, calls and frames: its results stand in the
 /// store for the same values, or it is in the same trap, or out of calls or frames. For who prints the answers of
 /// tasks.
 pub fn tasks_answer_as_alone()
-    ensures law { (v : Checked) (before waits : Kinds) (tasks : List Task) (alone : List Begun) (first : Shared)
+    ensures theorem { (v : Checked) (before waits : Kinds) (tasks : List Task) (alone : List Begun) (first : Shared)
         (schedule : List ℕ) (turns : Turns) (k : ℕ) (t : Task) (a : Standing) (x : Ended) →
         IsSound (plain v.code) → HasLiterals (plain v.code) → AreKinds (plain v.code) before waits →
         AreLaid (plain v.code) tasks alone first →
@@ -56,14 +56,14 @@ pub fn tasks_answer_as_alone()
 /// And so are calls started whose cells lie apart in a store, at any places. For who makes the cells of tasks in any
 /// order.
 pub fn apart_tasks_are_started()
-    ensures law { (v : Checked) (ls : List Lying) (alone : List Begun) (first : Shared) (starts : List Start) →
+    ensures theorem { (v : Checked) (ls : List Lying) (alone : List Begun) (first : Shared) (starts : List Start) →
         IsSound (plain v.code) → AreApart (plain v.code) ls alone first → AreStartsAt ls starts →
         AreStarted v first.store starts first }
 {}
 
 /// And so do they answer. For who prints the answers of tasks whose cells lie anywhere.
 pub fn apart_tasks_answer_as_alone()
-    ensures law { (v : Checked) (before waits : Kinds) (ls : List Lying) (alone : List Begun) (first : Shared)
+    ensures theorem { (v : Checked) (before waits : Kinds) (ls : List Lying) (alone : List Begun) (first : Shared)
         (schedule : List ℕ) (turns : Turns) (k : ℕ) (l : Lying) (a : Standing) (x : Ended) →
         IsSound (plain v.code) → HasLiterals (plain v.code) → AreKinds (plain v.code) before waits →
         AreApart (plain v.code) ls alone first →

@@ -1,4 +1,4 @@
--- The cells of a call: those of its values, and behind them those of its credits.
+-- The cells of a call: those of its values, and after them those of its credits.
 use Rattle.std.proofs.Common.{◌≡◌, ◌∙◌, ◌+◌, ◌++◌, ℕ, List, Some, refl, sym, ap}
 use Rattle.std.specs.Prelude.{slice_get}
 use Rattle.std.proofs.lemmas.Option.{same_Some}

@@ -1,4 +1,4 @@
--- A line as a call: its name, and what stands behind it.
+-- A line as a call: its name, and what stands after it.
 -- Idea: the values in the brackets have each a written form, and the written forms are those of the line.
 use Rattle.std.proofs.Common.{◌≡◌, ◌∙◌, ◌≤◌, ◌<◌, ℕ, zero, suc, List, [], ◌∷◌, length, drop, Some, sym, ap, subst, arith}
 use Rattle.std.specs.Prelude.{slice_get}
@@ -105,10 +105,10 @@ read_as code bytes cs after name c whole text call =
     let t : CallText (symbols bytes) call.name (fresh_of call.parts) = call.spelt in
     let here : NameText (symbols bytes) name after = subst (λ ds. NameText ds name after) whole text in
     let named : call.name ≡ name = t.3.is ∙ sym here.is in
-    let behind : t.0 ≡ after = t.3.then' ∙ sym here.then' in
+    let following : t.0 ≡ after = t.3.then' ∙ sym here.then' in
     record {
       has = record { function = c.function; there = call.there; named = call.named ∙ named; some = subst (λ (m : Name). 0 < length m) named call.some };
-      called = (t.1, subst (λ ds. SignText Open ds t.1) behind t.4, spelt_given code.types (types_of c.function.params) t.1 call.parts c.values t.2 t.5 t.6 call.typed);
+      called = (t.1, subst (λ ds. SignText Open ds t.1) following t.4, spelt_given code.types (types_of c.function.params) t.1 call.parts c.values t.2 t.5 t.6 call.typed);
     }
 
 pub no_name : (code : Code) (bytes : List ℕ) (cs : List Symbol) → cs ≡ symbols bytes → ((name : Name) (rest : List Symbol) → NameText cs name rest → ⊥) → (c : Called) → IsCall code bytes c → ⊥
@@ -135,7 +135,7 @@ within (g ∷ fs) (suc n) f e = let r = within fs n f e in omega (arith, r)
 pub never_past : (fs : List Function) (name : Name) (n : ℕ) → HasName fs name n → length fs ≤ n → ⊥
 never_past fs name n has le = let r = within fs n has.function has.there in omega (arith, r, le)
 
--- what reading a call tells
+-- what reading a call reports
 abbrev pub IsReadCall : Code → List Symbol → Function → List ℕ → Counts → Counts → List ℕ → Type 0
 IsReadCall code cs f bytes before after ps = (vs : Values) × IsCalled code cs f vs
     × AreAt code.types bytes (types_of f.params) ps vs × Adds before after (wanted f.credits.items vs)

@@ -82,25 +82,25 @@ as_many_lines code input at ts counts h = calls_many code h.before h.cs h.calls 
 
 -- ---- the first that is bad
 
-bad_behind : (code : Code) (n : ℕ) (before : List (List ℕ)) (cs : List Called) (line : List ℕ) (rest : List (List ℕ)) → AreCalls code before cs → n + length before ≤ most_tasks → ((most_tasks ≤ n + length before) ⊎ ((c : Called) → IsCall code line c → ⊥)) → IsFirstBad code n (before ++ line ∷ rest) (suc (n + length before))
-bad_behind code n [] [] line rest h few bad = inl (
+bad_after : (code : Code) (n : ℕ) (before : List (List ℕ)) (cs : List Called) (line : List ℕ) (rest : List (List ℕ)) → AreCalls code before cs → n + length before ≤ most_tasks → ((most_tasks ≤ n + length before) ⊎ ((c : Called) → IsCall code line c → ⊥)) → IsFirstBad code n (before ++ line ∷ rest) (suc (n + length before))
+bad_after code n [] [] line rest h few bad = inl (
   ap suc (let z : n + 0 ≡ n = omega arith in z),
   elim bad as (λ v. (most_tasks ≤ n) ⊎ ((c : Called) → IsCall code line c → ⊥)) [
     | inl many ↦ inl (omega (arith, many))
     | inr never ↦ inr never
   ],
 )
-bad_behind code n [] (c ∷ cs) line rest h few bad = absurd h
-bad_behind code n (l ∷ before) [] line rest h few bad = absurd h
-bad_behind code n (l ∷ before) (c ∷ cs) line rest h few bad =
+bad_after code n [] (c ∷ cs) line rest h few bad = absurd h
+bad_after code n (l ∷ before) [] line rest h few bad = absurd h
+bad_after code n (l ∷ before) (c ∷ cs) line rest h few bad =
     let more : suc n + length before ≡ n + suc (length before) = omega arith in
-    let b = bad_behind code (suc n) before cs line rest h.1 (omega (arith, few)) (subst (λ m. (most_tasks ≤ m) ⊎ ((c : Called) → IsCall code line c → ⊥)) (sym more) bad) in
+    let b = bad_after code (suc n) before cs line rest h.1 (omega (arith, few)) (subst (λ m. (most_tasks ≤ m) ⊎ ((c : Called) → IsCall code line c → ⊥)) (sym more) bad) in
     inr (omega (arith, few), (c, h.0), subst (IsFirstBad code (suc n) (before ++ line ∷ rest)) (ap suc more) b)
 
 pub first_bad : (code : Code) (input line : List ℕ) (at next k : ℕ) (ts : List TaskLine) (counts : Counts) → IsListed code input at ts counts → lines_of (drop at input) ≡ line ∷ lines_of (drop next input) → length ts < most_tasks → k ≡ length ts + 1 → ((c : Called) → IsCall code line c → ⊥) → IsFirstBad code 0 (lines_of input) k
 first_bad code input line at next k ts counts h first few is never =
     let n = as_many_lines code input at ts counts h in
-    let b = bad_behind code 0 h.before h.cs line (lines_of (drop next input)) h.calls (omega (arith, n, few)) (inr never) in
+    let b = bad_after code 0 h.before h.cs line (lines_of (drop next input)) h.calls (omega (arith, n, few)) (inr never) in
     let number : suc (0 + length h.before) ≡ k = omega (arith, n, is) in
     subst (λ ls. IsFirstBad code 0 ls k) (sym (h.split ∙ ap (λ ls. h.before ++ ls) first)) (subst (IsFirstBad code 0 (h.before ++ line ∷ lines_of (drop next input))) number b)
 
@@ -124,7 +124,7 @@ pub one_too_many : (code : Code) (input : List ℕ) (at k : ℕ) (ts : List Task
 one_too_many code input at k ts counts h lt few many is =
     let n = as_many_lines code input at ts counts h in
     let s = some_line (drop at input) (left_some input at lt) in
-    let b = bad_behind code 0 h.before h.cs s.0 s.1 h.calls (omega (arith, n, few)) (inl (omega (arith, n, many))) in
+    let b = bad_after code 0 h.before h.cs s.0 s.1 h.calls (omega (arith, n, few)) (inl (omega (arith, n, many))) in
     let number : suc (0 + length h.before) ≡ k = omega (arith, n, is) in
     subst (λ ls. IsFirstBad code 0 ls k) (sym (h.split ∙ ap (λ ls. h.before ++ ls) s.2)) (subst (IsFirstBad code 0 (h.before ++ s.0 ∷ s.1)) number b)
 
@@ -133,7 +133,7 @@ one_too_many code input at k ts counts h lt few many is =
 pub all_listed : (code : Code) (input : List ℕ) (at : ℕ) (ts : List TaskLine) (counts : Counts) → (h : IsListed code input at ts counts) → length input ≤ at → lines_of input ≡ h.before
 all_listed code input at ts counts h le = h.split ∙ ap (λ ls. h.before ++ ls) (ap lines_of (none_left input at le)) ∙ append-nil h.before
 
--- what reading a line tells
+-- what reading a line reports
 abbrev pub IsReadLine : Code → List ℕ → Counts → Counts → TaskLine → Type 0
 IsReadLine code line before after t = (c : Called) × IsCall code line c × IsLineOf code t c
     × Adds before after (wanted c.function.credits.items c.values)

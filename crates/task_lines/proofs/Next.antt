@@ -1,4 +1,4 @@
--- The value of the next parameter, behind a comma unless it is the first.
+-- The value of the next parameter, after a comma unless it is the first.
 use Rattle.std.proofs.Common.{◌≡◌, ◌∙◌, ◌≤◌, ◌<◌, ℕ, zero, suc, List, [], ◌∷◌, length, drop, refl, sym, ap, subst, arith}
 use Rattle.fip_language.specs.Table.{Table}
 use Rattle.fip_language.specs.Values.{Value, Values, End, More}
@@ -7,7 +7,7 @@ use Rattle.value_text.specs.Single.{BeginsWith, IsPlaced, IsValueAt}
 use Rattle.session_lines.specs.declared.scan.Scanner.{Scanner}
 use Rattle.session_lines.specs.Scanned.{left}
 use Rattle.session_values.specs.Read.{IsTextOf}
-use Rattle.task_lines.specs.Reading.{Behind, IsAt, IsNext}
+use Rattle.task_lines.specs.Reading.{After, IsAt, IsNext}
 use Rattle.session_values.specs.Readable.{IsLine, AreParams}
 use Rattle.session_values.proofs.OneValue.{begins_with}
 
@@ -33,7 +33,7 @@ is_next tb i ty bytes old mid p e v at there is first further value = record {
 
 module _ (tb : Table) (ty : ℕ) (bytes : List ℕ) (line : IsLine bytes) (params : AreParams tb (ty ∷ [])) (old : Scanner) (at : IsAt bytes old) where
   -- no comma comes
-  pub no_comma : (i : ℕ) (ks : List ℕ) (vs : Values) → 0 < i → ((rest : List Symbol) → SignText Comma (left old) rest → ⊥) → Behind i tb (ty ∷ ks) (left old) vs → ⊥
+  pub no_comma : (i : ℕ) (ks : List ℕ) (vs : Values) → 0 < i → ((rest : List Symbol) → SignText Comma (left old) rest → ⊥) → After i tb (ty ∷ ks) (left old) vs → ⊥
   no_comma zero ks vs lt none h = omega (arith, lt)
   no_comma (suc i) ks End lt none h = absurd h
   no_comma (suc i) ks (More v vs) lt none h = none h.0 h.2
@@ -42,7 +42,7 @@ module _ (tb : Table) (ty : ℕ) (bytes : List ℕ) (line : IsLine bytes) (param
   sign_once cs a b h k = let x : Comma ∷ a ≡ Comma ∷ b = sym h ∙ k in cc
 
   -- or no value
-  pub no_value : (i : ℕ) (ks : List ℕ) (vs : Values) (mid : Scanner) → IsAt bytes mid → (i ≡ 0 → mid ≡ old) → (0 < i → SignText Comma (left old) (left mid)) → ((v : Value) → BeginsWith tb ty (drop mid.at bytes) v → ⊥) → Behind i tb (ty ∷ ks) (left old) vs → ⊥
+  pub no_value : (i : ℕ) (ks : List ℕ) (vs : Values) (mid : Scanner) → IsAt bytes mid → (i ≡ 0 → mid ≡ old) → (0 < i → SignText Comma (left old) (left mid)) → ((v : Value) → BeginsWith tb ty (drop mid.at bytes) v → ⊥) → After i tb (ty ∷ ks) (left old) vs → ⊥
   no_value zero ks End mid there first further none h = absurd h
   no_value zero ks (More v vs) mid there first further none h =
       let same : left old ≡ symbols (drop mid.at bytes) = sym (ap left (first refl)) ∙ left_is bytes mid there in

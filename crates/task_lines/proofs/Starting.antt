@@ -28,7 +28,7 @@ use Rattle.task_lines.specs.Started.{IsStarted, AreStarted, AreReady}
 use Rattle.task_lines.specs.declared.list.RunLimits.{RunLimits}
 use Rattle.task_lines.specs.declared.task_line.TaskLine.{TaskLine}
 use Rattle.session_values.proofs.CellsKept.{all_on, zero_on, stay, made_none, made_both}
-pub use Rattle.fip_language.proofs.Facts.{drop_end as none_behind, left_at}
+pub use Rattle.fip_language.proofs.Facts.{drop_end as none_after, left_at}
 
 -- ---- a call that lies in a loader
 

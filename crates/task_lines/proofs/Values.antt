@@ -58,12 +58,12 @@ given_here tb types bytes s vs at h = subst (λ cs. Given tb types cs vs) (left_
 pub adds_wanted : (a b c : Counts) (vs : Values) (credits : List ℕ) → Adds a b (λ k. cells_of_all k vs) → Adds b c (λ k. count k credits) → Adds a c (wanted credits vs)
 adds_wanted a b c vs credits h k = adds_both a b c (λ k. cells_of_all k vs) (λ k. count k credits) (wanted credits vs) (λ k. refl) h k
 
--- what reading all values tells
+-- what reading all values reports
 abbrev pub IsReadAll : Table → List ℕ → List Symbol → List ℕ → Counts → Counts → List ℕ → Type 0
 IsReadAll tb types cs bytes before after ps =
     (vs : Values) × Given tb types cs vs × AreAt tb bytes types ps vs × Adds before after (λ k. cells_of_all k vs)
 
--- what reading the next value tells
+-- what reading the next value reports
 abbrev pub IsReadNext : Table → ℕ → ℕ → List ℕ → ℕ → ℕ → ℕ → Counts → Counts → Type 0
 IsReadNext tb i ty bytes at p end before after = (v : Value) × IsNext tb i ty bytes at p v end × Adds before after (λ k. cells k v)
 

@@ -23,7 +23,7 @@ pub record AreValued (tb : Table) (types : List ℕ) (first now : Loading) (vs :
   pub named : words ≡ words_of trees
   pub made : AreMade first now (λ p. uses_of_all p trees)
 
--- The cells of credits were made, and named behind other words.
+-- The cells of credits were made, and named after other words.
 pub record AreCredited (credits : List ℕ) (first now : Loading) (before words : List ℕ) : Type 0 where
   pub places : List ℕ
   pub zero : AreZero now.cells places credits

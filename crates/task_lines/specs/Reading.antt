@@ -23,7 +23,7 @@ use Rattle.task_lines.specs.declared.task_line.TaskLine.{TaskLine}
 abbrev pub Closes : List Symbol → Type 0
 Closes cs = (rest : List Symbol) × SignText Close cs rest × (skip rest ≡ [])
 
--- the values behind a value
+-- the values after a value
 abbrev pub Further : Table → List ℕ → List Symbol → Values → Type 0
 Further tb [] cs End = Closes cs
 Further tb [] cs (More v vs) = ⊥
@@ -38,12 +38,12 @@ Given tb [] cs (More v vs) = ⊥
 Given tb (k ∷ ks) cs End = ⊥
 Given tb (k ∷ ks) cs (More v vs) = (after : List Symbol) × IsTextOf tb k cs v after × Further tb ks after vs
 
--- the values behind the first n
-abbrev pub Behind : ℕ → Table → List ℕ → List Symbol → Values → Type 0
-Behind zero tb ks cs vs = Given tb ks cs vs
-Behind (suc n) tb ks cs vs = Further tb ks cs vs
+-- the values after the first n
+abbrev pub After : ℕ → Table → List ℕ → List Symbol → Values → Type 0
+After zero tb ks cs vs = Given tb ks cs vs
+After (suc n) tb ks cs vs = Further tb ks cs vs
 
--- behind its name the function is called on these values
+-- after its name the function is called on these values
 abbrev pub IsCalled : Code → List Symbol → Function → Values → Type 0
 IsCalled code cs f vs = (inner : List Symbol) × SignText Open cs inner × Given code.types (types_of f.params) inner vs
 

@@ -52,7 +52,7 @@ fn credit(size: u8, loader: &mut Loader) -> Result<u64, NoMemory>
     }
 }
 
-// The cells of credits, whose words are put behind the others.
+// The cells of credits, whose words are put after the others.
 fn add_credits(loader: &mut Loader, credits: &[u8], words: &mut Vec<u64>) -> Result<(), NoMemory>
     ensures made { AreCredits credits.now → length loader.old.released ≡ length loader.old.cells → OnOk result
         (AreCredited credits.now loader.old loader.new words.old.items words.new.items) }

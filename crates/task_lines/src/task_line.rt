@@ -11,7 +11,7 @@ ghost use Rattle.session_lines.specs.Scanned.{left};
 ghost use Rattle.task_lines.specs.Called.{Called, IsCall};
 ghost use Rattle.session_values.specs.Readable.{IsReadable};
 ghost use Rattle.session_values.specs.Read.{Adds};
-ghost use Rattle.task_lines.specs.Reading.{AreAt, Behind, Given, IsAt, IsCalled, IsLineOf};
+ghost use Rattle.task_lines.specs.Reading.{AreAt, After, Given, IsAt, IsCalled, IsLineOf};
 ghost use Rattle.session_values.specs.Readable.{AreParams, IsLine};
 ghost use Rattle.task_lines.specs.Reading.{IsNext};
 
@@ -58,7 +58,7 @@ fn value(
     }
 }
 
-// Whether parameter i may come next: it is the first, or behind a comma, which is read.
+// Whether parameter i may come next: it is the first, or after a comma, which is read.
 fn comma_before(scanner: &mut Scanner, i: usize) -> bool
     ensures bytes { scanner.new.bytes.now ≡ scanner.old.bytes.now }
     ensures within { scanner.old.at ≤ length scanner.old.bytes.now → scanner.new.at ≤ length scanner.old.bytes.now }
@@ -87,7 +87,7 @@ fn next_value(
         × IsNext table.now i ty bytes.now scanner.old.at p v scanner.new.at
         × Adds counts.old counts.new (λ k. cells k v))) }
     ensures none { IsAt bytes.now scanner.old → IsLine bytes.now → AreParams table.now (ty ∷ []) → result ≡ Ok None →
-        (ks : List ℕ) (vs : Values) → Behind i table.now (ty ∷ ks) (left scanner.old) vs → ⊥ }
+        (ks : List ℕ) (vs : Values) → After i table.now (ty ∷ ks) (left scanner.old) vs → ⊥ }
 {
     if !comma_before(scanner, i) {
         return Ok(None);
@@ -100,7 +100,7 @@ fn next_value(
     }
 }
 
-// Where the value of each parameter begins, behind the opening bracket; their cells are counted. None where these don't
+// Where the value of each parameter begins, after the opening bracket; their cells are counted. None where these don't
 // stand there.
 fn values(
     alloc: Global,
@@ -148,7 +148,7 @@ pub fn function_at(code: &Code, entry: usize) -> Option<&Function>
     code.functions.get(entry)
 }
 
-// The values of a line's function behind its name; the cells of these and of the function's credits are counted. None
+// The values of a line's function after its name; the cells of these and of the function's credits are counted. None
 // where it isn't called so.
 fn called(
     alloc: Global,

@@ -1,4 +1,4 @@
--- Behind an instruction the registers are alike by the kinds that are known there.
+-- After an instruction the registers are alike by the kinds that are known there.
 use Rattle.std.proofs.Common.{◌≡◌, inl, inr, ℕ, suc, true, List, length, Option, Some, None, refl, sym, ap, ◌∙◌, subst, true≢false, nat_lt}
 use Rattle.std.specs.Prelude.{is_some}
 use Rattle.run_loading.specs.cell_code.declared.code.Instr.{Instr}

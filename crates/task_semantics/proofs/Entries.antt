@@ -35,7 +35,7 @@ first_state c n g store words frames = record {
   lent = lent_words c.types g.params words;
 }
 
--- the words of trees, and behind them those of cells
+-- the words of trees, and after them those of cells
 abbrev pub given_words : Parts → List ℕ → List ℕ
 given_words xs ps = words_of xs ++ map (λ p. place_word p) ps
 

@@ -42,10 +42,10 @@ went_alike f c before waits types kept s u x sound kinds a m d p =
       alone = λ q some. kept_cells.alone q (omega arith);
       among = λ q some. kept_cells.among q (omega arith);
     } in
-    let behind = done_alive c types kept s x sound a d in
+    let following = done_alive c types kept s x sound a d in
     let n : ℕ = s.running.function in
-    let known : before n d.done.at ≡ behind.kinds = kinds.known n d.done.at behind.function behind.kinds behind.is behind.known in
-    let wide : length d.done.words ≡ length (before n d.done.at) = behind.long ∙ sym (ap (λ ks. length ks) known) in
+    let known : before n d.done.at ≡ following.kinds = kinds.known n d.done.at following.function following.kinds following.is following.known in
+    let wide : length d.done.words ≡ length (before n d.done.at) = following.long ∙ sym (ap (λ ks. length ks) known) in
     let same : length p.done.words ≡ length (before n p.done.at) = subst (λ (e : R.Done). length e.words ≡ length (before n e.at)) done wide in
     let alike : AreAlike c.types f p.store p.other (at (before n p.done.at)) (word_at p.done.words) (word_at p.mate.words) = arrive_alike f c before waits n s.running.at p.done.at a.function p.store p.other p.left (word_at p.done.words) (word_at p.mate.words) sound kinds a.is p.goes p.alike in
     let next : went s (R.done c.types a.kinds s x) ≡ went_with s p.done (Some p.store) = ap (went s) p.is ∙ ap (went_with s p.done) p.changed in

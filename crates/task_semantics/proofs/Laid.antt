@@ -1,4 +1,4 @@
--- Tasks that are loaded one behind another begin together, and each of them is loaded.
+-- Tasks that are loaded one after another begin together, and each of them is loaded.
 -- The idea: of each task it is known from which place to which its cells are, so two tasks have none in common; and
 -- where it begins is said of any store that has its places from there on.
 use Rattle.std.proofs.Common.{◌≡◌, ◌≢◌, inl, inr, ℕ, zero, suc, ◌+◌, ◌<◌, ◌≤◌, false, List, [], ◌∷◌, ◌++◌, length, map, Option, Some, None, slice_get, refl, sym, ap, ap₂, ◌∙◌, subst, arith}
@@ -93,7 +93,7 @@ module _ (c : PlainCode) (before waits : Kinds) (os : List (Option Cell)) (n : �
 record IsKnown (c : PlainCode) (before waits : Kinds) (shared : Store) (low k : ℕ) (b : Begun) (rs : List Run) : Type 0 where
   from : ℕ
   to : ℕ
-  behind : low ≤ from
+  following : low ≤ from
   places : (p : ℕ) → IsThere b.state.store p → (from ≤ b.places p) × (b.places p < to)
   start : IsStart c before waits b.function [] b.state
   run : Run
@@ -133,7 +133,7 @@ module _ (c : PlainCode) (before waits : Kinds) (os : List (Option Cell)) (sound
       subst (λ (x : Begun). IsKnown c before waits (unreleased os) n 0 x (r ∷ rs)) (sym i.alone) (record {
         from = n;
         to = n + length (task_places n t);
-        behind = omega arith;
+        following = omega arith;
         places = λ p there. lies n t i.own p (ap (λ (s : State). s.store) (own_is n t b r i)) there;
         start = starts.0;
         run = begun i.among t.calls;
@@ -141,7 +141,7 @@ module _ (c : PlainCode) (before waits : Kinds) (os : List (Option Cell)) (sound
         same = same_run n t b r has i;
       })
 
-  -- the places of task k are behind `low`
+  -- the places of task k are after `low`
   known : (n k : ℕ) (ts : List Task) (bs : List Begun) (rs : List Run) (b : Begun) → Has (unreleased os) n (laid n ts) → AreBegun c (unreleased os) n ts bs rs → slice_get bs k ≡ Some b → IsKnown c before waits (unreleased os) n k b rs
   known n k [] [] [] b has i e = absurd (none-some b e)
   known n k [] [] (r ∷ rs) b has i e = absurd i
@@ -154,8 +154,8 @@ module _ (c : PlainCode) (before waits : Kinds) (os : List (Option Cell)) (sound
   known n (suc k) (t ∷ ts) (x ∷ bs) (r ∷ rs) b has i e =
       let m : ℕ = n + length (task_places n t) in
       let a = known m k ts bs rs b (has_right (unreleased os) n (task_places n t) (laid m ts) has) i.1 e in
-      let behind = a.behind in
-      record { from = a.from; to = a.to; behind = omega (arith, behind); places = a.places; start = a.start; run = a.run; is = a.is; same = a.same }
+      let following = a.following in
+      record { from = a.from; to = a.to; following = omega (arith, following); places = a.places; start = a.start; run = a.run; is = a.is; same = a.same }
 
   -- an earlier task's places are before a later one's
   order : (n i j p q : ℕ) (ts : List Task) (bs : List Begun) (rs : List Run) (a b : Begun) → Has (unreleased os) n (laid n ts) → AreBegun c (unreleased os) n ts bs rs → slice_get bs i ≡ Some a → slice_get bs j ≡ Some b → i < j → IsThere a.state.store p → IsThere b.state.store q → a.places p < b.places q
@@ -171,10 +171,10 @@ module _ (c : PlainCode) (before waits : Kinds) (os : List (Option Cell)) (sound
       let low = lies n t mine.own p (ap (λ (s : State). s.store) (own_is n t a r mine)) (subst (λ (x : Begun). IsThere x.state.store p) mine.alone h) in
       let at : a.places p ≡ n + p = ap (λ (x : Begun). x.places p) mine.alone in
       let high = known m j ts bs rs b (has_right (unreleased os) n (task_places n t) (laid m ts) has) k.1 f in
-      let behind = high.behind in
+      let following = high.following in
       let above = (high.places q g).0 in
       let below = low.1 in
-      omega (arith, behind, above, below, at)
+      omega (arith, following, above, below, at)
   order n (suc i) (suc j) p q (t ∷ ts) (x ∷ bs) (r ∷ rs) a b has k e f l h g =
       let m : ℕ = n + length (task_places n t) in
       order m i j p q ts bs rs a b (has_right (unreleased os) n (task_places n t) (laid m ts) has) k.1 e f (omega (arith, l)) h g

@@ -1,4 +1,4 @@
--- Values that are loaded behind further places have the same trees, cells and words, with each place moved by the number
+-- Values that are loaded after further places have the same trees, cells and words, with each place moved by the number
 -- of these.
 use Rattle.std.proofs.Common.{◌≡◌, ◌≢◌, ℕ, zero, suc, ◌+◌, List, [], ◌∷◌, ◌++◌, length, map, Option, Some, None, inl, refl, sym, ap, ap₂, ◌∙◌, subst, arith}
 use Rattle.std.specs.Prelude.{replicate}

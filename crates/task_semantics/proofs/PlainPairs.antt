@@ -43,7 +43,7 @@ pub record IsPair (f : Renaming) (c : PlainCode) (ks : List Kind) (s u : State) 
   pub long : length u.running.words ≡ length s.running.words
   pub alike : AreAlike c.types f s.store u.store (at ks) (word_at s.running.words) (word_at u.running.words)
 
--- The instruction is done in both, and behind it they are a pair again. Among others only cells change that the frame
+-- The instruction is done in both, and after it they are a pair again. Among others only cells change that the frame
 -- owns.
 pub record Pairs (f : Renaming) (c : PlainCode) (fn : PlainFunction) (ks : List Kind) (hs : ℕ → Holding) (s u : State) (x : Instr) : Type 0 where
   pub done : R.Done

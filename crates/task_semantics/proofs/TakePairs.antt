@@ -122,7 +122,7 @@ plain_of ks n (d ∷ ds) p b =
     let e = both (nat_lt d n) (are_below n ds) b in
     (refl, below d n e.0, refuted (has ds d) c.0, plain_of ks n ds c.1 e.1)
 
--- ---- the registers behind it
+-- ---- the registers after it
 
 rooted_alike : (tb : Table) (f : Renaming) (own shared : Store) (d : ℕ) (k : Kind) (w v : ℕ) → IsRenamedWord tb f own shared k w v → IsRenamedWord tb f own shared (with_root d k) w v
 rooted_alike tb f own shared d Gone w v i = i
@@ -203,10 +203,10 @@ take_pair f c fn b ks hs s u r ds g m =
     (λ j. let z : 0 + j ≡ j = omega arith in ap (λ j. word_or (part_in ps j)) z) in
     let among = parts_written tb u.store 0 vs ds ts qs (λ j. word_or (part_in qs j)) can.number (plain_of ks (length vs) ds e.0 (subst (λ n. are_below n ds ≡ true) (sym (even ∙ long ∙ wide)) a.1)) can.comes.among
     (λ j. let z : 0 + j ≡ j = omega arith in ap (λ j. word_or (part_in qs j)) z) in
-    let behind : ℕ → Kind = λ q. part_or tb r (at ks q) (part ds ts q) (if q == r then credit (length ds) else forget (ends tb ks r (part ds ts) (length ds) to) (fate (to q) r (at ks q))) in
-    let each : (q : ℕ) → IsRenamedWord tb f s.store u.store (behind q) (word_at written.words q) (word_at among.words q) = λ q.
-    subst (λ w. IsRenamedWord tb f s.store u.store (behind q) w (word_at among.words q)) (sym (written.each q))
-    (subst (λ v. IsRenamedWord tb f s.store u.store (behind q) (by_part (λ j. word_or (part_in ps j)) (part ds ts q) (word_at ws q)) v) (sym (among.each q))
+    let following : ℕ → Kind = λ q. part_or tb r (at ks q) (part ds ts q) (if q == r then credit (length ds) else forget (ends tb ks r (part ds ts) (length ds) to) (fate (to q) r (at ks q))) in
+    let each : (q : ℕ) → IsRenamedWord tb f s.store u.store (following q) (word_at written.words q) (word_at among.words q) = λ q.
+    subst (λ w. IsRenamedWord tb f s.store u.store (following q) w (word_at among.words q)) (sym (written.each q))
+    (subst (λ v. IsRenamedWord tb f s.store u.store (following q) (by_part (λ j. word_or (part_in ps j)) (part ds ts q) (word_at ws q)) v) (sym (among.each q))
     (taken_alike tb f s.store u.store b ks (word_at ws) (word_at vs) hs r ds ts left y ps to takes can.comes.among place g.meant m.alike q (part ds ts q) refl)) in
     plain_pair f c fn ks hs s u (I.Take r ds) (s.running.at + 1) written.words among.words left m
     (ap (R.on s) (taken_is tb s.store s r ds ts (word_at ws r) ps _ (word_get ws r (omega arith)) can.number can.comes.stand can.comes.fields written))
@@ -215,7 +215,7 @@ take_pair f c fn b ks hs s u r ds g m =
     (among.wide ∙ even ∙ sym written.wide)
     (record {
       each = λ q. elim (less_or_not q (length ks)) as (λ v. IsRenamedWord tb f s.store u.store (at left q) (word_at written.words q) (word_at among.words q)) [
-        | inl h ↦ subst (λ k. IsRenamedWord tb f s.store u.store k (word_at written.words q) (word_at among.words q)) (sym (at_become ks behind q h)) (each q)
-        | inr h ↦ subst (λ k. IsRenamedWord tb f s.store u.store k (word_at written.words q) (word_at among.words q)) (sym (at_past left q (subst (λ n. n ≤ q) (sym (length_become ks behind)) h))) (like_any tb f s.store u.store (behind q) (word_at written.words q) (word_at among.words q) (each q))
+        | inl h ↦ subst (λ k. IsRenamedWord tb f s.store u.store k (word_at written.words q) (word_at among.words q)) (sym (at_become ks following q h)) (each q)
+        | inr h ↦ subst (λ k. IsRenamedWord tb f s.store u.store k (word_at written.words q) (word_at among.words q)) (sym (at_past left q (subst (λ n. n ≤ q) (sym (length_become ks following)) h))) (like_any tb f s.store u.store (following q) (word_at written.words q) (word_at among.words q) (each q))
       ];
     })

@@ -10,7 +10,7 @@ use Rattle.std.specs.Prelude.{ℕ, zero, suc, ◌+◌, ◌*◌, ◌/◌, ◌%◌
 abbrev pub next_number : ℕ → ℕ
 next_number x = (x * 1103515245 + 12345) % (2 ^ 31)
 
--- the first numbers behind x
+-- the first numbers after x
 abbrev pub numbers : ℕ → ℕ → List ℕ
 numbers zero x = []
 numbers (suc n) x = next_number x ∷ numbers n (next_number x)

@@ -1,6 +1,6 @@
--- For the theorem on schedules: how tasks lie in one store where their arguments are loaded one behind another.
+-- For the theorem on schedules: how tasks lie in one store where their arguments are loaded one after another.
 --
--- The first task's cells lie as in a new store. Those of each further task lie behind the cells of the tasks before it,
+-- The first task's cells lie as in a new store. Those of each further task lie after the cells of the tasks before it,
 -- in the same order, and the words that it is given name them there. Alone it begins in a new store of its own; so the
 -- places of its cells in the shared store are those that they have alone, moved by the number of places before them.
 --
@@ -68,7 +68,7 @@ AreBegun c shared n (t ∷ ts) (b ∷ bs) (r ∷ rs) =
     IsBegun c shared n t b r × AreBegun c shared (n + length (task_places n t)) ts bs rs
 AreBegun c shared n ts bs rs = ⊥
 
--- The tasks are loaded one behind another, and each begins so, alone and in the shared store.
+-- The tasks are loaded one after another, and each begins so, alone and in the shared store.
 pub record AreLaid (c : S.PlainCode) (tasks : List Task) (alone : List Begun) (first : Shared) : Type 0 where
   pub store : first.store ≡ shared_store tasks
   pub begun : AreBegun c (shared_store tasks) 0 tasks alone first.runs

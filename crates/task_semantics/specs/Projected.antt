@@ -6,7 +6,7 @@
 -- that stands for a tree stands for the same tree at the renamed places, alone as among others. Of a register that
 -- holds nothing, and of a cell that no tree has, no more is said than that its words are the same or renamed.
 --
--- Where task 1 has its one cell at 0 alone and at 3 in the shared store, behind that of task 0, its word 1 is 7 there.
+-- Where task 1 has its one cell at 0 alone and at 3 in the shared store, after that of task 0, its word 1 is 7 there.
 use Rattle.std.specs.Prelude.{◌≡◌, ◌≢◌, ◌⊎◌, ℕ, zero, suc, ◌+◌, ◌/◌, ◌<◌, nat_eq, List, [], ◌∷◌, Option, Some, None}
 use Rattle.std.specs.Prelude.{length, slice_get, if◌then◌else◌}
 use Rattle.run_loading.specs.fip_language.Table.{Table}
@@ -210,7 +210,7 @@ pub record IsSeenAs (f : Renaming) (shared : Store) (a b : State) : Type 0 where
   pub frames : frames_held b ≡ frames_held a
   pub words : words_held b ≡ words_held a
 
--- After every schedule as much is seen of each task as of it alone. So its gauge, which tells of all its states, is
+-- After every schedule as much is seen of each task as of it alone. So its gauge, which reports of all its states, is
 -- that of the task alone.
 abbrev pub EachIsSeenAsAlone : Kinds → Kinds → S.PlainCode → Type 0
 EachIsSeenAsAlone before waits code = (tasks : List Begun) (first : Shared) → AreLoaded before waits code tasks →

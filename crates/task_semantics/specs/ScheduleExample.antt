@@ -10,7 +10,7 @@ use Rattle.run_loading.specs.machine_semantics.States.{State}
 use Rattle.task_semantics.specs.Schedules.{Shared}
 use Rattle.task_semantics.specs.Projected.{Begun}
 
--- Cons(item, ..) with the word of the rest, and behind it Cons(other, Nil)
+-- Cons(item, ..) with the word of the rest, and after it Cons(other, Nil)
 abbrev pub cells_of : ℕ → ℕ → ℕ → List (Option Cell)
 cells_of item rest other = cons item rest ∷ None ∷ None ∷ cons other 0 ∷ None ∷ None ∷ []
 

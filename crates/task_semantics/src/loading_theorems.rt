@@ -1,4 +1,4 @@
-// The laws of tasks that are loaded one behind another. Each is the contract of a function that does nothing.
+// The theorems of tasks that are loaded one after another. Each is the contract of a function that does nothing.
 ghost use Rattle.std.specs.Prelude.{◌≡◌, ℕ, pos, List, [], ◌∷◌, Some, slice_get};
 ghost use Rattle.run_loading.specs.fip_language.Every.{Every};
 ghost use Rattle.run_loading.specs.machine_semantics.Runs.{End, Over};
@@ -15,7 +15,7 @@ ghost use Rattle.task_semantics.specs.Laid.{Task, IsTask, shared_store, task_wor
 ghost use Rattle.task_semantics.specs.Ended.{EndsAlone, EndsOnTrees};
 ghost use Rattle.task_semantics.specs.LoadedExample.{rev_of, two_calls};
 
-/// Calls of functions of a code, with arguments of their parameters' types, can be loaded one behind another into one
+/// Calls of functions of a code, with arguments of their parameters' types, can be loaded one after another into one
 /// store. They then begin together, and each of them is loaded alone, so what is said of schedules is said of them. For
 /// who makes tasks of a list of calls.
 pub fn loaded_tasks_begin_together()
@@ -31,7 +31,7 @@ pub fn loaded_tasks_begin_together()
 
 /// A task that has ended, whatever turns were taken, has ended as alone in a new store, and as its function ends on
 /// trees with its arguments: with words that stand in the shared store for the same values, in the same trap, or out of
-/// calls or frames, with as many calls left and after as many steps. For who tells what the tasks of a list came to.
+/// calls or frames, with as many calls left and after as many steps. For who reports what the tasks of a list came to.
 pub fn what_tasks_come_to()
     ensures alone { (c : PlainCode) (before waits : Kinds) (tasks : List Task) (alone : List Begun)
         (first : Shared) (schedule : List ℕ) (k : ℕ) (b : Begun) (e : End) (last : State) (left steps : ℕ) →
@@ -48,14 +48,14 @@ pub fn what_tasks_come_to()
 {}
 
 /// Whatever turns are drawn, each task comes to an end where it then has turns enough: some schedule that begins with
-/// the drawn turns, and gives turns to the tasks in order behind them, ends all. For who runs tasks to their ends.
+/// the drawn turns, and gives turns to the tasks in order after them, ends all. For who runs tasks to their ends.
 pub fn all_tasks_end()
-    ensures law { (c : PlainCode) (before waits : Kinds) (tasks : List Task) (alone : List Begun) (first : Shared)
+    ensures theorem { (c : PlainCode) (before waits : Kinds) (tasks : List Task) (alone : List Begun) (first : Shared)
         (drawn : List ℕ) → IsSound c → HasLiterals c → AreKinds c before waits → AreLaid c tasks alone first →
         (schedule : List ℕ) × EndsAll before (run_code c) first drawn schedule }
 {}
 
-/// The two tasks of the examples of schedules are loaded so: the second has its cells behind those of the first, and
+/// The two tasks of the examples of schedules are loaded so: the second has its cells after those of the first, and
 /// its words name them. For who wants to see the numbers.
 pub fn an_example_is_laid()
     ensures store { shared_store two_calls ≡ both }

@@ -1,4 +1,4 @@
-// The laws of schedules. Each is the contract of a function that does nothing.
+// The theorems of schedules. Each is the contract of a function that does nothing.
 ghost use Rattle.std.specs.Prelude.{◌≡◌, ◌≢◌, ℕ, List, [], ◌∷◌, ◌++◌, Some, slice_get, map, replicate};
 ghost use Rattle.run_loading.specs.machine_semantics.Codes.{PlainCode};
 ghost use Rattle.run_loading.specs.machine_semantics.Cells.{Store, IsStore, count_held};
@@ -19,28 +19,28 @@ ghost use Rattle.task_semantics.specs.ScheduleExample.{second_first, tasks_alone
 /// A turn of one task changes no other task's frames, calls or end. For who reads a task between two turns of another.
 #[tactic(auto, using(crate::proofs::Turns::others_stay))]
 pub fn a_turn_is_of_one_task()
-    ensures law { (kinds : Kinds) (code : PlainCode) (t : Shared) (j k : ℕ) → j ≢ k →
+    ensures theorem { (kinds : Kinds) (code : PlainCode) (t : Shared) (j k : ℕ) → j ≢ k →
         slice_get (turn kinds code t k).runs j ≡ slice_get t.runs j }
 {}
 
 /// In the turn of a task that has ended no cell changes. For who gives a turn to a task that is over.
 #[tactic(auto, using(crate::proofs::Turns::ended_stays))]
 pub fn an_ended_task_changes_no_cell()
-    ensures law { (kinds : Kinds) (code : PlainCode) (t : Shared) (k : ℕ) (e : End) (s : State) (left steps : ℕ) →
+    ensures theorem { (kinds : Kinds) (code : PlainCode) (t : Shared) (k : ℕ) (e : End) (s : State) (left steps : ℕ) →
         slice_get t.runs k ≡ Some (Over e s left steps) → (turn kinds code t k).store ≡ t.store }
 {}
 
-/// A schedule behind another goes on where that ended. For who hands out turns one by one.
+/// A schedule after another goes on where that ended. For who hands out turns one by one.
 #[tactic(auto, using(crate::proofs::Turns::goes_on))]
 pub fn a_schedule_goes_on()
-    ensures law { (kinds : Kinds) (code : PlainCode) (first more : List ℕ) (t : Shared) →
+    ensures theorem { (kinds : Kinds) (code : PlainCode) (first more : List ℕ) (t : Shared) →
         scheduled kinds code (first ++ more) t ≡ scheduled kinds code more (scheduled kinds code first t) }
 {}
 
 /// A task that has the store for itself does as alone, at every turn. For who runs one task.
 #[tactic(auto, using(crate::proofs::Turns::one_alone))]
 pub fn one_task_is_alone()
-    ensures law { (kinds : Kinds) (code : PlainCode) (r : Run) (n : ℕ) →
+    ensures theorem { (kinds : Kinds) (code : PlainCode) (r : Run) (n : ℕ) →
         scheduled kinds code (replicate n 0) (record { store = (state_of r).store; runs = r ∷ [] })
         ≡ record {
           store = (state_of (alone kinds code 0 (replicate n 0) r)).store;
@@ -75,7 +75,7 @@ pub fn an_example_of_draws()
 /// The two tasks of the examples begin together, each at places of its own; and by the kinds of their code, which is
 /// sound, each of them is loaded. For who wants to see that what is asked of tasks can be met.
 pub fn an_example_begins_together()
-    ensures law { BeginTogether at_start at_start reversing tasks_alone (two_tasks 2) }
+    ensures theorem { BeginTogether at_start at_start reversing tasks_alone (two_tasks 2) }
     ensures together { (before waits : Kinds) → AreKinds reversal before waits →
         BeginTogether before waits (run_code reversal) tasks_alone (two_tasks 2) }
     ensures loaded { (before waits : Kinds) → AreKinds reversal before waits →

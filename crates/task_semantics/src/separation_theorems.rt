@@ -1,4 +1,4 @@
-// The laws of tasks that lie apart. Each is the contract of a function that does nothing.
+// The theorems of tasks that lie apart. Each is the contract of a function that does nothing.
 ghost use Rattle.std.specs.Prelude.{◌≡◌, ℕ, List, Some, slice_get};
 ghost use Rattle.run_loading.specs.machine_semantics.Cells.{Store};
 ghost use Rattle.run_loading.specs.machine_semantics.Runs.{End, Over};
@@ -27,9 +27,9 @@ pub fn apart_tasks_begin_together()
 
 /// A task that has ended, whatever turns were taken, ended as its function ends on trees with its arguments, calls and
 /// frames: with words that stand in the shared store for the same values, in the same trap, or out of calls or frames.
-/// For who tells what such tasks came to.
+/// For who reports what such tasks came to.
 pub fn apart_tasks_end_as_on_trees()
-    ensures law { (c : PlainCode) (before waits : Kinds) (ls : List Lying) (alone : List Begun) (first : Shared)
+    ensures theorem { (c : PlainCode) (before waits : Kinds) (ls : List Lying) (alone : List Begun) (first : Shared)
         (schedule : List ℕ) (k : ℕ) (l : Lying) (e : End) (last : State) (left steps : ℕ) → IsSound c →
         HasLiterals c → AreKinds c before waits → AreApart c ls alone first → slice_get ls k ≡ Some l →
         slice_get (scheduled before (run_code c) schedule first).runs k ≡ Some (Over e last left steps) →

@@ -52,7 +52,7 @@ fn front(text: &[u8], count: usize) -> &[u8] {
 }
 
 // Whether err holds a text and then a line.
-fn is_told(err: &[u8], text: &[u8], line: &str) -> bool {
+fn is_reported(err: &[u8], text: &[u8], line: &str) -> bool {
     err.strip_prefix(text) == Some(line.as_bytes())
 }
 
@@ -67,7 +67,7 @@ fn is_left_rightly(seen: &Seen, row: Row<'_>, object: Object, before: usize) -> 
 }
 
 // Whether a run ended as it must where a call of an object failed, after so many that didn't: a front part of the text
-// stands where it was being written, and behind it on err the fault's line.
+// stands where it was being written, and after it on err the fault's line.
 fn is_faulted(seen: &Seen, row: Row<'_>, object: Object, before: usize) -> bool {
     let (out, err) = match object {
         Object::Folder | Object::Input => (0, 0),
@@ -77,7 +77,7 @@ fn is_faulted(seen: &Seen, row: Row<'_>, object: Object, before: usize) -> bool 
     let text = row.3.as_bytes();
     seen.status == 9
         && seen.out.as_slice() == front(text, out)
-        && is_told(seen.err.as_slice(), front(text, err), fault_line(object))
+        && is_reported(seen.err.as_slice(), front(text, err), fault_line(object))
         && is_left_rightly(seen, row, object, before)
         && is_kept(seen, row, object)
 }
@@ -138,7 +138,7 @@ fn are_faults_right<P: Program>(
 }
 
 /// The words of the first row of which a run over a host's files, in which a call of an object fails, doesn't end as it
-/// must: with status 9 and the object's line on err, behind what was written of the row's text before. Want of memory
+/// must: with status 9 and the object's line on err, after what was written of the row's text before. Want of memory
 /// is the one error.
 pub fn first_wrong_faults<'a, P: Program>(
     alloc: Global,

@@ -6,7 +6,7 @@ use std::alloc::{AllocError, Global};
 /// Pieces of one byte each.
 pub const SINGLE: &[usize] = &[1; 2000];
 
-// What the file `other` holds where no command is told of it.
+// What the file `other` holds where no command is reported of it.
 const OTHER: &[u8] = b"as it was\n";
 
 /// What a run of the program ended with.
@@ -18,7 +18,7 @@ pub struct Ended {
     pub cells: Option<usize>,
 }
 
-/// The program that the tests run. A host that is told of it by a type stands below it, so that it is proved apart.
+/// The program that the tests run. A host that is reported of it by a type stands below it, so that it is proved apart.
 pub trait Program {
     /// Runs the program with these words, the first one its name, over these objects.
     fn run(
@@ -36,7 +36,7 @@ pub trait Program {
 pub struct Host<'a> {
     /// The bytes of the file `a.fp`, a source, a code or a trace.
     pub file: &'a [u8],
-    /// The bytes of the file `other`, a proof where a command is told of it.
+    /// The bytes of the file `other`, a proof where a command is reported of it.
     pub other: &'a [u8],
     /// The bytes of the input.
     pub input: &'a [u8],
@@ -147,7 +147,7 @@ fn stored_in(alloc: Global, folder: &MemFolder) -> Result<Option<Vec<u8>>, Alloc
     }
 }
 
-/// Runs the program with these words behind its name, which are parted by one blank each. Want of memory for the host's
+/// Runs the program with these words after its name, which are parted by one blank each. Want of memory for the host's
 /// objects is the one error.
 pub fn run<P: Program>(alloc: Global, words: &str, host: Host<'_>) -> Result<Seen, AllocError> {
     let words = all_words(alloc, words)?;

@@ -4,7 +4,7 @@ use crate::memory::{Program, Seen, host_of, run};
 use crate::texts::bytes_of;
 use std::alloc::{AllocError, Global};
 
-/// A run: the words behind the program's name, parted by one blank each, the input, and the status and the text that it
+/// A run: the words after the program's name, parted by one blank each, the input, and the status and the text that it
 /// must end with. The text is out's after status 0, and err's after another.
 pub type Row<'a> = (&'a str, &'a str, u8, &'a str);
 
@@ -134,7 +134,7 @@ const SOURCE_COMMANDS: &[&str] = &[
 const CODE_COMMANDS: &[&str] = &["verify a.fp", "upgrade a.fp b.fpc", "run a.fp f"];
 
 /// The first row whose source isn't refused as the row says by each command that takes a source. A row is the line on
-/// err, then ` | `, then the source behind these first lines, without its last line feed. Want of memory is the one
+/// err, then ` | `, then the source after these first lines, without its last line feed. Want of memory is the one
 /// error.
 pub fn first_wrong_refusal<'a, P: Program>(
     alloc: Global,
@@ -154,7 +154,7 @@ pub fn first_wrong_refusal<'a, P: Program>(
 }
 
 /// The first row whose code isn't refused as the row says by each command that takes a code. A row is the line on err,
-/// then ` | `, then the code's hexadecimal digits behind those of `head`. Want of memory is the one error.
+/// then ` | `, then the code's hexadecimal digits after those of `head`. Want of memory is the one error.
 pub fn first_wrong_code<'a, P: Program>(
     alloc: Global,
     head: &str,

@@ -8,7 +8,7 @@ use Rattle.trace_files.specs.Reading.{Spot, AreRising, left, IsLive}
 use Rattle.trace_files.proofs.Live.{live_size}
 use Rattle.trace_files.proofs.Steps.{then_got, asked_yes}
 
--- behind the place of an event
+-- after the place of an event
 event_at : (live : List Loaded) (least : ℕ) (s t u v : Spot) (step op place : ℕ) → read_number 8 0 s.at s.rest ≡ Got step t.at t.rest → least ≤ step → read_number 1 0 t.at t.rest ≡ Got op u.at u.rest → op ≤ 1 → read_number 4 0 u.at u.rest ≡ Got place v.at v.rest → read_event live least s.at s.rest ≡ read_change s.at step op place (size_at place live) v.at v.rest
 event_at live least s t u v step op place h le k op_le l =
     then_got (read_number 8 0 s.at s.rest) _ step t.at t.rest h

@@ -3,6 +3,6 @@ pub mod Live
 pub mod Lasts
 pub mod Events
 pub mod Shown
-pub mod Told
+pub mod Reported
 pub mod Traces
 pub mod Writing

@@ -29,8 +29,8 @@ in_order least (x ∷ cs) (suc i) (suc j) a b h e f lt = in_order (suc x.place) 
 abbrev pub Nowhere : ℕ → List Loaded → Type 0
 Nowhere place cs = (k : ℕ) (c : Loaded) → slice_get cs k ≡ Some c → c.place ≢ place
 
-behind : (place : ℕ) (cs : List Loaded) → AreRising (suc place) cs → Nowhere place cs
-behind place cs h k c e same = let up = above (suc place) cs k c h e in omega (arith, up, same)
+following : (place : ℕ) (cs : List Loaded) → AreRising (suc place) cs → Nowhere place cs
+following place cs h k c e same = let up = above (suc place) cs k c h e in omega (arith, up, same)
 
 skip : (place : ℕ) (c : Loaded) (cs : List Loaded) → c.place ≢ place → size_at place (c ∷ cs) ≡ size_at place cs
 skip place c cs n = ap (λ b. if b then Some (length c.fields) else size_at place cs) (differs c.place place n)
@@ -63,7 +63,7 @@ module _ (place : ℕ) (c : Loaded) (at : c.place ≡ place) where
   pub gone : (least k : ℕ) (cs : List Loaded) (rs : List Bool) → AreRising least cs → slice_get cs k ≡ Some c → slice_get rs k ≡ Some true → size_at place (left cs rs) ≡ None
   gone least k [] rs h e r = absurd (none-some c e)
   gone least k (x ∷ cs) [] h e r = refl
-  gone least zero (x ∷ cs) (true ∷ rs) h e r = not_there place cs rs (behind place cs (subst (λ p. AreRising (suc p) cs) (ap (λ (y : Loaded). y.place) (same_Some x c e) ∙ at) h.1))
+  gone least zero (x ∷ cs) (true ∷ rs) h e r = not_there place cs rs (following place cs (subst (λ p. AreRising (suc p) cs) (ap (λ (y : Loaded). y.place) (same_Some x c e) ∙ at) h.1))
   gone least zero (x ∷ cs) (false ∷ rs) h e r = absurd (let no = same_Some false true r in cc)
   gone least (suc k) (x ∷ cs) (true ∷ rs) h e r = gone (suc x.place) k cs rs h.1 e r
   gone least (suc k) (x ∷ cs) (false ∷ rs) h e r = skip place x (left cs rs) (sooner least place k x c cs h e at) ∙ gone (suc x.place) k cs rs h.1 e r
@@ -84,7 +84,7 @@ module _ (place : ℕ) (c : Loaded) (at : c.place ≡ place) where
   released least zero (x ∷ cs) (true ∷ rs) h e r = absurd (let no = same_Some true false r in cc)
   released least zero (x ∷ cs) (false ∷ rs) h e r =
       let at' = ap (λ (y : Loaded). y.place) (same_Some x c e) ∙ at in
-      sym (drops place x (left cs rs) at' ∙ none_dropped place cs rs (behind place cs (subst (λ p. AreRising (suc p) cs) at' h.1)))
+      sym (drops place x (left cs rs) at' ∙ none_dropped place cs rs (following place cs (subst (λ p. AreRising (suc p) cs) at' h.1)))
   released least (suc k) (x ∷ cs) (true ∷ rs) h e r = released (suc x.place) k cs rs h.1 e r
   released least (suc k) (x ∷ cs) (false ∷ rs) h e r =
       ap (λ xs. x ∷ xs) (released (suc x.place) k cs rs h.1 e r) ∙ sym (keep place x (left cs rs) (sooner least place k x c cs h e at))

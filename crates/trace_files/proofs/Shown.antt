@@ -12,7 +12,7 @@ use Rattle.run_loading.specs.machine_semantics.Traces.{Event, changed_or, applie
 use Rattle.run_loading.specs.Loading.{unreleased}
 use Rattle.run_loading.specs.TraceText.{Loaded, Trace, size_at, without, left_by, IsChange, AreCells, AreEvents, IsTrace}
 use Rattle.run_loading.specs.Replaying.{place_line, lines_from, store_text, places_from, replayed}
-use Rattle.trace_files.specs.Lines.{plain, place_of, told_line, change_line, latest, told_lines}
+use Rattle.trace_files.specs.Lines.{plain, place_of, reported_line, change_line, latest, reported_lines}
 use Rattle.fip_language.proofs.Facts.{some_of_other as has_size, unequal_test as differs, unequal_test_at as differs_at}
 
 -- ---- lists with a front
@@ -29,7 +29,7 @@ cell_front : (k : ℕ) (y : Option Cell) (ys : List (Option Cell)) → cell_in (
 cell_front zero y ys = refl
 cell_front (suc k) y ys = cell_front k y ys
 
--- so many behind that
+-- so many after that
 past : ℕ → ℕ → ℕ
 past zero m = suc m
 past (suc k) m = suc (past k m)
@@ -200,8 +200,8 @@ module _ (q tag : ℕ) (ws : List ℕ) (size : ℕ) where
         drop_flags = in_front k false x.gone true (flags_from (suc x.cell.place) xs) ∙ ap₂ (λ (y : Shown) ys. flags_from p (y ∷ ys)) (sym d) (sym rest);
       })
 
-  behind : (p n m : ℕ) (x : Shown) (xs : List Shown) → n ≡ past (x.cell.place - p) m → x.cell.place ≢ q → Found q tag ws size (suc x.cell.place) m xs → Found q tag ws size p n (x ∷ xs)
-  behind p n m x xs at other f =
+  following : (p n m : ℕ) (x : Shown) (xs : List Shown) → n ≡ past (x.cell.place - p) m → x.cell.place ≢ q → Found q tag ws size (suc x.cell.place) m xs → Found q tag ws size p n (x ∷ xs)
+  following p n m x xs at other f =
       let k = x.cell.place - p in
       let test = differs x.cell.place q other in
       let w : changed_shown (Write q tag ws) x ≡ x = ap (λ b. if b then write_shown tag ws x else x) test in
@@ -244,7 +244,7 @@ module _ (q tag : ℕ) (ws : List ℕ) (size : ℕ) where
           let more = later q (suc x.cell.place) size xs h.1 rest in
           let le = h.0 in
           let other : x.cell.place ≢ q = λ same. omega (arith, more, same) in
-          behind p n (q - suc x.cell.place) x xs (past_is (x.cell.place - p) (q - suc x.cell.place) n (omega (arith, at, le, more))) other (below (omega (arith, more)) rest)
+          following p n (q - suc x.cell.place) x xs (past_is (x.cell.place - p) (q - suc x.cell.place) n (omega (arith, at, le, more))) other (below (omega (arith, more)) rest)
 
 -- ---- changes of the store
 
@@ -439,73 +439,73 @@ rising_after i es p (x ∷ xs) h =
 
 -- ---- the last event of each cell
 
-abbrev TellsChange : Shown → Loaded → Change → Type 0
-TellsChange x c (Write q tag ws) = x ≡ record { cell = record { place = c.place; tag = tag; fields = ws }; gone = false }
-TellsChange x c (Release q) = (x.cell.place ≡ c.place) × (x.gone ≡ true)
+abbrev ReportsChange : Shown → Loaded → Change → Type 0
+ReportsChange x c (Write q tag ws) = x ≡ record { cell = record { place = c.place; tag = tag; fields = ws }; gone = false }
+ReportsChange x c (Release q) = (x.cell.place ≡ c.place) × (x.gone ≡ true)
 
 -- the cell is as the event left it, or as it was first
-abbrev Tells : Shown → Loaded → Option Event → Type 0
-Tells x c None = x ≡ fresh c
-Tells x c (Some e) = TellsChange x c e.change
+abbrev Reports : Shown → Loaded → Option Event → Type 0
+Reports x c None = x ≡ fresh c
+Reports x c (Some e) = ReportsChange x c e.change
 
-tells_place : (x : Shown) (c : Loaded) (o : Option Event) → Tells x c o → x.cell.place ≡ c.place
-tells_place x c None h = ap (λ (y : Shown). y.cell.place) h
-tells_place x c (Some e) h = by e.change h
+reports_place : (x : Shown) (c : Loaded) (o : Option Event) → Reports x c o → x.cell.place ≡ c.place
+reports_place x c None h = ap (λ (y : Shown). y.cell.place) h
+reports_place x c (Some e) h = by e.change h
   where
-    by : (d : Change) → TellsChange x c d → x.cell.place ≡ c.place
+    by : (d : Change) → ReportsChange x c d → x.cell.place ≡ c.place
     by (Write q tag ws) h = ap (λ (y : Shown). y.cell.place) h
     by (Release q) h = h.0
 
-tells_changed : (x : Shown) (c : Loaded) (o : Option Event) (e : Event) → Tells x c o → Tells (changed_shown e.change x) c (if c.place == place_of e.change then Some e else o)
-tells_changed x c o e h = by e.change (c.place == place_of e.change) refl refl
+reports_changed : (x : Shown) (c : Loaded) (o : Option Event) (e : Event) → Reports x c o → Reports (changed_shown e.change x) c (if c.place == place_of e.change then Some e else o)
+reports_changed x c o e h = by e.change (c.place == place_of e.change) refl refl
   where
     at : x.cell.place ≡ c.place
-    at = tells_place x c o h
+    at = reports_place x c o h
 
-    by : (d : Change) (b : Bool) → e.change ≡ d → (c.place == place_of e.change) ≡ b → Tells (changed_shown e.change x) c (if c.place == place_of e.change then Some e else o)
+    by : (d : Change) (b : Bool) → e.change ≡ d → (c.place == place_of e.change) ≡ b → Reports (changed_shown e.change x) c (if c.place == place_of e.change then Some e else o)
     by (Write q tag ws) true is t =
         let test : (x.cell.place == q) ≡ true = ap₂ (λ m d. m == place_of d) at (sym is) ∙ t in
         let y : changed_shown e.change x ≡ write_shown tag ws x = ap (λ d. changed_shown d x) is ∙ ap (λ b. if b then write_shown tag ws x else x) test in
-        let told : TellsChange (changed_shown e.change x) c e.change = subst (TellsChange (changed_shown e.change x) c) (sym is) (y ∙ ap (λ p. record { cell = record { place = p; tag = tag; fields = ws }; gone = false }) at) in
-        subst (λ b. Tells (changed_shown e.change x) c (if b then Some e else o)) (sym t) told
+        let reported : ReportsChange (changed_shown e.change x) c e.change = subst (ReportsChange (changed_shown e.change x) c) (sym is) (y ∙ ap (λ p. record { cell = record { place = p; tag = tag; fields = ws }; gone = false }) at) in
+        subst (λ b. Reports (changed_shown e.change x) c (if b then Some e else o)) (sym t) reported
     by (Release q) true is t =
         let test : (x.cell.place == q) ≡ true = ap₂ (λ m d. m == place_of d) at (sym is) ∙ t in
         let y : changed_shown e.change x ≡ drop_shown x = ap (λ d. changed_shown d x) is ∙ ap (λ b. if b then drop_shown x else x) test in
-        let told : TellsChange (changed_shown e.change x) c e.change = subst (TellsChange (changed_shown e.change x) c) (sym is) (ap (λ (z : Shown). z.cell.place) y ∙ at, ap (λ (z : Shown). z.gone) y) in
-        subst (λ b. Tells (changed_shown e.change x) c (if b then Some e else o)) (sym t) told
+        let reported : ReportsChange (changed_shown e.change x) c e.change = subst (ReportsChange (changed_shown e.change x) c) (sym is) (ap (λ (z : Shown). z.cell.place) y ∙ at, ap (λ (z : Shown). z.gone) y) in
+        subst (λ b. Reports (changed_shown e.change x) c (if b then Some e else o)) (sym t) reported
     by (Write q tag ws) false is t =
         let test : (x.cell.place == q) ≡ false = ap₂ (λ m d. m == place_of d) at (sym is) ∙ t in
         let y : changed_shown e.change x ≡ x = ap (λ d. changed_shown d x) is ∙ ap (λ b. if b then write_shown tag ws x else x) test in
-        subst (λ b. Tells (changed_shown e.change x) c (if b then Some e else o)) (sym t) (subst (λ z. Tells z c o) (sym y) h)
+        subst (λ b. Reports (changed_shown e.change x) c (if b then Some e else o)) (sym t) (subst (λ z. Reports z c o) (sym y) h)
     by (Release q) false is t =
         let test : (x.cell.place == q) ≡ false = ap₂ (λ m d. m == place_of d) at (sym is) ∙ t in
         let y : changed_shown e.change x ≡ x = ap (λ d. changed_shown d x) is ∙ ap (λ b. if b then drop_shown x else x) test in
-        subst (λ b. Tells (changed_shown e.change x) c (if b then Some e else o)) (sym t) (subst (λ z. Tells z c o) (sym y) h)
+        subst (λ b. Reports (changed_shown e.change x) c (if b then Some e else o)) (sym t) (subst (λ z. Reports z c o) (sym y) h)
 
-tells_after : (i : ℕ) (es : List Event) (x : Shown) (c : Loaded) (o : Option Event) → Tells x c o → Tells (after i es x) c (latest c.place i es o)
-tells_after i [] x c o h = h
-tells_after i (e ∷ es) x c o h = tells_after i es (if nat_le e.step i then changed_shown e.change x else x) c (if nat_le e.step i then (if c.place == place_of e.change then Some e else o) else o) (by (nat_le e.step i))
+reports_after : (i : ℕ) (es : List Event) (x : Shown) (c : Loaded) (o : Option Event) → Reports x c o → Reports (after i es x) c (latest c.place i es o)
+reports_after i [] x c o h = h
+reports_after i (e ∷ es) x c o h = reports_after i es (if nat_le e.step i then changed_shown e.change x else x) c (if nat_le e.step i then (if c.place == place_of e.change then Some e else o) else o) (by (nat_le e.step i))
   where
-    by : (b : Bool) → Tells (if b then changed_shown e.change x else x) c (if b then (if c.place == place_of e.change then Some e else o) else o)
-    by true = tells_changed x c o e h
+    by : (b : Bool) → Reports (if b then changed_shown e.change x else x) c (if b then (if c.place == place_of e.change then Some e else o) else o)
+    by true = reports_changed x c o e h
     by false = h
 
-line_told : (x : Shown) (c : Loaded) (o : Option Event) → Tells x c o → place_line x.cell.place (Some (plain x.cell)) x.gone ≡ told_line c o
-line_told x c None h = ap (λ (y : Shown). place_line y.cell.place (Some (plain y.cell)) y.gone) h
-line_told x c (Some e) h = by e.change h
+line_reported : (x : Shown) (c : Loaded) (o : Option Event) → Reports x c o → place_line x.cell.place (Some (plain x.cell)) x.gone ≡ reported_line c o
+line_reported x c None h = ap (λ (y : Shown). place_line y.cell.place (Some (plain y.cell)) y.gone) h
+line_reported x c (Some e) h = by e.change h
   where
-    by : (d : Change) → TellsChange x c d → place_line x.cell.place (Some (plain x.cell)) x.gone ≡ change_line c.place d
+    by : (d : Change) → ReportsChange x c d → place_line x.cell.place (Some (plain x.cell)) x.gone ≡ change_line c.place d
     by (Write q tag ws) h = ap (λ (y : Shown). place_line y.cell.place (Some (plain y.cell)) y.gone) h
     by (Release q) h = ap₂ (λ p g. place_line p (Some (plain x.cell)) g) h.0 h.1
 
-lines_told : (i : ℕ) (es : List Event) (cs : List Loaded) → lines (map (after i es) (map fresh cs)) ≡ told_lines i es cs
-lines_told i es [] = refl
-lines_told i es (c ∷ cs) = ap₂ (λ a b. a ++ b) (line_told (after i es (fresh c)) c (latest c.place i es None) (tells_after i es (fresh c) c None refl)) (lines_told i es cs)
+lines_reported : (i : ℕ) (es : List Event) (cs : List Loaded) → lines (map (after i es) (map fresh cs)) ≡ reported_lines i es cs
+lines_reported i es [] = refl
+lines_reported i es (c ∷ cs) = ap₂ (λ a b. a ++ b) (line_reported (after i es (fresh c)) c (latest c.place i es None) (reports_after i es (fresh c) c None refl)) (lines_reported i es cs)
 
-pub replay_told : (t : Trace) (i : ℕ) → IsTrace t → told_lines i t.events t.cells ≡ replayed t i
-replay_told t i h =
+pub replay_reported : (t : Trace) (i : ℕ) → IsTrace t → reported_lines i t.events t.cells ≡ replayed t i
+replay_reported t i h =
     let fresh_rises = rising_fresh 0 t.cells h.cells in
-    sym (lines_told i t.events t.cells)
+    sym (lines_reported i t.events t.cells)
     ∙ sym (text_is 0 (map (after i t.events) (map fresh t.cells)) (rising_after i t.events 0 (map fresh t.cells) fresh_rises))
     ∙ ap store_text (sym (replay_is t.events t.cells 1 t.steps i (map fresh t.cells) h.events (fits_fresh t.cells) fresh_rises))
     ∙ ap (λ s. store_text (replay s t.events i)) (sym (first_is t.cells))

@@ -214,7 +214,7 @@ cells_err one many n i least s t u xs e all lt inv h =
 pub cells_all : (n i least : ℕ) (s : Spot) (xs : List Loaded) (all : Read (List Loaded)) → n ≤ i → with_front xs (read_cells (n - i) least s.at s.rest) ≡ all → all ≡ Got xs s.at s.rest
 cells_all n i least s xs all le inv = sym inv ∙ ap (λ k. with_front xs (read_cells k least s.at s.rest)) (ended n i le) ∙ ap (λ ys. Got ys s.at s.rest) (append-nil xs)
 
--- behind the number of cells
+-- after the number of cells
 pub cells_first : (n : ℕ) (s t : Spot) (xs : List Loaded) → xs ≡ [] → read_number 4 0 s.at s.rest ≡ Got n t.at t.rest → with_front xs (read_cells (n - 0) 0 t.at t.rest) ≡ then_read (read_number 4 0 s.at s.rest) (λ n at rest. read_cells n 0 at rest)
 cells_first n s t xs e h =
     ap₂ (λ ys k. with_front ys (read_cells k 0 t.at t.rest)) e (whole n) ∙ front_none (read_cells n 0 t.at t.rest)
@@ -266,7 +266,7 @@ then_assoc : {A B C : Type 0} (r : Read A) (f : A → ℕ → List ℕ → Read 
 then_assoc (Got x at rest) f g = refl
 then_assoc (Bad at) f g = refl
 
--- the cells and the events, each behind its number, and the steps
+-- the cells and the events, each after its number, and the steps
 pub whole_got : (bytes : List ℕ) (s t u v : Spot) (cells : List Loaded) (events : List Event) (trace : Trace) → s ≡ record { at = 0; rest = bytes } → ◌≡◌ {A = Read (Unit {0})} (read_exactly (codes "FP2T" ++ (0 ∷ 1 ∷ [])) s.at s.rest) (Got tt t.at t.rest) → then_read (read_number 4 0 t.at t.rest) (λ n at rest. read_cells n 0 at rest) ≡ Got cells u.at u.rest → then_read (read_number 4 0 u.at u.rest) (λ n at rest. read_events n cells 1 at rest) ≡ Got events v.at v.rest → (end : ℕ) × (read_steps cells events v.at v.rest ≡ Got trace end []) → (end : ℕ) × (read_trace bytes ≡ Got trace end [])
 whole_got bytes s t u v cells events trace first h k l m =
     let from : ◌≡◌ {A = Read (Unit {0})} (read_exactly (codes "FP2T" ++ (0 ∷ 1 ∷ [])) 0 bytes) (Got tt t.at t.rest) = subst (λ (x : Spot). ◌≡◌ {A = Read (Unit {0})} (read_exactly (codes "FP2T" ++ (0 ∷ 1 ∷ [])) x.at x.rest) (Got tt t.at t.rest)) first h in (

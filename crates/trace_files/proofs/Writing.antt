@@ -7,7 +7,7 @@ use Rattle.cell_trace.specs.declared.trace.Event.{Event}
 use Rattle.run_loading.specs.TraceText.{big_endian, words_text, cell_text, cells_text, change_text, events_text}
 use Rattle.trace_files.specs.Plain.{plain_cell, plain_event}
 
--- one piece behind another
+-- one piece after another
 pub then_put : (old mid new p q : List ℕ) → mid ≡ old ++ p → new ≡ mid ++ q → new ≡ old ++ (p ++ q)
 then_put old mid new p q e f = f ∙ ap (λ b. b ++ q) e ∙ append_assoc old p q
 

@@ -21,7 +21,7 @@ abbrev pub latest : ℕ → ℕ → List Event → Option Event → Option Event
 latest p i [] o = o
 latest p i (e ∷ es) o = latest p i es (if nat_le e.step i then (if p == place_of e.change then Some e else o) else o)
 
--- the line of a cell at place p behind a change
+-- the line of a cell at place p after a change
 abbrev pub change_line : ℕ → Change → List ℕ
 change_line p (Write place tag fields) = live_line p (record { tag = tag; fields = fields })
 change_line p (Release place) = free_line p
@@ -30,19 +30,19 @@ abbrev pub event_line : ℕ → Event → List ℕ
 event_line p e = change_line p e.change
 
 -- the line of a cell of which this was the last event
-abbrev pub told_line : Loaded → Option Event → List ℕ
-told_line c None = live_line c.place (plain c)
-told_line c (Some e) = event_line c.place e
+abbrev pub reported_line : Loaded → Option Event → List ℕ
+reported_line c None = live_line c.place (plain c)
+reported_line c (Some e) = event_line c.place e
 
-abbrev pub told_lines : ℕ → List Event → List Loaded → List ℕ
-told_lines i es [] = []
-told_lines i es (c ∷ cs) = told_line c (latest c.place i es None) ++ told_lines i es cs
+abbrev pub reported_lines : ℕ → List Event → List Loaded → List ℕ
+reported_lines i es [] = []
+reported_lines i es (c ∷ cs) = reported_line c (latest c.place i es None) ++ reported_lines i es cs
 
 -- the event of a number
 abbrev pub numbered : List Event → Option ℕ → Option Event
 numbered es o = option_and_then (slice_get es) o
 
--- words, each behind a space
+-- words, each after a space
 abbrev pub words_line : List ℕ → List ℕ
 words_line [] = []
 words_line (w ∷ ws) = 32 ∷ decimal w ++ words_line ws
@@ -51,7 +51,7 @@ words_line (w ∷ ws) = 32 ∷ decimal w ++ words_line ws
 abbrev pub lines_by : List Event → List Loaded → List (Option ℕ) → List ℕ
 lines_by es [] os = []
 lines_by es (c ∷ cs) [] = []
-lines_by es (c ∷ cs) (o ∷ os) = told_line c (numbered es o) ++ lines_by es cs os
+lines_by es (c ∷ cs) (o ∷ os) = reported_line c (numbered es o) ++ lines_by es cs os
 
 -- What is the last event of a cell at place p, where o was it before and this event comes, of this number.
 abbrev pub IsMarked : Event → ℕ → ℕ → ℕ → Option (Option ℕ) → Option ℕ → Type 0

@@ -6,7 +6,7 @@ ghost use Rattle.run_loading.specs.Replaying.{replayed, live_line, free_line};
 ghost use Rattle.cell_trace.specs.declared.trace.LoadedCell.{LoadedCell as a_cell};
 ghost use Rattle.trace_files.specs.Plain.{plain_cell, plain_event, plain_trace};
 ghost use Rattle.trace_files.specs.Reading.{AreRising};
-ghost use Rattle.trace_files.specs.Lines.{IsMarked, event_line, latest, lines_by, numbered, told_line};
+ghost use Rattle.trace_files.specs.Lines.{IsMarked, event_line, latest, lines_by, numbered, reported_line};
 ghost use Rattle.trace_files.specs.Lines.{words_line};
 
 use crate::read::{number_of, place_of, step_of};
@@ -47,7 +47,7 @@ fn last_events(
     Ok(last)
 }
 
-// The event of a number is the last one of its cell, where it isn't behind the step.
+// The event of a number is the last one of its cell, where it isn't after the step.
 fn mark(
     last: &mut Vec<Option<usize>>,
     cells: &[LoadedCell],
@@ -57,7 +57,7 @@ fn mark(
 )
     requires all { length last.old.items ≡ length cells.now }
     ensures all { length last.new.items ≡ length cells.now }
-    ensures told { AreRising 0 (map plain_cell cells.now) → (k : ℕ) (c : a_cell) (o : Option ℕ) →
+    ensures reported { AreRising 0 (map plain_cell cells.now) → (k : ℕ) (c : a_cell) (o : Option ℕ) →
         slice_get cells.now k ≡ Some c → slice_get last.new.items k ≡ Some o →
         IsMarked (plain_event event.now) number step c.place (slice_get last.old.items k) o }
 {
@@ -97,7 +97,7 @@ fn put_cell(
     last: Option<usize>,
 ) -> Result<(), NoMemory>
     ensures line { OnOk result (text.new.items
-        ≡ text.old.items ++ told_line (plain_cell cell.now) (numbered (map plain_event events.now) last)) }
+        ≡ text.old.items ++ reported_line (plain_cell cell.now) (numbered (map plain_event events.now) last)) }
 {
     match last {
         None => put_live(text, cell.place, cell.tag, cell.fields.as_slice()),
@@ -108,7 +108,7 @@ fn put_cell(
     }
 }
 
-// The line of the cell at a place, behind this event.
+// The line of the cell at a place, after this event.
 fn put_event(text: &mut Vec<u8>, place: u32, event: &Event) -> Result<(), NoMemory>
     ensures line { OnOk result (text.new.items ≡ text.old.items ++ event_line place (plain_event event.now)) }
 {
@@ -141,7 +141,7 @@ fn put_live(text: &mut Vec<u8>, place: u32, tag: u32, fields: &[u64]) -> Result<
     Ok(())
 }
 
-// The words, each behind a space.
+// The words, each after a space.
 fn put_words(text: &mut Vec<u8>, words: &[u64]) -> Result<(), NoMemory>
     ensures words { OnOk result (text.new.items ≡ text.old.items ++ words_line words.now) }
 {

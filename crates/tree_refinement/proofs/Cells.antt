@@ -1,4 +1,4 @@
--- What a gauge tells of cells, by trees.
+-- What a gauge reports of cells, by trees.
 -- The idea: held cells only fall, so the first state has the most and the last one the least; both are counted by trees.
 use Rattle.std.proofs.Common.{◌≡◌, ◌∙◌, ℕ, zero, suc, ◌+◌, ◌≤◌, Bool, true, false, not, ◌&&◌, List, [], ◌∷◌, ◌++◌, map, refl, ap, subst, arith, if◌then◌else◌}
 use Rattle.tree_semantics.specs.fip_language.Gauge.{lowest, highest}

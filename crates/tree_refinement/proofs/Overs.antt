@@ -1,4 +1,4 @@
--- Behind its end a run shows no more states; and it is at its end after as many steps as it says.
+-- After its end a run shows no more states; and it is at its end after as many steps as it says.
 use Rattle.std.proofs.Common.{◌≡◌, ◌∙◌, ℕ, zero, suc, ◌+◌, ◌∷◌, map, refl, sym, ap, subst, arith}
 use Rattle.tree_semantics.specs.machine_semantics.Codes.{PlainCode}
 use Rattle.tree_semantics.specs.machine_semantics.Gauges.{seen_of, states, seen}

@@ -42,7 +42,7 @@ use Rattle.tree_refinement.specs.Agreement.{type_in, Shows, AreShown}
 use Rattle.tree_refinement.proofs.Values.{used_up_shown, written_shown, gone_shown, reworded_shown}
 use Rattle.tree_refinement.proofs.Operating.{GivesValue, operate_value, int_value}
 
--- The instruction is done on cells, n comes on trees, and behind both registers show the same.
+-- The instruction is done on cells, n comes on trees, and after both registers show the same.
 pub record Follows (c : PlainCode) (f : PlainFunction) (ks : List Kind) (s : State) (x : Instr) (t : U.State) (n : U.Next) : Type 0 where
   pub done : R.Done
   pub is : R.done c.types ks s x ≡ Some done

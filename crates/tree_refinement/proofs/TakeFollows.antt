@@ -142,7 +142,7 @@ parts_put tb s i n cs (d ∷ ds) (t ∷ ts) (MoreParts x xs) v l p g h q =
     ap (λ o. by_part v o (T.put cs d (value_of x) q)) (no_part (suc i) ds ts q (subst (λ q. has ds q ≡ false) same p.2)) ∙ put_same cs d (value_of x) q (sym same) ∙ sym here)
     (λ e. ap (by_part v (part_from (suc i) ds ts q)) (put_other cs d (value_of x) q (λ z. true≢false (sym (equal_is d q (sym z)) ∙ e)))))
 
--- ---- the registers behind it
+-- ---- the registers after it
 
 type_credit : (n : ℕ) → type_in (credit n) ≡ None
 type_credit zero = refl
@@ -207,10 +207,10 @@ take_follows c f b ks hs s code t r ds g same shown =
     let values : (q : ℕ) → T.put_all cs ds (values_of ps) q ≡ by_part (λ j. value_or (part_in ps j)) (part ds ts q) (cs q) = λ q.
     parts_put c.types s.store 0 (length ws) cs ds ts ps (λ j. value_or (part_in ps j)) can.number plain can.comes.stand
     (λ j. let z : 0 + j ≡ j = omega arith in ap (λ j. value_or (part_in ps j)) z) q in
-    let behind : ℕ → Kind = λ q. part_or c.types r (at ks q) (part ds ts q) (if q == r then credit (length ds) else forget (ends c.types ks r (part ds ts) (length ds) to) (fate (to q) r (at ks q))) in
-    let each : (q : ℕ) → Shows c.types s.store (type_in (behind q)) (word_at written.words q) (T.put_all cs ds (values_of ps) q) = λ q.
-    subst (λ w. Shows c.types s.store (type_in (behind q)) w (T.put_all cs ds (values_of ps) q)) (sym (written.each q))
-    (subst (λ v. Shows c.types s.store (type_in (behind q)) (by_part (λ j. word_or (part_in ps j)) (part ds ts q) (word_at ws q)) v) (sym (values q))
+    let following : ℕ → Kind = λ q. part_or c.types r (at ks q) (part ds ts q) (if q == r then credit (length ds) else forget (ends c.types ks r (part ds ts) (length ds) to) (fate (to q) r (at ks q))) in
+    let each : (q : ℕ) → Shows c.types s.store (type_in (following q)) (word_at written.words q) (T.put_all cs ds (values_of ps) q) = λ q.
+    subst (λ w. Shows c.types s.store (type_in (following q)) w (T.put_all cs ds (values_of ps) q)) (sym (written.each q))
+    (subst (λ v. Shows c.types s.store (type_in (following q)) (by_part (λ j. word_or (part_in ps j)) (part ds ts q) (word_at ws q)) v) (sym (values q))
     (taken_shows c.types s.store b ks (word_at ws) hs cs r ds ts left y ps to takes g.meant shown q (part ds ts q) refl)) in
     follows c f ks s (I.Take r ds) t _ (s.running.at + 1) written.words left (T.put_all cs ds (values_of ps))
     (ap (R.on s) (taken_is c.types s.store s r ds ts (word_at ws r) ps _ (word_get ws r (omega arith)) can.number can.comes.stand can.comes.fields written))
@@ -218,7 +218,7 @@ take_follows c f b ks hs s code t r ds g same shown =
     (ap (λ v. N.on t (T.put_all cs ds (children v))) (sym can.value) ∙ ap (λ vs. N.on t (T.put_all cs ds vs)) can.comes.values ∙ on_is s t (T.put_all cs ds (values_of ps)) same)
     (record {
       each = λ q. elim (less_or_not q (length ks)) as (λ v. Shows c.types s.store (type_in (at left q)) (word_at written.words q) (T.put_all cs ds (values_of ps) q)) [
-        | inl h ↦ subst (λ k. Shows c.types s.store (type_in k) (word_at written.words q) (T.put_all cs ds (values_of ps) q)) (sym (at_become ks behind q h)) (each q)
-        | inr h ↦ subst (λ k. Shows c.types s.store (type_in k) (word_at written.words q) (T.put_all cs ds (values_of ps) q)) (sym (at_past left q (subst (λ n. n ≤ q) (sym (length_become ks behind)) h))) tt
+        | inl h ↦ subst (λ k. Shows c.types s.store (type_in k) (word_at written.words q) (T.put_all cs ds (values_of ps) q)) (sym (at_become ks following q h)) (each q)
+        | inr h ↦ subst (λ k. Shows c.types s.store (type_in k) (word_at written.words q) (T.put_all cs ds (values_of ps) q)) (sym (at_past left q (subst (λ n. n ≤ q) (sym (length_become ks following)) h))) tt
       ];
     })

@@ -1,4 +1,4 @@
-// The laws of runs on cells and on trees. Each is the contract of a function that does nothing.
+// The theorems of runs on cells and on trees. Each is the contract of a function that does nothing.
 ghost use Rattle.std.specs.Prelude.{◌≡◌, ℕ, pos, List, [], ◌∷◌};
 ghost use Rattle.tree_semantics.specs.fip_language.Values.{Value, Values};
 ghost use Rattle.tree_semantics.specs.fip_language.Meaning.{Answer};
@@ -24,19 +24,19 @@ ghost use Rattle.tree_refinement.specs.Runs.{BeginsWith, IsSameEnd, IsSameRun};
 
 /// A word of a type stands for one value at most. For who asks whether a word could be read in two ways.
 pub fn a_word_stands_for_one_value()
-    ensures law { (types : Table) (s : Store) (type word : ℕ) (v u : Value) → IsWordOf types s type word v →
+    ensures theorem { (types : Table) (s : Store) (type word : ℕ) (v u : Value) → IsWordOf types s type word v →
         IsWordOf types s type word u → v ≡ u }
 {}
 
 /// Values that words of some types stand for have these types. For who reads the results of a machine.
 pub fn words_stand_for_values_of_their_types()
-    ensures law { (types : Table) (s : Store) (ts words : List ℕ) (values : Values) →
+    ensures theorem { (types : Table) (s : Store) (ts words : List ℕ) (values : Values) →
         AreWordsOf types s ts words values → HaveTypes types ts values }
 {}
 
 /// The first registers of an entry stand for its arguments. For who doubts that a run has some.
 pub fn an_entry_has_arguments()
-    ensures law { (c : PlainCode) (before waits : Kinds) (n : ℕ) (kept : List ℕ) (s : State) →
+    ensures theorem { (c : PlainCode) (before waits : Kinds) (n : ℕ) (kept : List ℕ) (s : State) →
         IsStart c before waits n kept s → (arguments : Values) × BeginsWith c n s arguments }
 {}
 
@@ -56,7 +56,7 @@ pub fn each_step_on_cells_is_the_step_on_trees()
 /// A run of sound code on cells is at each moment the run on trees, from the entry with the values of its arguments.
 /// For who knows what code does to trees, and wants to know what it does to cells.
 pub fn a_run_on_cells_is_the_run_on_trees()
-    ensures law { (c : PlainCode) (before waits : Kinds) (n : ℕ) (kept : List ℕ) (s : State)
+    ensures theorem { (c : PlainCode) (before waits : Kinds) (n : ℕ) (kept : List ℕ) (s : State)
         (arguments : Values) (calls steps : ℕ) → IsStart c before waits n kept s → BeginsWith c n s arguments →
         IsSameRun c.types before waits (results c n) (after before (run_code c) steps (begun s calls))
         (T.after (run_code c) steps (T.begun (T.entry n arguments s.free) calls)) }

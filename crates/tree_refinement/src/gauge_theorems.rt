@@ -1,4 +1,4 @@
-// The laws on what is told of runs of sound code. Each is the contract of a function that does nothing.
+// The theorems on what is reported of runs of sound code. Each is the contract of a function that does nothing.
 ghost use Rattle.std.specs.Prelude.{◌≡◌, ◌≤◌, ◌+◌, ℕ, List, []};
 ghost use Rattle.tree_semantics.specs.fip_language.Gauge.{lowest, highest, highest_frames, highest_words};
 ghost use Rattle.tree_semantics.specs.fip_language.Store.{count};
@@ -53,7 +53,7 @@ pub fn a_run_is_the_same_wherever_its_cells_lie()
         ≡ lowest size (seen first (run_code c) y.enough (begun u calls)) }
 {}
 
-/// What the gauge of a run of sound code tells of the cells of each size, by trees: as the highest number that of the
+/// What the gauge of a run of sound code reports of the cells of each size, by trees: as the highest number that of the
 /// arguments' cells and the credits, and where the run gives values, as the lowest that of the results' cells and the
 /// lent arguments'. For who computes it without a run.
 pub fn a_gauge_of_cells_is_said_by_trees()

@@ -1,4 +1,4 @@
--- Laws of put.
+-- Theorems of put.
 use Rattle.std.proofs.Common.{◌≡◌, ℕ, refl}
 use Rattle.std.specs.Prelude.{eqb}
 use Rattle.std.proofs.lemmas.Bool.{eq-eqb, eqb-true, eqb-false, cond_both, cond-true}

@@ -1,4 +1,4 @@
-// Runs of code whose registers hold trees in place of words over cells: definitions, and their laws as contracts of
+// Runs of code whose registers hold trees in place of words over cells: definitions, and their theorems as contracts of
 // functions that do nothing. It lies between what a program means and what its code does to cells.
 #![tactic(auto)]
 

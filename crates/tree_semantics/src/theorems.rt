@@ -1,4 +1,4 @@
-// The laws of the definitions. Each is the contract of a function that does nothing.
+// The theorems of the definitions. Each is the contract of a function that does nothing.
 ghost use Rattle.std.specs.Prelude.{◌≡◌, ℕ, Some};
 ghost use Rattle.machine_semantics.specs.fip_language.Meaning.{Answer, Gives, Trap, Out, Deep};
 ghost use Rattle.machine_semantics.specs.fip_language.Values.{End, More};

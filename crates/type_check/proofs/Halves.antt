@@ -236,7 +236,7 @@ abbrev pub before_block : List BoundPart → T.Block → T.Block
 before_block [] r = r
 before_block (b ∷ bs) r = T.Let b.binders b.bound (before_block bs r)
 
--- the block with the first bindings filled, where `r` is the scope behind them
+-- the block with the first bindings filled, where `r` is the scope after them
 abbrev pub Block_half : World → Scope → Bool → List (Option ℕ) → ℕ → List Binding → T.Expression → T.Block
 Block_half w r b ts i xs e = before_block (map binding (take i xs)) (fill_block w r b ts (block_of (map binding (drop i xs)) e))
 
@@ -287,24 +287,24 @@ block_done w r b ts (y ∷ ys) e f (suc i) h g = ap (λ z. T.Let (binding y).bin
 
 -- ---- parameters
 
-abbrev behind : List Param → List Param
-behind [] = []
-behind (p ∷ ps) = ps
+abbrev following : List Param → List Param
+following [] = []
+following (p ∷ ps) = ps
 
-no_params : (i : ℕ) → drop i (behind []) ≡ []
+no_params : (i : ℕ) → drop i (following []) ≡ []
 no_params zero = refl
 no_params (suc i) = refl
 
-drop_behind : (ps : List Param) (i : ℕ) → drop (suc i) ps ≡ drop i (behind ps)
-drop_behind [] i = sym (no_params i)
-drop_behind (p ∷ ps) i = refl
+drop_after : (ps : List Param) (i : ℕ) → drop (suc i) ps ≡ drop i (following ps)
+drop_after [] i = sym (no_params i)
+drop_after (p ∷ ps) i = refl
 
-behind_drop : (ps : List Param) (i : ℕ) → behind (drop i ps) ≡ drop (i + 1) ps
-behind_drop [] i = rw (no_params i, no_params (i + 1)) refl
-behind_drop (p ∷ ps) zero = refl
-behind_drop (p ∷ ps) (suc i) = behind_drop ps i ∙ ap (λ k. drop k ps) (add-one i) ∙ sym (ap (λ k. drop k (p ∷ ps)) (add-one (suc i)))
+after_drop : (ps : List Param) (i : ℕ) → following (drop i ps) ≡ drop (i + 1) ps
+after_drop [] i = rw (no_params i, no_params (i + 1)) refl
+after_drop (p ∷ ps) zero = refl
+after_drop (p ∷ ps) (suc i) = after_drop ps i ∙ ap (λ k. drop k ps) (add-one i) ∙ sym (ap (λ k. drop k (p ∷ ps)) (add-one (suc i)))
 
-fill_next : (ps : List Param) (b : Binder) (bs : List Binder) → fill_parameters ps (b ∷ bs) ≡ fill_first ps b ∷ fill_parameters (behind ps) bs
+fill_next : (ps : List Param) (b : Binder) (bs : List Binder) → fill_parameters ps (b ∷ bs) ≡ fill_first ps b ∷ fill_parameters (following ps) bs
 fill_next [] b bs = refl
 fill_next (p ∷ ps) b bs = refl
 
@@ -312,7 +312,7 @@ fill_end : (ps : List Param) → fill_parameters ps [] ≡ []
 fill_end [] = refl
 fill_end (p ∷ ps) = refl
 
-entries_next : (ps : List Param) (b : Binder) (bs : List Binder) → parameter_entries ps (b ∷ bs) ≡ entry_first ps b ++ parameter_entries (behind ps) bs
+entries_next : (ps : List Param) (b : Binder) (bs : List Binder) → parameter_entries ps (b ∷ bs) ≡ entry_first ps b ++ parameter_entries (following ps) bs
 entries_next [] b bs = refl
 entries_next (p ∷ ps) b bs = refl
 
@@ -325,11 +325,11 @@ Params_half ps i bs = take i bs ++ fill_parameters (drop i ps) (drop i bs)
 
 params_set : (ps : List Param) (bs : List Binder) (i : ℕ) (x d : Binder) → i < length bs → x ≡ fill_first (drop i ps) (get_or bs i d) → Params_half ps (suc i) (set bs i x) ≡ Params_half ps i bs
 params_set ps [] i x d h e = absurd (omega arith)
-params_set ps (y ∷ ys) zero x d h e = rw (e, drop_behind ps 0) (sym (fill_next ps y ys))
+params_set ps (y ∷ ys) zero x d h e = rw (e, drop_after ps 0) (sym (fill_next ps y ys))
 params_set ps (y ∷ ys) (suc i) x d h e =
-    let f = drop_behind ps i in
-    let g = drop_behind ps (suc i) in
-    rw (f, g) (ap (λ (r : List Binder). y ∷ r) (params_set (behind ps) ys i x d (omega arith) (e ∙ ap (λ q. fill_first q (get_or ys i d)) f)))
+    let f = drop_after ps i in
+    let g = drop_after ps (suc i) in
+    rw (f, g) (ap (λ (r : List Binder). y ∷ r) (params_set (following ps) ys i x d (omega arith) (e ∙ ap (λ q. fill_first q (get_or ys i d)) f)))
 
 pub params_step : (ps : List Param) (bs : List Binder) (i j : ℕ) (x d : Binder) → i < length bs → j ≡ i → x ≡ fill_first (drop j ps) (get_or bs i d) → Params_half ps (i + 1) (set bs i x) ≡ Params_half ps i bs
 params_step ps bs i j x d h q e = ap (λ k. Params_half ps k (set bs i x)) (add-one i) ∙ params_set ps bs i x d h (e ∙ ap (λ k. fill_first (drop k ps) (get_or bs i d)) q)
@@ -340,7 +340,7 @@ params_entered ps bs i j x d s r h q g =
     let rest = drop (i + 1) (set bs i x) in
     ap (λ s. s ++ parameter_entries (drop (i + 1) ps) rest) (g ∙ ap (λ k. s ++ entry_first (drop k ps) y) q)
     ∙ append_assoc s (entry_first (drop i ps) y) (parameter_entries (drop (i + 1) ps) rest)
-    ∙ sym (ap (λ q. s ++ (entry_first (drop i ps) y ++ parameter_entries q rest)) (behind_drop ps i))
+    ∙ sym (ap (λ q. s ++ (entry_first (drop i ps) y ++ parameter_entries q rest)) (after_drop ps i))
     ∙ sym (ap (λ z. s ++ z) (entries_next (drop i ps) y rest))
     ∙ sym (ap (λ r. s ++ parameter_entries (drop i ps) r) (item_first bs i x d h))
 
@@ -361,7 +361,7 @@ pub params_done : (ps : List Param) (bs : List Binder) (i : ℕ) → length bs �
 params_done ps [] zero h = fill_end ps
 params_done ps [] (suc i) h = fill_end (drop (suc i) ps)
 params_done ps (y ∷ ys) zero h = absurd (omega arith)
-params_done ps (y ∷ ys) (suc i) h = rw (drop_behind ps i) (ap (λ (r : List Binder). y ∷ r) (params_done (behind ps) ys i (omega arith)))
+params_done ps (y ∷ ys) (suc i) h = rw (drop_after ps i) (ap (λ (r : List Binder). y ∷ r) (params_done (following ps) ys i (omega arith)))
 
 -- ---- instances
 

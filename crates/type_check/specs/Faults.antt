@@ -147,7 +147,7 @@ abbrev mutual
       (binders_faults i (all_annotated bs) bs (found w s (all_annotated bs) (annotations bs) e) ++
       block_faults w i (s ++ entries bs (found w s (all_annotated bs) (annotations bs) e)) b ts rest)
 
-  -- the clauses behind the first, of which `ts` are expected
+  -- the clauses after the first, of which `ts` are expected
   pub clauses_faults : World → ℕ → Scope → Option ℕ → List (Option ℕ) → Clauses → List Violation
   clauses_faults w i s t ts NoClauses = []
   clauses_faults w i s t ts (MoreClauses q body cs) =

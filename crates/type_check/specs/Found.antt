@@ -8,7 +8,7 @@ abbrev pub first_type : List (Option ℕ) → Option ℕ
 first_type [] = None
 first_type (t ∷ ts) = t
 
--- the types behind the first
+-- the types after the first
 abbrev pub others : List (Option ℕ) → List (Option ℕ)
 others [] = []
 others (t ∷ ts) = ts
@@ -53,7 +53,7 @@ abbrev pub misfits : Option (Option ℕ) → Option ℕ → Bool
 misfits None t = false
 misfits (Some o) t = differ o t
 
--- what is expected of the clauses behind the first, which gives `us`, where `ts` are expected of the match or not
+-- what is expected of the clauses after the first, which gives `us`, where `ts` are expected of the match or not
 abbrev pub wanted_next : Bool → List (Option ℕ) → List (Option ℕ) → List (Option ℕ)
 wanted_next true ts us = ts
 wanted_next false ts us = us

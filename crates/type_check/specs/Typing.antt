@@ -7,7 +7,7 @@
 -- expression, and a match to its clauses; where nothing is expected of a match, its first clause's types are expected
 -- of the others. A constructor of a data type with parameters has a type only where one is expected.
 --
--- In each relation `f` tells whether the slots are asked to be filled, and `b` whether the types are expected: if not,
+-- In each relation `f` reports whether the slots are asked to be filled, and `b` whether the types are expected: if not,
 -- they are only found. So with `f` false these are the rules, and with `f` true the same rules say that a tree is well
 -- typed by the types in its slots.
 use Rattle.std.specs.Prelude.{◌≡◌, ◌≤◌, ℕ, Bool, true, false, List, [], ◌∷◌, ◌++◌, map, length, Option, Some, None}
@@ -92,7 +92,7 @@ abbrev mutual
       (us : List ℕ) × Types f w s (all_annotated bs) e us × Bind f bs us ×
       TypesBlock f w (s ++ entries bs (map Some us)) b rest ts
 
-  -- the clauses behind the first
+  -- the clauses after the first
   pub TypesClauses : Bool → World → Scope → ℕ → Clauses → List ℕ → Type 0
   TypesClauses f w s t NoClauses ts = Unit {0}
   TypesClauses f w s t (MoreClauses q body cs) ts =

@@ -92,20 +92,20 @@ pub(crate) fn count_of(arguments: &[Argument]) -> usize
     arguments.len()
 }
 
-// Checks a variable of whose type something is told, or nothing where it isn't in scope; its type.
+// Checks a variable of whose type something is reported, or nothing where it isn't in scope; its type.
 fn check_variable(
     walk: &Walk,
     want: Want,
-    told: Option<Found>,
+    reported: Option<Found>,
     name: &Name,
     place: Place,
     least: &mut Least,
 ) -> Result<Found, NoMemory>
-    ensures found { IfOk result (λ t. t ≡ F.known told) }
+    ensures found { IfOk result (λ t. t ≡ F.known reported) }
     ensures faults { OnOk result (least.new ≡
-        after least.old (variable_faults walk.now.instance want told name.now place)) }
+        after least.old (variable_faults walk.now.instance want reported name.now place)) }
 {
-    match told {
+    match reported {
         None => {
             walk.note(Rule::E31, place, name.as_slice(), least)?;
             Ok(None)

@@ -193,8 +193,8 @@ fn check_call(
     as_expected(walk.alloc, all_known(walk.alloc, types)?, results)
 }
 
-// What is expected of the clauses behind the first: what is expected of the match, else the types of the first.
-fn types_behind<'a>(results: Results<'a>, first: &'a [Found]) -> &'a [Found]
+// What is expected of the clauses after the first: what is expected of the match, else the types of the first.
+fn types_after<'a>(results: Results<'a>, first: &'a [Found]) -> &'a [Found]
     ensures { result.now ≡ wanted_next results.entry.expected results.entry.types.now first.now }
 {
     if results.expected {
@@ -256,8 +256,8 @@ pub(crate) fn check_expression(
             let found = check_argument(walk, scope, None, scrutinee, least)?;
             *ty = slot(found);
             let types = check_clause(walk, scope, found, results, first, least)?;
-            let behind = types_behind(results, &types);
-            check_clauses(walk, scope, found, behind, others, least)?;
+            let following = types_after(results, &types);
+            check_clauses(walk, scope, found, following, others, least)?;
             Ok(types)
         }
         Expression::Nested(block) => check_nested(walk, scope, results, block, least),
@@ -320,7 +320,7 @@ fn check_clause(
     Ok(types)
 }
 
-// The clauses behind the first, of which types are expected.
+// The clauses after the first, of which types are expected.
 #[cycle(expression)]
 #[tactic(auto, using(crate::proofs::Shared::noting))]
 fn check_clauses(

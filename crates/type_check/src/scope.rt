@@ -75,7 +75,7 @@ impl Scope {
         }
     }
 
-    /// Enters a variable behind the others; an error where no memory is left, and then nothing changes.
+    /// Enters a variable after the others; an error where no memory is left, and then nothing changes.
     pub(crate) fn enter(&mut self, entry: Entry) -> Result<(), NoMemory>
         ensures added { OnOk result (self.new ≡ self.old ++ entry ∷ []) }
         ensures same { OnErr result (self.new ≡ self.old) }

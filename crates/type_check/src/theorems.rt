@@ -1,4 +1,4 @@
-// Laws of typing.
+// Theorems of typing.
 ghost use Rattle.std.specs.Prelude.{◌≡◌, ℕ, List, [], false, true, ◌↔◌};
 ghost use Rattle.fip_trees.specs.Tree.{Program, Block};
 ghost use Rattle.type_check.specs.World.{World};

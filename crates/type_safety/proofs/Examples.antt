@@ -1,4 +1,4 @@
--- The program of the examples is well typed, so the laws speak of some program.
+-- The program of the examples is well typed, so the theorems speak of some program.
 use Rattle.std.proofs.Common.{◌≡◌, ◌<◌, ℕ, zero, suc, pos, true, [], ◌∷◌, Some, FitsSigned, arith, refl, sym, subst}
 use Rattle.std.specs.Prelude.{codes}
 use Rattle.std.specs.Int.{w64}

@@ -63,7 +63,7 @@ sound_operation tb f t o p k (Int i) (Int j) h g = sound_operated tb (result_of 
 sound_operation tb f t o p k (Int i) (Node c vs) h g = absurd g
 sound_operation tb f t o p k (Node c vs) w h g = absurd h
 
--- the clause that matches, or one behind it
+-- the clause that matches, or one after it
 sound_clause : (tb : Table) (ts : List ℕ) (o : Option (List Binding)) (go : List Binding → Run) (other : Run) (rest : Bool) → ((bs : List Binding) → o ≡ Some bs → Sound tb ts (go bs)) → (rest ≡ true → Sound tb ts other) → (if is_some o then true else rest) ≡ true → Sound tb ts (if_matches o go other)
 sound_clause tb ts None go other rest h g e = g e
 sound_clause tb ts (Some bs) go other rest h g e = h bs refl

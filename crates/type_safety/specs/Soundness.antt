@@ -1,4 +1,4 @@
--- What the law on typed programs says: what an evaluation gives is of the types of the results, and it is never stuck.
+-- What the theorem on typed programs says: what an evaluation gives is of the types of the results, and it is never stuck.
 -- It may end in a trap, run out of calls, or be too deep.
 use Rattle.std.specs.Prelude.{ℕ, List}
 use Rattle.match_cover.specs.fip_language.Table.{Table, HaveTypes}

@@ -1,4 +1,4 @@
-// The laws of typed programs without static parameters. Each is the contract of a function that does nothing.
+// The theorems of typed programs without static parameters. Each is the contract of a function that does nothing.
 ghost use Rattle.std.specs.Prelude.{◌≡◌, ℕ, Some, slice_get};
 ghost use Rattle.match_cover.specs.fip_language.Values.{Values};
 ghost use Rattle.match_cover.specs.fip_language.Table.{HaveTypes};
@@ -18,7 +18,7 @@ ghost use Rattle.type_safety.specs.Soundness.{IsSoundAnswer, IsTypedAnswer, para
 /// A program with its types filled in means what it meant before. For who types a program and then runs it.
 #[tactic(auto, using(crate::proofs::FilledSlots::filled_means))]
 pub fn typing_keeps_the_meaning()
-    ensures law { (program : Program) (i : ℕ) (arguments : Values) (calls frames : ℕ) →
+    ensures theorem { (program : Program) (i : ℕ) (arguments : Values) (calls frames : ℕ) →
         flat_meaning (filled program) i arguments calls frames ≡ flat_meaning program i arguments calls frames }
 {}
 
@@ -26,7 +26,7 @@ pub fn typing_keeps_the_meaning()
 /// in a trap, out of calls or of frames: it never gets stuck. For who runs a program that was accepted.
 #[tactic(auto, using(crate::proofs::WellTyped::meaning_sound))]
 pub fn well_typed_programs_do_not_get_stuck()
-    ensures law { (program : Program) (i : ℕ) (f : Instance) (arguments : Values) (calls frames : ℕ) →
+    ensures theorem { (program : Program) (i : ℕ) (f : Instance) (arguments : Values) (calls frames : ℕ) →
         IsWellTyped program → slice_get program.instances i ≡ Some f →
         HaveTypes program.types (parameter_types f) arguments →
         IsSoundAnswer program.types f.results (flat_meaning program i arguments calls frames).answer }
@@ -36,7 +36,7 @@ pub fn well_typed_programs_do_not_get_stuck()
 /// its matches cover. For who reads a value.
 #[tactic(auto, using(crate::proofs::Gains::meaning_gained))]
 pub fn typed_programs_give_typed_values()
-    ensures law { (program : Program) (i : ℕ) (f : Instance) (arguments : Values) (calls frames : ℕ) →
+    ensures theorem { (program : Program) (i : ℕ) (f : Instance) (arguments : Values) (calls frames : ℕ) →
         IsFormed program → IsFilled program → slice_get program.instances i ≡ Some f →
         HaveTypes program.types (parameter_types f) arguments →
         IsTypedAnswer program.types f.results (flat_meaning program i arguments calls frames).answer }
@@ -45,7 +45,7 @@ pub fn typed_programs_give_typed_values()
 /// Where all matches are covered, each has a clause for each value of its scrutinee's type. For who evaluates a match.
 #[tactic(auto, using(crate::proofs::Covering::covered_exhaustive))]
 pub fn covered_matches_are_exhaustive()
-    ensures law { (program : CodeProgram) → AllCovered program.types program.instances.items →
+    ensures theorem { (program : CodeProgram) → AllCovered program.types program.instances.items →
         AreExhaustive program.types (V.program program).instances }
 {}
 
@@ -53,13 +53,13 @@ pub fn covered_matches_are_exhaustive()
 /// checks.
 #[tactic(auto, using(crate::proofs::Covering::accepted_well_typed))]
 pub fn accepted_programs_are_well_typed()
-    ensures law { (program : CodeProgram) → IsFormed (V.program program) → IsFilled (V.program program) →
+    ensures theorem { (program : CodeProgram) → IsFormed (V.program program) → IsFilled (V.program program) →
         IsReady program.types program.instances.items → Accepts program.types program.instances.items →
         IsWellTyped (V.program program) }
 {}
 
-/// There are well typed programs: that of the examples is one. For who doubts that the laws speak of any.
+/// There are well typed programs: that of the examples is one. For who doubts that the theorems speak of any.
 #[tactic(auto, using(crate::proofs::Examples::lists_well_typed))]
 pub fn an_example_is_well_typed()
-    ensures law { IsWellTyped lists }
+    ensures theorem { IsWellTyped lists }
 {}

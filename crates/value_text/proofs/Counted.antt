@@ -16,7 +16,7 @@ use Rattle.value_text.specs.declared.counts.Counts.{Counts}
 use Rattle.value_text.specs.declared.read.Event.{Event}
 use Rattle.value_text.specs.declared.read.Event.TheVariants as E
 use Rattle.value_text.specs.declared.read.Refused.TheVariants.{BadValue}
-use Rattle.value_text.specs.Reading.{Outline, KnownRows, IsKnown, Spot, Before, Behind, Nowhere, state_at, rows_of, lines_of, outline_at, spot_of, GoesOn, behind_at, Origin, whole, alone, Moves, IsLast, Stepped, cost_of, IsReading}
+use Rattle.value_text.specs.Reading.{Outline, KnownRows, IsKnown, Spot, Before, After, Nowhere, state_at, rows_of, lines_of, outline_at, spot_of, GoesOn, after_at, Origin, whole, alone, Moves, IsLast, Stepped, cost_of, IsReading}
 use Rattle.value_text.specs.Counting.{closes, values_before, values_to, spent, spent_at, count_at, IsCounting}
 
 -- cells and words of values in a row
@@ -92,7 +92,7 @@ cells_grow E.Opened vs vs' g k = let a = ap (cells_of_all k) g in omega (arith, 
 cells_grow E.Comma vs vs' g k = let a = ap (cells_of_all k) g in omega (arith, a)
 cells_grow E.Line vs vs' g k = let a = ap (cells_of_all k) g in omega (arith, a)
 
--- each event tells of its words
+-- each event reports of its words
 pub spent_moves : (e : Event) (s s' : Spot) → Moves e s s' → spent_at s' ≡ spent_at s + cost_of e
 spent_moves (E.Number i) s s' m = ap spent_at m.2 ∙ (let z : spent m.0 + 0 ≡ spent m.0 + 0 = refl in z) ∙ ap (λ n. n + 0) (sym (ap spent_at m.1))
 spent_moves (E.Bare c) s s' m = ap spent_at m.3 ∙ (let z : spent m.1 + 0 ≡ spent m.1 + 0 = refl in z) ∙ ap (λ n. n + 0) (sym (ap spent_at m.2))
@@ -119,12 +119,12 @@ spent_moves E.Line s s' m =
 
 spent_last : (s : Spot) (vs : Values) → IsLast s vs → spent_at s ≡ words_needed_by_all vs
 spent_last (Before k a) vs h = absurd h
-spent_last (Behind a v) vs h = ap (λ a. spent a + words_needed v) h.1 ∙ sym (ap words_needed_by_all h.2 ∙ needed_snoc h.0 v)
+spent_last (After a v) vs h = ap (λ a. spent a + words_needed v) h.1 ∙ sym (ap words_needed_by_all h.2 ∙ needed_snoc h.0 v)
 spent_last Nowhere vs h = ap words_needed_by_all (sym h)
 
 pub values_last : (s : Spot) (vs : Values) → IsLast s vs → values_to s ≡ vs
 values_last (Before k a) vs h = absurd h
-values_last (Behind a v) vs h = ap (λ a. snoc (values_before a) v) h.1 ∙ sym h.2
+values_last (After a v) vs h = ap (λ a. snoc (values_before a) v) h.1 ∙ sym h.2
 values_last Nowhere vs h = sym h
 
 -- so many words have no more cells
@@ -155,40 +155,40 @@ before_le k (Field c done rest a) =
 
 pub cells_spent : (k : ℕ) (s : Spot) → cells_of_all k (values_to s) ≤ spent_at s
 cells_spent k (Before j a) = before_le k a
-cells_spent k (Behind a v) =
+cells_spent k (After a v) =
     let h = before_le k a in
     let j = cells_snoc k (values_before a) v in
     let r = cells_le k v in
     omega (arith, h, j, r)
 cells_spent k Nowhere = omega arith
 
--- an event keeps what stands behind
-pub moves_behind : (e : Event) (s s' : Spot) → Moves e s s' → behind_at s' ≡ behind_at s
-moves_behind (E.Number i) s s' m = ap behind_at m.2 ∙ sym (ap behind_at m.1)
-moves_behind (E.Bare c) s s' m = ap behind_at m.3 ∙ sym (ap behind_at m.2)
-moves_behind E.Opened s s' m = ap behind_at m.6 ∙ sym (ap behind_at m.5)
-moves_behind E.Comma s s' m = ap behind_at m.7 ∙ sym (ap behind_at m.6)
-moves_behind (E.Closed c n) s s' m = ap behind_at m.4 ∙ sym (ap behind_at m.3)
-moves_behind E.Line s s' m = ap behind_at m.5 ∙ sym (ap behind_at m.4)
+-- an event keeps what stands after
+pub moves_after : (e : Event) (s s' : Spot) → Moves e s s' → after_at s' ≡ after_at s
+moves_after (E.Number i) s s' m = ap after_at m.2 ∙ sym (ap after_at m.1)
+moves_after (E.Bare c) s s' m = ap after_at m.3 ∙ sym (ap after_at m.2)
+moves_after E.Opened s s' m = ap after_at m.6 ∙ sym (ap after_at m.5)
+moves_after E.Comma s s' m = ap after_at m.7 ∙ sym (ap after_at m.6)
+moves_after (E.Closed c n) s s' m = ap after_at m.4 ∙ sym (ap after_at m.3)
+moves_after E.Line s s' m = ap after_at m.5 ∙ sym (ap after_at m.4)
 
 -- lines are read to the end of the text
-pub lines_go : (s : Spot) → behind_at s ≡ None → GoesOn s
+pub lines_go : (s : Spot) → after_at s ≡ None → GoesOn s
 lines_go (Before k a) e = tt
-lines_go (Behind (Alone n) v) e = cc
-lines_go (Behind (Lines done rest) v) e = tt
-lines_go (Behind (Field c done rest a) v) e = tt
+lines_go (After (Alone n) v) e = cc
+lines_go (After (Lines done rest) v) e = tt
+lines_go (After (Field c done rest a) v) e = tt
 lines_go Nowhere e = tt
 
 -- reading begins, goes on and stops
 pub reading_starts : (tb : Table) (types bytes : List ℕ) (o : Outline) → AreTypes tb types → o ≡ outline_at (spot_of types) → IsReading tb (whole types) bytes o 0 (spot_of types)
-reading_starts tb [] bytes o t e = record { outline = e; behind = refl; reads = refl; known = subst (IsKnown tb) (sym e) (record { next = tt; frames = tt; lines = tt }); within = omega arith }
-reading_starts tb (k ∷ ks) bytes o t e = record { outline = e; behind = refl; reads = refl; known = subst (IsKnown tb) (sym e) (record { next = t.0; frames = tt; lines = t.1 }); within = omega arith }
+reading_starts tb [] bytes o t e = record { outline = e; following = refl; reads = refl; known = subst (IsKnown tb) (sym e) (record { next = tt; frames = tt; lines = tt }); within = omega arith }
+reading_starts tb (k ∷ ks) bytes o t e = record { outline = e; following = refl; reads = refl; known = subst (IsKnown tb) (sym e) (record { next = t.0; frames = tt; lines = t.1 }); within = omega arith }
 
 pub alone_starts : (tb : Table) (k at n : ℕ) (bytes : List ℕ) (o : Outline) → k ≤ length tb → at ≤ length bytes → o ≡ outline_at (spot_of (k ∷ [])) → IsReading tb (alone k at n) bytes o at (Before k (Alone n))
-alone_starts tb k at n bytes o t w e = record { outline = e; behind = refl; reads = refl; known = subst (IsKnown tb) (sym e) (record { next = t; frames = tt; lines = tt }); within = w }
+alone_starts tb k at n bytes o t w e = record { outline = e; following = refl; reads = refl; known = subst (IsKnown tb) (sym e) (record { next = t; frames = tt; lines = tt }); within = w }
 
 pub reading_on : (tb : Table) (from : Origin) (bytes : List ℕ) (o o' : Outline) (at at' : ℕ) (e : Event) (s s' : Spot) → IsReading tb from bytes o at s → Moves e s s' → o' ≡ outline_at s' → runs tb bytes (state_at s) at ≡ runs tb bytes (state_at s') at' → IsKnown tb o' → at' ≤ length bytes → IsReading tb from bytes o' at' s'
-reading_on tb from bytes o o' at at' e s s' r m q reads known within = record { outline = q; behind = moves_behind e s s' m ∙ r.behind; reads = sym reads ∙ r.reads; known = known; within = within }
+reading_on tb from bytes o o' at at' e s s' r m q reads known within = record { outline = q; following = moves_after e s s' m ∙ r.following; reads = sym reads ∙ r.reads; known = known; within = within }
 
 pub reading_stops : (tb : Table) (from : Origin) (bytes : List ℕ) (o o' : Outline) (at at' k : ℕ) (s : Spot) → IsReading tb from bytes o at s → GoesOn s → ((s : Spot) → GoesOn s → o ≡ outline_at s → Stepped tb bytes s at (Err (BadValue k)) o' at') → runs tb bytes from.state from.place ≡ Stopped k
 reading_stops tb from bytes o o' at at' k s r go step = sym r.reads ∙ step s go r.outline
@@ -248,12 +248,12 @@ known_around tb sound (Field c done rest a) r l = let q = r.1 in (types_alive tb
 
 good_at : (tb : Table) → IsSoundTable tb → (s : Spot) → IsKnown tb (outline_at s) → Good tb (state_at s)
 good_at tb sound (Before k a) h = let l = types_alive tb sound (k ∷ []) (h.next, tt) in (l.0, known_around tb sound a h.frames h.lines)
-good_at tb sound (Behind a v) h = good_filled tb a v (known_around tb sound a h.frames h.lines)
+good_at tb sound (After a v) h = good_filled tb a v (known_around tb sound a h.frames h.lines)
 good_at tb sound Nowhere h = tt
 
 fits_completed : (k : ℕ) (tb : Table) (s : Spot) (cs : List Character) (x : Values) → Completes tb (state_at s) cs x → cells_of_all k (values_to s) ≤ cells_of_all k x
 fits_completed k tb (Before j a) cs x h = let i = ends_fit k tb a h.0 h.1 x h.3 in omega (arith, i)
-fits_completed k tb (Behind a v) cs x h = let i = ends_fit k tb a v cs x (filled_gives tb a v cs x h) in let j = cells_snoc k (values_before a) v in omega (arith, i, j)
+fits_completed k tb (After a v) cs x h = let i = ends_fit k tb a v cs x (filled_gives tb a v cs x h) in let j = cells_snoc k (values_before a) v in omega (arith, i, j)
 fits_completed k tb Nowhere cs x h = omega arith
 
 pub cells_fit : (k : ℕ) (tb : Table) → IsSoundTable tb → (bytes : List ℕ) (s : Spot) (at : ℕ) (x : Values) → IsKnown tb (outline_at s) → runs tb bytes (state_at s) at ≡ Accepted x → cells_of_all k (values_to s) ≤ cells_of_all k x

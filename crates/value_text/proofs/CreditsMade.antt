@@ -1,4 +1,4 @@
--- The cells of credits alone: those behind no value.
+-- The cells of credits alone: those after no value.
 use Rattle.std.proofs.Common.{◌≡◌, ◌⊎◌, inl, inr, ℕ, ◌+◌, ◌-◌, ◌≤◌, List, [], ◌∷◌, ◌++◌, length, refl, sym, ap, ◌∙◌, subst, arith}
 use Rattle.std.specs.Prelude.{Err}
 use Rattle.fip_language.specs.Values.{Values, End, More}

@@ -97,7 +97,7 @@ longest_more text ss i s m k lt e h le b l =
     let z : take i ss ++ s ∷ [] ≡ take (i + 1) ss = ap (λ (s : Shape). take i ss ++ s ∷ []) e ∙ sym (take_more ss i s lt) in
     subst (λ ss. IsLongest text ss (max m k)) z (longest_by text (take i ss) s m k h le b l (nat_le m k) refl)
 
--- the machine before a name, behind blanks
+-- the machine before a name, after blanks
 want_char : (tb : Table) (t : ℕ) (around : Around) (c : Character) → is_blank_char c ≡ false → act tb (Want (suc t) around) c ≡ act tb (Naming t [] around) c
 want_char tb t around Blank e = cc
 want_char tb t around Line e = refl
@@ -243,7 +243,7 @@ name_bytes_take (suc m) [] e = refl
 name_bytes_take (suc m) (x ∷ xs) e = let k = and_parts (is_name_byte x) (are_name_bytes xs) e in ap₂ (λ a b. a && b) k.0 (name_bytes_take m xs k.1)
 
 -- Where the name is no constructor's: m is its longest known front.
-module _ (tb : Table) (sound : IsSoundTable tb) (bytes : List ℕ) (t : ℕ) (around : Around) (i n m : ℕ) (le : i + n ≤ length bytes) (name : are_name_bytes (take n (drop i bytes)) ≡ true) (behind : i + n < length bytes → is_name_byte (get_or bytes (i + n) 0) ≡ false) (longest : IsLongest (take n (drop i bytes)) (shapes tb t) m) where
+module _ (tb : Table) (sound : IsSoundTable tb) (bytes : List ℕ) (t : ℕ) (around : Around) (i n m : ℕ) (le : i + n ≤ length bytes) (name : are_name_bytes (take n (drop i bytes)) ≡ true) (following : i + n < length bytes → is_name_byte (get_or bytes (i + n) 0) ≡ false) (longest : IsLongest (take n (drop i bytes)) (shapes tb t) m) where
   abbrev text : List ℕ
   text = take n (drop i bytes)
 
@@ -286,7 +286,7 @@ module _ (tb : Table) (sound : IsSoundTable tb) (bytes : List ℕ) (t : ℕ) (ar
     by_end false u =
         let q : n ≡ m = let s = short in grind (arith, nat_tests) in
         let at : i + n ≡ i + m = ap (λ k. i + k) q in
-        name_unknown tb bytes t (characters (take m (drop i bytes))) around (i + m) (ap (λ k. lookup 0 (characters (take k (drop i bytes))) (shapes tb t)) (sym q) ∙ e) (omega (arith, le, q)) (λ lt. ap (λ k. is_name_byte (get_or bytes k 0)) (sym at) ∙ behind (omega (arith, lt, at)))
+        name_unknown tb bytes t (characters (take m (drop i bytes))) around (i + m) (ap (λ k. lookup 0 (characters (take k (drop i bytes))) (shapes tb t)) (sym q) ∙ e) (omega (arith, le, q)) (λ lt. ap (λ k. is_name_byte (get_or bytes k 0)) (sym at) ∙ following (omega (arith, lt, at)))
 
 -- a name that no constructor has is not found
 pub not_found : (tb : Table) → IsSoundTable tb → (t : ℕ) (text : List ℕ) → are_name_bytes text ≡ true → (text ≢ [] → (c : ℕ) → (s : Shape) × (slice_get (shapes tb t) c ≡ Some s) × (s.name ≡ text) → ⊥) → lookup 0 (characters text) (shapes tb t) ≡ None
@@ -308,7 +308,7 @@ name_bytes tb sound zero c text z h = absurd (omega (arith, z))
 name_bytes tb sound (suc t) c text z h = ap are_name_bytes (sym h.2) ∙ upper_bytes (h.0).name (sound.names t c h.0 h.1)
 
 -- what the reader of a name gives, where it found the name and where not
-module _ (tb : Table) (sound : IsSoundTable tb) (bytes : List ℕ) (at start end : ℕ) (text : List ℕ) (from : start ≤ end) (within : end ≤ length bytes) (is : text ≡ take (end - start) (drop start bytes)) (name : are_name_bytes (take (end - start) (drop start bytes)) ≡ true) (behind : end < length bytes → is_name_byte (get_or bytes end 0) ≡ false) (skips : (s : State) → act tb s Blank ≡ Some s → runs tb bytes s at ≡ runs tb bytes s start) (first : start < length bytes → is_blank (get_or bytes start 0) ≡ false) where
+module _ (tb : Table) (sound : IsSoundTable tb) (bytes : List ℕ) (at start end : ℕ) (text : List ℕ) (from : start ≤ end) (within : end ≤ length bytes) (is : text ≡ take (end - start) (drop start bytes)) (name : are_name_bytes (take (end - start) (drop start bytes)) ≡ true) (following : end < length bytes → is_name_byte (get_or bytes end 0) ≡ false) (skips : (s : State) → act tb s Blank ≡ Some s → runs tb bytes s at ≡ runs tb bytes s start) (first : start < length bytes → is_blank (get_or bytes start 0) ≡ false) where
   n : ℕ
   n = end - start
 
@@ -327,7 +327,7 @@ module _ (tb : Table) (sound : IsSoundTable tb) (bytes : List ℕ) (at start end
       begins_at t around
       ∙ to_front tb bytes t around start (end - start) (omega (arith, from, within)) name (inr b)
       ∙ ap (λ i. runs tb bytes (Naming t front around) i) ends_at
-      ∙ name_over tb bytes t front around c s.fields end l within behind
+      ∙ name_over tb bytes t front around c s.fields end l within following
 
   pub name_found : (ty c : ℕ) → 0 < ty → (s : Shape) × (slice_get (constructors tb ty) c ≡ Some s) × (s.name ≡ text) → (s : Shape) × (slice_get (constructors tb ty) c ≡ Some s) × ((around : Around) → runs tb bytes (Want ty around) at ≡ runs tb bytes (named c s.fields around) end)
   name_found zero c z h = absurd (omega (arith, z))
@@ -339,6 +339,6 @@ module _ (tb : Table) (sound : IsSoundTable tb) (bytes : List ℕ) (at start end
       let e = not_found tb sound t text (ap are_name_bytes is ∙ name) h in
       begins_at t around
       ∙ name_stops tb sound bytes t around start (end - start) m (omega (arith, from, within)) name
-      (λ lt. ap (λ k. is_name_byte (get_or bytes k 0)) ends_at ∙ behind (omega (arith, from, lt)))
+      (λ lt. ap (λ k. is_name_byte (get_or bytes k 0)) ends_at ∙ following (omega (arith, from, lt)))
       (subst (λ x. IsLongest x (shapes tb t) m) is l)
       (ap (λ x. lookup 0 (characters x) (shapes tb t)) (sym is) ∙ e)

@@ -1,6 +1,6 @@
 -- One value that is read alone: what its end and its places are.
--- Idea: the machine takes any characters behind the value, so many as it is told. Told as many as there are behind the
--- place where the reader ends, it accepts, and so the value stands there with just these behind it. Told any number, it
+-- Idea: the machine takes any characters after the value, so many as it is reported. Reported as many as there are after the
+-- place where the reader ends, it accepts, and so the value stands there with just these after it. Reported any number, it
 -- stops at the same place where the reader does.
 use Rattle.std.proofs.Common.{◌≡◌, ◌⊎◌, ◌↔◌, inl, inr, Bool, true, false, ℕ, zero, suc, ◌+◌, ◌-◌, ◌<◌, ◌≤◌, List, [], ◌∷◌, ◌++◌, length, length-append, drop, Option, Some, None, refl, sym, ap, ap₂, ◌∙◌, subst, append_assoc, arith}
 use Rattle.std.specs.Prelude.{ℤ, Ok, Err, IsTrue, slice_get}
@@ -19,7 +19,7 @@ use Rattle.fip_language.specs.ValueText.{skip, name_of, after_name, after_number
 use Rattle.cell_store.specs.Made.{Loading}
 use Rattle.value_text.specs.Machine.{Alone, Lines, Field, State, Want, Past, lookup, step, final}
 use Rattle.value_text.specs.Scan.{runs}
-use Rattle.value_text.specs.Reading.{Outline, Spot, Before, Behind, Nowhere, state_at, outline_at, spot_of, GoesOn, behind_of, behind_at, alone, IsLast, Stepped, IsReading}
+use Rattle.value_text.specs.Reading.{Outline, Spot, Before, After, Nowhere, state_at, outline_at, spot_of, GoesOn, after_of, after_at, alone, IsLast, Stepped, IsReading}
 use Rattle.value_text.specs.Counting.{values_to, IsCounting}
 use Rattle.value_text.specs.Building.{IsBuilt, IsGoing, Built}
 use Rattle.value_text.specs.Loaded.{wanted, words_up_to, free_in}
@@ -45,47 +45,47 @@ pub use Rattle.fip_language.proofs.Facts.{reflected as is_whole}
 
 -- ---- where the reader is
 
--- what is told of a cursor is so
+-- what is reported of a cursor is so
 pub not_whole : {P : Type 0} → (b : Bool) → IsTrue b ↔ P → b ≡ false → P → ⊥
 not_whole b h e p = let t = h.1 p in cc
 
 -- reading goes on from a spot that isn't whole
 pub open_goes : (o : Outline) (s : Spot) → o ≡ outline_at s → ((o.next ≡ None) × (o.frames ≡ []) → ⊥) → GoesOn s
 open_goes o (Before k a) e h = tt
-open_goes o (Behind (Alone n) v) e h = h (ap (λ (o : Outline). o.next) e, ap (λ (o : Outline). o.frames) e)
-open_goes o (Behind (Lines done rest) v) e h = tt
-open_goes o (Behind (Field c done rest a) v) e h = tt
+open_goes o (After (Alone n) v) e h = h (ap (λ (o : Outline). o.next) e, ap (λ (o : Outline). o.frames) e)
+open_goes o (After (Lines done rest) v) e h = tt
+open_goes o (After (Field c done rest a) v) e h = tt
 open_goes o Nowhere e h = tt
 
 -- a value that is whole
-pub whole_spot : (o : Outline) (n : ℕ) (s : Spot) → o ≡ outline_at s → behind_at s ≡ Some n → o.next ≡ None → o.frames ≡ [] → (v : Value) × (s ≡ Behind (Alone n) v)
+pub whole_spot : (o : Outline) (n : ℕ) (s : Spot) → o ≡ outline_at s → after_at s ≡ Some n → o.next ≡ None → o.frames ≡ [] → (v : Value) × (s ≡ After (Alone n) v)
 whole_spot o n (Before k a) e b x f = let z = sym (ap (λ (o : Outline). o.next) e) ∙ x in cc
-whole_spot o n (Behind (Alone m) v) e b x f = let same : m ≡ n = cc in (v, ap (λ m. Behind (Alone m) v) same)
-whole_spot o n (Behind (Lines done rest) v) e b x f = cc
-whole_spot o n (Behind (Field c done rest a) v) e b x f = let z = sym (ap (λ (o : Outline). o.frames) e) ∙ f in cc
+whole_spot o n (After (Alone m) v) e b x f = let same : m ≡ n = cc in (v, ap (λ m. After (Alone m) v) same)
+whole_spot o n (After (Lines done rest) v) e b x f = cc
+whole_spot o n (After (Field c done rest a) v) e b x f = let z = sym (ap (λ (o : Outline). o.frames) e) ∙ f in cc
 whole_spot o n Nowhere e b x f = cc
 
 -- it is no end of lines
-pub never_last : (s : Spot) (vs : Values) (n : ℕ) → behind_at s ≡ Some n → IsLast s vs → ⊥
+pub never_last : (s : Spot) (vs : Values) (n : ℕ) → after_at s ≡ Some n → IsLast s vs → ⊥
 never_last (Before k a) vs n b h = h
-never_last (Behind a v) vs n b h = let z = sym b ∙ ap behind_of h.1 in cc
+never_last (After a v) vs n b h = let z = sym b ∙ ap after_of h.1 in cc
 never_last Nowhere vs n b h = cc
 
 -- ---- what the machine says
 
--- behind the value all characters are taken
+-- after the value all characters are taken
 past_runs : (tb : Table) (vs : Values) (bytes : List ℕ) (at : ℕ) → run (step tb) (final tb) (Past (length bytes) vs) bytes at ≡ Accepted vs
 past_runs tb vs [] at = refl
 past_runs tb vs (b ∷ bytes) at = past_runs tb vs bytes (at + 1)
 
-abbrev behind : List ℕ → ℕ → ℕ
-behind bytes at = length (drop at bytes)
+abbrev following : List ℕ → ℕ → ℕ
+following bytes at = length (drop at bytes)
 
 module _ (tb : Table) (sound : IsSoundTable tb) (k : ℕ) (known : k ≤ length tb) where
   good : (n : ℕ) → Good tb (Want k (Alone n))
   good n = let a = types_alive tb sound (k ∷ []) (known, tt) in (a.0, tt)
 
-  -- what is accepted is a value with so many characters behind it
+  -- what is accepted is a value with so many characters after it
   accepted_alone : (bytes : List ℕ) (at n : ℕ) (x : Values) → runs tb bytes (Want k (Alone n)) at ≡ Accepted x → (v : Value) × (rest : List Character) × ValueText tb k (characters (drop at bytes)) v rest × (length rest ≡ n) × (More v End ≡ x)
   accepted_alone bytes at n x e = let h = accepted (step tb) (final tb) (Good tb) (Reads tb) (exact tb (is_table tb sound)) (drop at bytes) x (Want k (Alone n)) at (good n) e in (h.0, h.1, h.2, h.3.0, h.3.1)
 
@@ -138,7 +138,7 @@ module _ (tb : Table) (sound : IsSoundTable tb) (k : ℕ) (known : k ≤ length 
   pub never_stops : (bytes : List ℕ) (at j : ℕ) (v : Value) → StopsAt tb k bytes at j → BeginsWith tb k (drop at bytes) v → ⊥
   never_stops bytes at j v h b = let z = sym (h (length b.0)) ∙ accepts_alone bytes at v b in cc
 
--- ---- what stands behind a value is the end of the text
+-- ---- what stands after a value is the end of the text
 
 abbrev IsRest : List Character → List Character → Type 0
 IsRest rest cs = (front : List Character) × (cs ≡ front ++ rest)
@@ -182,7 +182,7 @@ int_rest (Minus ∷ cs) i rest h = rest_more Minus cs rest (digits_rest true cs 
 int_rest (Digit d ∷ cs) i rest h = digits_rest false (Digit d ∷ cs) i rest h
 int_rest (_ ∷ cs) i rest h = absurd h
 
--- behind a sign that comes next
+-- after a sign that comes next
 sign_rest : (cs : List Character) (sign : Character) (mid rest : List Character) → skip cs ≡ sign ∷ mid → IsRest rest mid → IsRest rest cs
 sign_rest cs sign mid rest e h = rest_of cs (sign ∷ mid) rest (subst (λ m. IsRest m cs) e (skip_rest cs)) (rest_more sign mid rest h)
 
@@ -233,8 +233,8 @@ int_same (Minus ∷ cs) i j r q h g = digits_same true cs i j r q h g
 int_same (Digit d ∷ cs) i j r q h g = digits_same false (Digit d ∷ cs) i j r q h g
 int_same (_ ∷ cs) i j r q h g = absurd h
 
-behind_sign : (sign : Character) (cs as' bs : List Character) → cs ≡ sign ∷ as' → cs ≡ sign ∷ bs → as' ≡ bs
-behind_sign sign cs as' bs e f = let z : sign ∷ as' ≡ sign ∷ bs = sym e ∙ f in cc
+after_sign : (sign : Character) (cs as' bs : List Character) → cs ≡ sign ∷ as' → cs ≡ sign ∷ bs → as' ≡ bs
+after_sign sign cs as' bs e f = let z : sign ∷ as' ≡ sign ∷ bs = sym e ∙ f in cc
 
 module _ (tb : Table) (table : IsTable tb) where
   constructor_same : (t c d : ℕ) (s u : Shape) (name : List Character) → slice_get (shapes tb t) c ≡ Some s → slice_get (shapes tb t) d ≡ Some u → name ≡ characters s.name → name ≡ characters u.name → (c ≡ d) × (s.fields ≡ u.fields)
@@ -262,19 +262,19 @@ module _ (tb : Table) (table : IsTable tb) where
     fields_same (k ∷ ks) cs End ws r q h g = absurd h
     fields_same (k ∷ ks) cs (More v vs) End r q h g = absurd g
     fields_same (k ∷ ks) cs (More v vs) (More w ws) r q h g =
-        let i = behind_sign Open (skip cs) h.0 g.0 h.2 g.2 in
+        let i = after_sign Open (skip cs) h.0 g.0 h.2 g.2 in
         let x = value_same k h.0 v w h.1 g.1 h.3 (subst (λ cs. ValueText tb k cs w g.1) (sym i) g.3) in
         let y = more_same ks h.1 vs ws r q h.4 (subst (λ cs. MoreText tb ks cs ws q) (sym x.1) g.4) in
         (ap₂ More x.0 y.0, y.1)
 
     more_same : (ks : List ℕ) (cs : List Character) (vs ws : Values) (r q : List Character) → MoreText tb ks cs vs r → MoreText tb ks cs ws q → (vs ≡ ws) × (r ≡ q)
-    more_same [] cs End End r q h g = (refl, behind_sign Close (skip cs) r q h g)
+    more_same [] cs End End r q h g = (refl, after_sign Close (skip cs) r q h g)
     more_same [] cs End (More w ws) r q h g = absurd g
     more_same [] cs (More v vs) ws r q h g = absurd h
     more_same (k ∷ ks) cs End ws r q h g = absurd h
     more_same (k ∷ ks) cs (More v vs) End r q h g = absurd g
     more_same (k ∷ ks) cs (More v vs) (More w ws) r q h g =
-        let i = behind_sign Comma (skip cs) h.0 g.0 h.2 g.2 in
+        let i = after_sign Comma (skip cs) h.0 g.0 h.2 g.2 in
         let x = value_same k h.0 v w h.1 g.1 h.3 (subst (λ cs. ValueText tb k cs w g.1) (sym i) g.3) in
         let y = more_same ks h.1 vs ws r q h.4 (subst (λ cs. MoreText tb ks cs ws q) (sym x.1) g.4) in
         (ap₂ More x.0 y.0, y.1)
@@ -283,14 +283,14 @@ module _ (tb : Table) (table : IsTable tb) where
 
 module _ (tb : Table) (k : ℕ) (bytes : List ℕ) (at : ℕ) (given : IsPlaced tb k bytes at) (o : Outline) (end : ℕ) (next : o.next ≡ None) (frames : o.frames ≡ []) where
   -- the machine accepts what was read to its end
-  read_accepts : (s : Spot) → IsReading tb (alone k at (behind bytes end)) bytes o end s → (v : Value) × (s ≡ Behind (Alone (behind bytes end)) v) × (runs tb bytes (Want k (Alone (behind bytes end))) at ≡ Accepted (More v End))
+  read_accepts : (s : Spot) → IsReading tb (alone k at (following bytes end)) bytes o end s → (v : Value) × (s ≡ After (Alone (following bytes end)) v) × (runs tb bytes (Want k (Alone (following bytes end))) at ≡ Accepted (More v End))
   read_accepts s r =
-      let w = whole_spot o (behind bytes end) s r.outline r.behind next frames in
+      let w = whole_spot o (following bytes end) s r.outline r.following next frames in
       (w.0, w.1, sym r.reads ∙ ap (λ s. runs tb bytes (state_at s) end) w.1 ∙ past_runs tb (More w.0 End) (drop end bytes) end)
 
-  value_at : (v : Value) → at ≤ end → end ≤ length bytes → runs tb bytes (Want k (Alone (behind bytes end))) at ≡ Accepted (More v End) → IsValueAt tb k bytes at v end
+  value_at : (v : Value) → at ≤ end → end ≤ length bytes → runs tb bytes (Want k (Alone (following bytes end))) at ≡ Accepted (More v End) → IsValueAt tb k bytes at v end
   value_at v le within e =
-      let h = accepted_alone tb given.sound k given.known bytes at (behind bytes end) (More v End) e in
+      let h = accepted_alone tb given.sound k given.known bytes at (following bytes end) (More v End) e in
       let same : h.0 ≡ v = let z = h.4 in cc in
       let rest = rest_is bytes at end h.1 le within (value_rest tb k (characters (drop at bytes)) h.0 h.1 h.2) h.3 in
       record {
@@ -301,7 +301,7 @@ module _ (tb : Table) (k : ℕ) (bytes : List ℕ) (at : ℕ) (given : IsPlaced 
 
   pub read_whole : (counts : Counts) → at ≤ end → ((n : ℕ) → IsCounting tb (alone k at n) bytes o end counts) → AloneRead tb k bytes at (Ok (end, counts))
   read_whole counts le h =
-      let c = h (behind bytes end) in
+      let c = h (following bytes end) in
       let a = read_accepts c.spot c.reading in
       (a.0, value_at a.0 le (c.reading).within a.2, λ j few. c.exact j few ∙ ap (λ s. cells_of_all j (values_to s)) a.1 ∙ one_value j a.0) where
         one_value : (j : ℕ) (v : Value) → cells_of_all j (More v End) ≡ cells j v
@@ -311,9 +311,9 @@ module _ (tb : Table) (k : ℕ) (bytes : List ℕ) (at : ℕ) (given : IsPlaced 
 
   pub built_whole : (first now : Loading) (words : Vec ℕ Global) → length first.released ≡ length first.cells → ((n : ℕ) → IsGoing tb (alone k at n) bytes first o end words.items now) → AloneBuilt tb k bytes at first now (Ok words)
   built_whole first now words flags h =
-      let g = h (behind bytes end) in
+      let g = h (following bytes end) in
       let a = read_accepts g.spot g.reading in
-      let t = accepted_alone tb given.sound k given.known bytes at (behind bytes end) (More a.0 End) a.2 in
+      let t = accepted_alone tb given.sound k given.known bytes at (following bytes end) (More a.0 End) a.2 in
       let same : t.0 ≡ a.0 = let z = t.4 in cc in
       let b = g.building (wanted [] (More a.0 End)) (More a.0 End) (record { reads = a.2; wanted = λ j. omega arith; flags = flags }) in
       let q = read_accepts b.spot b.reading in

@@ -1,5 +1,5 @@
--- Where no cell is released, cells are made behind all others: those of values lie in the order of their ).
--- The idea: the places and words of values in a row are those of the first, then those of the rest behind them.
+-- Where no cell is released, cells are made after all others: those of values lie in the order of their ).
+-- The idea: the places and words of values in a row are those of the first, then those of the rest after them.
 use Rattle.std.proofs.Common.{◌≡◌, ◌⊎◌, inl, inr, ℕ, zero, suc, ◌+◌, ◌-◌, ◌*◌, ◌<◌, ◌≤◌, List, [], ◌∷◌, ◌++◌, length, take, drop, Some, None, Bool, false, refl, sym, ap, ap₂, ◌∙◌, subst, arith, length-append, append_assoc, append-nil}
 use Rattle.std.specs.Prelude.{replicate}
 use Rattle.std.proofs.lemmas.List.{length-replicate}
@@ -11,15 +11,15 @@ use Rattle.cell_store.specs.Made.{Loading, IsAppended}
 use Rattle.cell_store.proofs.Freed.{free_append}
 use Rattle.value_text.specs.Machine.{join, snoc}
 use Rattle.value_text.specs.declared.read.Event.TheVariants as E
-use Rattle.value_text.specs.FirstStore.{places_of, place_word, value_places, all_places, value_word, all_words, credit_cell, credit_places, credit_words, loaded_places, loaded_words, IsBehind}
+use Rattle.value_text.specs.FirstStore.{places_of, place_word, value_places, all_places, value_word, all_words, credit_cell, credit_places, credit_words, loaded_places, loaded_words, IsAfter}
 use Rattle.value_text.specs.Loaded.{free_in, HasNoFree}
 use Rattle.value_text.specs.Building.{IsMade, Lie, LieWith}
 use Rattle.value_text.proofs.Counted.{Grows}
 
 -- ---- values in a row
 
-behind_value : (n : ℕ) (v : Value) (vs : Values) → (n + length (value_places n v)) + length (all_places (n + length (value_places n v)) vs) ≡ n + length (value_places n v ++ all_places (n + length (value_places n v)) vs)
-behind_value n v vs = let a = length-append (value_places n v) (all_places (n + length (value_places n v)) vs) in omega (arith, a)
+after_value : (n : ℕ) (v : Value) (vs : Values) → (n + length (value_places n v)) + length (all_places (n + length (value_places n v)) vs) ≡ n + length (value_places n v ++ all_places (n + length (value_places n v)) vs)
+after_value n v vs = let a = length-append (value_places n v) (all_places (n + length (value_places n v)) vs) in omega (arith, a)
 
 pub places_join : (n : ℕ) (xs ys : Values) → all_places n (join xs ys) ≡ all_places n xs ++ all_places (n + length (all_places n xs)) ys
 places_join n End ys = ap (λ n. all_places n ys) (let z : n ≡ n + 0 = omega arith in z)
@@ -27,13 +27,13 @@ places_join n (More v vs) ys =
     let m : ℕ = n + length (value_places n v) in
     ap (λ os. value_places n v ++ os) (places_join m vs ys)
     ∙ sym (append_assoc (value_places n v) (all_places m vs) (all_places (m + length (all_places m vs)) ys))
-    ∙ ap (λ k. (value_places n v ++ all_places m vs) ++ all_places k ys) (behind_value n v vs)
+    ∙ ap (λ k. (value_places n v ++ all_places m vs) ++ all_places k ys) (after_value n v vs)
 
 pub words_join_at : (n : ℕ) (xs ys : Values) → all_words n (join xs ys) ≡ all_words n xs ++ all_words (n + length (all_places n xs)) ys
 words_join_at n End ys = ap (λ n. all_words n ys) (let z : n ≡ n + 0 = omega arith in z)
 words_join_at n (More v vs) ys =
     let m : ℕ = n + length (value_places n v) in
-    ap (λ ws. value_word n v ∷ ws) (words_join_at m vs ys ∙ ap (λ k. all_words m vs ++ all_words k ys) (behind_value n v vs))
+    ap (λ ws. value_word n v ∷ ws) (words_join_at m vs ys ∙ ap (λ k. all_words m vs ++ all_words k ys) (after_value n v vs))
 
 pub words_counted : (n : ℕ) (vs : Values) → length (all_words n vs) ≡ count_of vs
 words_counted n End = refl
@@ -49,7 +49,7 @@ node_word : (n c : ℕ) (vs : Values) → 0 < count_of vs → value_word n (Node
 node_word n c End p = absurd (omega (arith, p))
 node_word n c (More v vs) p = refl
 
--- ---- a cell behind all others
+-- ---- a cell after all others
 
 replicate_join : (m n : ℕ) → replicate m false ++ replicate n false ≡ replicate (m + n) false
 replicate_join zero n = ap (λ k. replicate k false) (let z : n ≡ 0 + n = omega arith in z)
@@ -60,7 +60,7 @@ row_free k [] = refl
 row_free k (None ∷ os) = row_free k os
 row_free k (Some c ∷ os) = let h = row_free k os in omega (arith, h)
 
-none_free : (first now : Loading) (row : Cells) → HasNoFree first → length now.released ≡ length now.cells → IsBehind first now row → HasNoFree now
+none_free : (first now : Loading) (row : Cells) → HasNoFree first → length now.released ≡ length now.cells → IsAfter first now row → HasNoFree now
 none_free first now row h flags b k =
     let long : length first.released ≡ length first.cells =
     let a = ap length b.cells ∙ length-append first.cells row in
@@ -75,8 +75,8 @@ appended_of : (now new : Loading) (p : ℕ) (c : Cell) → HasNoFree now → IsM
 appended_of now new p c h (inl m) = absurd (let z = h (size_of c) in let l = m.0 in omega (arith, z, l))
 appended_of now new p c h (inr m) = m.1
 
-behind_on : (first now new : Loading) (row : Cells) (p : ℕ) (c : Cell) → IsBehind first now row → IsAppended now new p c → IsBehind first new (row ++ places_of c)
-behind_on first now new row p c b a = record {
+after_on : (first now new : Loading) (row : Cells) (p : ℕ) (c : Cell) → IsAfter first now row → IsAppended now new p c → IsAfter first new (row ++ places_of c)
+after_on first now new row p c b a = record {
   cells = a.cells ∙ ap (λ cs. cs ++ places_of c) b.cells ∙ append_assoc first.cells row (places_of c);
   released = a.released ∙ ap (λ rs. rs ++ replicate (suc (size_of c)) false) b.released ∙ append_assoc first.released (replicate (length row) false) (replicate (suc (size_of c)) false) ∙ ap (λ rs. first.released ++ rs) (replicate_join (length row) (suc (size_of c)) ∙ ap (λ n. replicate n false) long);
 }
@@ -95,7 +95,7 @@ lies_leaf first now vs vs' ws ws' v w none word e f h =
     let n : ℕ = length first.cells in
     let m : ℕ = n + length (all_places n vs) in
     let same : all_places n vs ≡ all_places n vs' = sym (ap (all_places n) e ∙ places_join n vs (More v End) ∙ ap (λ os. all_places n vs ++ (os ++ [])) (none m) ∙ append-nil (all_places n vs)) in (
-      subst (IsBehind first now) same h.0,
+      subst (IsAfter first now) same h.0,
       f ∙ ap₂ (λ ws w. ws ++ w ∷ []) h.1 (sym (word m)) ∙ sym (ap (all_words n) e ∙ words_join_at n vs (More v End)),
     )
 
@@ -143,7 +143,7 @@ module _ (first now new : Loading) (vs vs' : Values) (ws ws' : List ℕ) (c n p 
 
   pub lies_node : Lie first new vs' ws'
   lies_node = (
-    subst (IsBehind first new) (sym places) (behind_on first now new (all_places start vs) p own h.0 (subst (λ (fs : List ℕ). IsAppended now new p (record { tag = c; fields = fs })) back a)),
+    subst (IsAfter first new) (sym places) (after_on first now new (all_places start vs) p own h.0 (subst (λ (fs : List ℕ). IsAppended now new p (record { tag = c; fields = fs })) back a)),
     w ∙ ap₂ (λ ws k. ws ++ k ∷ []) front (ap place_word place ∙ sym (node_word mid c g.1 some)) ∙ sym (ap (all_words start) g.5 ∙ words_join_at start g.0 (More (Node c g.1) End)),
   )
 
@@ -158,7 +158,7 @@ lies_starts first now vs ws e v w = subst (λ now. Lie first now vs ws) (sym e) 
   refl,
 )))
 
--- ---- the credits' cells behind them
+-- ---- the credits' cells after them
 
 credit_long : (k : ℕ) → length (places_of (credit_cell k)) ≡ suc k
 credit_long k = ap suc (length-replicate (size_of (credit_cell k)) None ∙ length-replicate {A = ℕ} k 0)
@@ -179,7 +179,7 @@ credit_words_on n (k ∷ ks) s = ap (λ ws. place_word n ∷ ws) (credit_words_o
 
 pub lies_credited : (first now : Loading) (vs : Values) (ws : List ℕ) → Lie first now vs ws → LieWith [] first now vs ws
 lies_credited first now vs ws h = (
-  subst (IsBehind first now) (sym (append-nil (all_places (length first.cells) vs))) h.0,
+  subst (IsAfter first now) (sym (append-nil (all_places (length first.cells) vs))) h.0,
   h.1 ∙ sym (append-nil (all_words (length first.cells) vs)),
 )
 
@@ -194,6 +194,6 @@ lies_credit ks s first now new vs ws ws' p h flags w m free =
     let y = ap length (l.0).cells ∙ length-append first.cells (loaded_places n vs ks) in
     let z = length-append (all_places n vs) (credit_places ks) in
     omega (arith, x, y, z) in (
-      subst (IsBehind first new) (sym places) (behind_on first now new (loaded_places n vs ks) p (credit_cell s) l.0 a),
+      subst (IsAfter first new) (sym places) (after_on first now new (loaded_places n vs ks) p (credit_cell s) l.0 a),
       w ∙ ap₂ (λ ws k. ws ++ place_word k ∷ []) l.1 place ∙ append_assoc (all_words n vs) (credit_words (n + length (all_places n vs)) ks) (place_word ((n + length (all_places n vs)) + length (credit_places ks)) ∷ []) ∙ ap (λ ws. all_words n vs ++ ws) (sym (credit_words_on (n + length (all_places n vs)) ks s)),
     )

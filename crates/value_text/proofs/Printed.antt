@@ -53,7 +53,7 @@ bare_goes tb cs ty p tag s types ts out out' t e k l o c xs h rest pr =
     let n = node_of tb cs ty p c xs h in
     bare_node tb cs ty p c xs n s ts out out' rest (shape_there tb cs ty p c tag xs n s t e) (sym (ap length k) ∙ l) o pr
 
--- a value behind others
+-- a value after others
 pub next_result : {A E : Type 0} (tb : Table) (cs : Cells) (ts us : List Task) (us' : A → List Task) (out mid out' : List ℕ) (r : Result A E) → (length cs ≤ 2 ^ 32 → (whole : List ℕ) → Printing tb cs ts out whole → Printing tb cs us mid whole) → IfOk r (λ a. (tb : Table) (whole : List ℕ) → Printing tb cs us mid whole → Printing tb cs (us' a) out' whole) → IfOk r (λ a. length cs ≤ 2 ^ 32 → (whole : List ℕ) → Printing tb cs ts out whole → Printing tb cs (us' a) out' whole)
 next_result tb cs ts us us' out mid out' (Ok a) f h = λ few whole p. h tb whole (f few whole p)
 next_result tb cs ts us us' out mid out' (Err e) f h = tt

@@ -25,7 +25,7 @@ closes_on zero ts us = refl
 closes_on (suc n) ts us = ap (λ l. Close ∷ l) (closes_on n ts us)
 
 row_on : (r : Row) (ts us : List Task) → row_tasks r ts ++ us ≡ row_tasks r (ts ++ us)
-row_on r ts us = ap (λ l. fields_of r.types.now r.place ∷ l) (closes_on r.behind ts us)
+row_on r ts us = ap (λ l. fields_of r.types.now r.place ∷ l) (closes_on r.following ts us)
 
 pub last_push : (rs : List Row) (r : Row) → last_first (rs ++ r ∷ []) ≡ row_tasks r (last_first rs)
 unfolding last_first
@@ -69,9 +69,9 @@ same_row (k ∷ ks) (j ∷ js) rest p q ts us l e =
     let more : us ≡ ts = cc in
     ap₂ (λ (q : ℕ) (us : List Task). fields_of rest q ∷ us) place more
 
--- a row of which only the ) is left, and one more behind it
-pub closed_row : (rs : List Row) (n : ℕ) (r : Row) → suc n ≡ length rs → r ≡ get_or rs n r → length r.types.now ≡ 0 → last_first rs ≡ closes (suc r.behind) (last_first (take n rs))
-closed_row rs n r l e none = top_first rs n r l e ∙ ap (λ t. t ∷ closes r.behind (last_first (take n rs))) (no_fields r.types.now r.place none)
+-- a row of which only the ) is left, and one more after it
+pub closed_row : (rs : List Row) (n : ℕ) (r : Row) → suc n ≡ length rs → r ≡ get_or rs n r → length r.types.now ≡ 0 → last_first rs ≡ closes (suc r.following) (last_first (take n rs))
+closed_row rs n r l e none = top_first rs n r l e ∙ ap (λ t. t ∷ closes r.following (last_first (take n rs))) (no_fields r.types.now r.place none)
 
 pub none_left : (rs : List Row) → length rs ≡ 0 → last_first rs ≡ []
 none_left [] e = last_empty
@@ -276,7 +276,7 @@ printing_ends tb cs ts out whole e h =
     let k = subst (λ ts. Printing tb cs ts out whole) e h in
     sym (append-nil out) ∙ ap (λ x. out ++ x) (sym k.1) ∙ k.2
 
--- the text goes on behind a value
+-- the text goes on after a value
 mutual
   printed_on : (tb : Table) (k : ℕ) (v : Value) (a b : List ℕ) → printed tb k v a ++ b ≡ printed tb k v (a ++ b)
   printed_on tb zero (Int i) a b = append_assoc (signed_decimal i) a b

@@ -79,7 +79,7 @@ module _ (tb : Table) (types credits bytes : List ℕ) (given : IsGiven tb types
   answer_order free (Ok r) h =
       let k = h.2 in
       let l = k.order free in
-      record { values = h.0; spelled = spells h.0 (h.1).reads; behind = l.0; named = l.1 }
+      record { values = h.0; spelled = spells h.0 (h.1).reads; following = l.0; named = l.1 }
   answer_order free (Err e) h = tt
 
   pub answer_complete : (r : Answer) → IsAnswer tb types credits bytes first r → (vs : Values) → SpellsValues tb types bytes vs → needed first credits vs ≤ first.left → MatchResult r (λ r. ℕ) (λ e. e ≡ L.NoMemory)

@@ -19,11 +19,11 @@ use Rattle.value_text.specs.declared.read.Refused.TheVariants.{BadValue, NoMemor
 use Rattle.value_text.specs.declared.single.MakeError.{MakeError}
 use Rattle.value_text.specs.declared.single.MakeError.TheVariants as M
 
--- However many characters stand behind the value, the machine stops at this place.
+-- However many characters stand after the value, the machine stops at this place.
 abbrev pub StopsAt : Table → ℕ → List ℕ → ℕ → ℕ → Type 0
 StopsAt tb k bytes at j = (n : ℕ) → runs tb bytes (Want k (Alone n)) at ≡ Stopped j
 
--- what reading gives: the place behind the value, and its cells by size
+-- what reading gives: the place after the value, and its cells by size
 abbrev pub AloneRead : Table → ℕ → List ℕ → ℕ → Result (ℕ × Counts) Refused → Type 0
 AloneRead tb k bytes at (Ok r) = (v : Value) × IsValueAt tb k bytes at v r.0 × AreCellsOf r.1 v
 AloneRead tb k bytes at (Err (BadValue j)) = StopsAt tb k bytes at j

@@ -21,7 +21,7 @@ pub record CanLoad (tb : Table) (types credits bytes : List ℕ) (first : Loadin
   pub fits : needed first credits vs ≤ first.left
   pub flags : length first.released ≡ length first.cells
 
--- what comes of credits behind values that were built
+-- what comes of credits after values that were built
 abbrev pub Credited : List ℕ → Loading → Loading → Values → Result (Vec ℕ Global) B.Stopped → Type 0
 Credited credits first now vs (Ok ws) = IsCrediting credits (wanted credits vs) first now vs ws.items
 Credited credits first now vs (Err (S.BadValue k)) = ⊥
@@ -51,7 +51,7 @@ IsAnswer tb types credits bytes first (Err (L.Full n words l)) = (l ≡ first) �
     × (vs : Values) × (runs tb bytes (start types) 0 ≡ Accepted vs) × (n ≡ needed first credits vs)
 IsAnswer tb types credits bytes first (Err L.NoMemory) = Unit {0}
 
--- what one reading of a text into a new loader tells
+-- what one reading of a text into a new loader reports
 abbrev pub IsTried : Table → List ℕ → List ℕ → List ℕ → Loading → Result (Loading × Vec ℕ Global) B.Stopped → Type 0
 IsTried tb types credits bytes first (Ok r) = IsAnswer tb types credits bytes first (Ok r)
 IsTried tb types credits bytes first (Err (S.BadValue k)) = runs tb bytes (start types) 0 ≡ Stopped k

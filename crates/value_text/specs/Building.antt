@@ -16,7 +16,7 @@ use Rattle.value_text.specs.declared.read.Event.TheVariants.{Number, Bare, Close
 use Rattle.value_text.specs.Counting.{values_to}
 use Rattle.value_text.specs.declared.build.Stopped.{Stopped}
 use Rattle.value_text.specs.declared.build.Stopped.TheVariants as S
-use Rattle.value_text.specs.FirstStore.{all_places, all_words, loaded_places, loaded_words, IsBehind}
+use Rattle.value_text.specs.FirstStore.{all_places, all_words, loaded_places, loaded_words, IsAfter}
 use Rattle.value_text.specs.Loaded.{live, words_up_to, free_in, cell_words, wanted, AreZero, HasNoFree}
 use Rattle.value_text.specs.declared.read.Refused.{Refused}
 use Rattle.value_text.specs.declared.read.Refused.TheVariants.{BadValue, NoMemory}
@@ -55,7 +55,7 @@ abbrev pub stopped_by : Refused → Stopped
 stopped_by (BadValue k) = S.BadValue k
 stopped_by NoMemory = S.NoMemory
 
--- the builder goes on behind what was put down
+-- the builder goes on after what was put down
 abbrev pub then_on : Result (Unit {0}) Stopped → Result Bool Stopped
 then_on (Ok u) = Ok true
 then_on (Err e) = Err e
@@ -90,13 +90,13 @@ pub record IsTaken (want done uses : ℕ → ℕ) (first now : Loading) : Type 0
   -- Released cells serve first.
   pub free : (k : ℕ) → k ≤ MOST_FIELDS → free_in now k ≡ free_in first k - done k
 
--- The cells of the values lie in order behind those of the first store, and these are the words.
+-- The cells of the values lie in order after those of the first store, and these are the words.
 abbrev pub Lie : Loading → Loading → Values → List ℕ → Type 0
-Lie first now vs ws = IsBehind first now (all_places (length first.cells) vs) × (ws ≡ all_words (length first.cells) vs)
+Lie first now vs ws = IsAfter first now (all_places (length first.cells) vs) × (ws ≡ all_words (length first.cells) vs)
 
--- and the cells of credits behind them
+-- and the cells of credits after them
 abbrev pub LieWith : List ℕ → Loading → Loading → Values → List ℕ → Type 0
-LieWith credits first now vs ws = IsBehind first now (loaded_places (length first.cells) vs credits)
+LieWith credits first now vs ws = IsAfter first now (loaded_places (length first.cells) vs credits)
     × (ws ≡ loaded_words (length first.cells) vs credits)
 
 -- trees with these values and words, whose cells are just those that were made or taken
@@ -115,7 +115,7 @@ pub record IsBuilding (tb : Table) (from : Origin) (bytes : List ℕ) (want : �
   pub reading : IsReading tb from bytes o at spot
   pub built : IsBuilt want first now (values_to spot) ws
 
--- the values, and behind them the cells of so many credits
+-- the values, and after them the cells of so many credits
 pub record IsCrediting (credits : List ℕ) (want : ℕ → ℕ) (first now : Loading) (vs : Values) (ws : List ℕ) :
     Type 0 where
   pub trees : Parts

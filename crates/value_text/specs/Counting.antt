@@ -12,7 +12,7 @@ use Rattle.value_text.specs.declared.read.Event.{Event}
 use Rattle.value_text.specs.declared.read.Event.TheVariants.{Closed}
 use Rattle.value_text.specs.declared.read.Refused.{Refused}
 use Rattle.value_text.specs.declared.read.Refused.TheVariants.{BadValue, NoMemory}
-use Rattle.value_text.specs.Reading.{Outline, Spot, Before, Behind, Nowhere, Origin, IsReading}
+use Rattle.value_text.specs.Reading.{Outline, Spot, Before, After, Nowhere, Origin, IsReading}
 
 -- how many cells of size k an event closes
 abbrev pub closes : ℕ → Event → ℕ
@@ -27,7 +27,7 @@ values_before (Field c done rest a) = join (values_before a) done
 
 abbrev pub values_to : Spot → Values
 values_to (Before k a) = values_before a
-values_to (Behind a v) = snoc (values_before a) v
+values_to (After a v) = snoc (values_before a) v
 values_to Nowhere = End
 
 -- the words of the cells of the values before, and of the cells that are open as far as their fields go
@@ -38,7 +38,7 @@ spent (Field c done rest a) = spent a + (suc (suc (count_of done)) + words_neede
 
 abbrev pub spent_at : Spot → ℕ
 spent_at (Before k a) = spent a
-spent_at (Behind a v) = spent a + words_needed v
+spent_at (After a v) = spent a + words_needed v
 spent_at Nowhere = 0
 
 -- the number of size k

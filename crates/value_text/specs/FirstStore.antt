@@ -1,11 +1,11 @@
--- How the cells of values, and those of credits behind them, lie where a store has no released cell.
+-- How the cells of values, and those of credits after them, lie where a store has no released cell.
 --
 -- Each node with children is a cell, in the order of the ) in the text of the values: so a value's cells stand before
 -- the cell of the value that it is a field of. A cell with k fields takes k + 1 places, its own and one for each field.
--- Behind the values stands a cell for each credit, with constructor 0 and fields 0.
+-- After the values stands a cell for each credit, with constructor 0 and fields 0.
 --
 -- In a new store Cons(1, Cons(2, Nil)) has Cons(2, Nil) at 0 and Cons(1, ..) at 3, and its word is 7; a credit of size
--- 2 behind it has its cell at 6, and its word is 13.
+-- 2 after it has its cell at 6, and its word is 13.
 use Rattle.std.specs.Prelude.{◌≡◌, ℕ, suc, ◌+◌, ◌*◌, false, List, [], ◌∷◌, ◌++◌, Some, None, length, replicate}
 use Rattle.fip_language.specs.Values.{Value, Int, Node, Values, End, More}
 use Rattle.fip_language.specs.Store.{Cell, int_word}
@@ -64,15 +64,15 @@ loaded_places n vs credits = all_places n vs ++ credit_places credits
 abbrev pub loaded_words : ℕ → Values → List ℕ → List ℕ
 loaded_words n vs credits = all_words n vs ++ credit_words (n + length (all_places n vs)) credits
 
--- These places stand behind those of the old store, no cell of them is released, and all else is as it was.
-pub record IsBehind (old new : Loading) (places : Cells) : Type 0 where
+-- These places stand after those of the old store, no cell of them is released, and all else is as it was.
+pub record IsAfter (old new : Loading) (places : Cells) : Type 0 where
   pub cells : new.cells ≡ old.cells ++ places
   pub released : new.released ≡ old.released ++ replicate (length places) false
 
--- The values that the text spells lie so behind the cells of the old store, the credits behind them, and these are
+-- The values that the text spells lie so after the cells of the old store, the credits after them, and these are
 -- their words.
 pub record IsInOrder (tb : Table) (types credits bytes : List ℕ) (old new : Loading) (words : List ℕ) : Type 0 where
   pub values : Values
   pub spelled : SpellsValues tb types bytes values
-  pub behind : IsBehind old new (loaded_places (length old.cells) values credits)
+  pub following : IsAfter old new (loaded_places (length old.cells) values credits)
   pub named : words ≡ loaded_words (length old.cells) values credits

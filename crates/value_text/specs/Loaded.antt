@@ -1,4 +1,4 @@
--- What it means that values were loaded from a text into a store, with the cells of credits behind them.
+-- What it means that values were loaded from a text into a store, with the cells of credits after them.
 -- The store is seen before and after. Released cells of the store serve new cells of their size first, so that
 -- Cons(1, Cons(2, Nil)) needs 6 words of an empty store, 3 where one cell of 2 fields is released, and none where two
 -- are.

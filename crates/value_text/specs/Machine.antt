@@ -42,7 +42,7 @@ abbrev pub snoc : Values → Value → Values
 snoc xs x = join xs (More x End)
 
 -- what is around a value: the values before it, and the types of those after it; or the value is read alone, and so
--- many characters stand behind it, whatever they are
+-- many characters stand after it, whatever they are
 pub data Around : Type 0 where
   Alone : (n : ℕ) → Around
   Lines : (done : Values) (rest : List ℕ) → Around
@@ -53,7 +53,7 @@ pub data State : Type 0 where
   Want : (k : ℕ) (around : Around) → State
   -- in a name
   Naming : (t : ℕ) (front : List Character) (around : Around) → State
-  -- behind a -
+  -- after a -
   Signed : (around : Around) → State
   -- in a number
   Number : (neg : Bool) (n : ℕ) (around : Around) → State
@@ -64,7 +64,7 @@ pub data State : Type 0 where
   -- a value is there that is read alone, and so many characters come
   Past : (n : ℕ) (vs : Values) → State
 
--- behind a value
+-- after a value
 abbrev pub filled : Around → Value → State
 filled (Alone n) v = Past n (More v End)
 filled (Lines done []) v = Over (snoc done v)
@@ -72,7 +72,7 @@ filled (Lines done (k ∷ ks)) v = Await Line (Want k (Lines (snoc done v) ks))
 filled (Field c done [] around) v = Await Close (filled around (Node c (snoc done v)))
 filled (Field c done (k ∷ ks) around) v = Await Comma (Want k (Field c (snoc done v) ks around))
 
--- behind a constructor's name
+-- after a constructor's name
 abbrev pub named : ℕ → List ℕ → Around → State
 named c [] around = filled around (Node c End)
 named c (k ∷ ks) around = Await Open (Want k (Field c End ks around))
@@ -84,7 +84,7 @@ is_sign Close Close = true
 is_sign Comma Comma = true
 is_sign _ _ = false
 
--- a state behind a whole token takes a character
+-- a state after a whole token takes a character
 abbrev pub pass : State → Character → Option State
 pass (Await sign next) Blank = Some (Await sign next)
 pass (Await sign next) c = if is_sign sign c then Some next else None

@@ -27,7 +27,7 @@ closes (suc n) ts = Close ∷ closes n ts
 
 -- what a row has to be printed, before other tasks
 abbrev pub row_tasks : Row → List Task → List Task
-row_tasks r ts = fields_of r.types.now r.place ∷ closes r.behind ts
+row_tasks r ts = fields_of r.types.now r.place ∷ closes r.following ts
 
 -- the rows as tasks, the last first
 unfoldable pub last_first : List Row → List Task
@@ -46,7 +46,7 @@ pub record AreLast (tb : Table) (cs : Cells) (types : List ℕ) (p : ℕ) (c : C
   pub stand : StandAll tb cs types xs
   pub words : drop (length c.fields - length types) c.fields ≡ words_of xs
 
--- The tasks, the next first, print this text: a value, the last fields of a cell with what stands before and behind
+-- The tasks, the next first, print this text: a value, the last fields of a cell with what stands before and after
 -- them, or a ).
 abbrev pub Prints : Table → Cells → List Task → List ℕ → Type 0
 Prints tb cs [] text = text ≡ []

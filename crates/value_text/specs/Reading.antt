@@ -1,6 +1,6 @@
 -- How far the reader of a text is, in the machine's words. No public clause speaks of it.
 -- The reader keeps the open constructors and the types that are still to come; the values before are known to the
--- machine alone. It goes in steps from spot to spot: a spot lies before a value or behind one.
+-- machine alone. It goes in steps from spot to spot: a spot lies before a value or after one.
 use Rattle.std.specs.Prelude.{◌≡◌, ℕ, suc, ◌+◌, ◌≤◌, List, [], ◌∷◌, ◌++◌, length, drop, Option}
 use Rattle.std.specs.Prelude.{ℤ, Bool, true, false, Some, None, Result, Ok, Err}
 use Rattle.fip_language.specs.Prefix.{Accepted, Stopped}
@@ -18,13 +18,13 @@ use Rattle.value_text.specs.Machine.{start, snoc, Around, Alone, Lines, Field, S
 use Rattle.value_text.specs.Loaded.{types_of}
 use Rattle.value_text.specs.Scan.{runs}
 
--- an open constructor: its number, the types of the fields behind the one that is read, and the number of its fields
+-- an open constructor: its number, the types of the fields after the one that is read, and the number of its fields
 pub record Pending : Type 0 where
   pub c : ℕ
   pub rest : List ℕ
   pub size : ℕ
 
--- what comes next: a value of a type, or what stands behind a value; the open constructors, the innermost first; the
+-- what comes next: a value of a type, or what stands after a value; the open constructors, the innermost first; the
 -- types of the lines that come
 pub record Outline : Type 0 where
   pub next : Option ℕ
@@ -62,13 +62,13 @@ pub record IsKnown (tb : Table) (o : Outline) : Type 0 where
 
 pub data Spot : Type 0 where
   Before : (k : ℕ) (around : Around) → Spot
-  Behind : (around : Around) (v : Value) → Spot
+  After : (around : Around) (v : Value) → Spot
   -- there are no values
   Nowhere : Spot
 
 abbrev pub state_at : Spot → State
 state_at (Before k a) = Want k a
-state_at (Behind a v) = filled a v
+state_at (After a v) = filled a v
 state_at Nowhere = Over End
 
 abbrev pub rows_of : Around → List Pending
@@ -84,57 +84,57 @@ lines_of (Field c done rest around) = lines_of around
 
 abbrev pub outline_at : Spot → Outline
 outline_at (Before k a) = record { next = Some k; frames = rows_of a; lines = lines_of a }
-outline_at (Behind a v) = record { next = None; frames = rows_of a; lines = lines_of a }
+outline_at (After a v) = record { next = None; frames = rows_of a; lines = lines_of a }
 outline_at Nowhere = record { next = None; frames = []; lines = [] }
 
 -- Reading goes on from here: a value that is read alone isn't whole yet.
 abbrev pub GoesOn : Spot → Type 0
-GoesOn (Behind (Alone n) v) = ⊥
+GoesOn (After (Alone n) v) = ⊥
 GoesOn _ = Unit {0}
 
--- the number of characters that stand behind a value that is read alone
-abbrev pub behind_of : Around → Option ℕ
-behind_of (Alone n) = Some n
-behind_of (Lines done rest) = None
-behind_of (Field c done rest around) = behind_of around
+-- the number of characters that stand after a value that is read alone
+abbrev pub after_of : Around → Option ℕ
+after_of (Alone n) = Some n
+after_of (Lines done rest) = None
+after_of (Field c done rest around) = after_of around
 
-abbrev pub behind_at : Spot → Option ℕ
-behind_at (Before k a) = behind_of a
-behind_at (Behind a v) = behind_of a
-behind_at Nowhere = None
+abbrev pub after_at : Spot → Option ℕ
+after_at (Before k a) = after_of a
+after_at (After a v) = after_of a
+after_at Nowhere = None
 
--- where reading begins: the machine's state, the place in the text, and how many characters stand behind a value that
+-- where reading begins: the machine's state, the place in the text, and how many characters stand after a value that
 -- is read alone
 pub record Origin : Type 0 where
   pub state : State
   pub place : ℕ
-  pub behind : Option ℕ
+  pub following : Option ℕ
 
 -- a whole text, a line for each type
 abbrev pub whole : List ℕ → Origin
-whole types = record { state = start types; place = 0; behind = None }
+whole types = record { state = start types; place = 0; following = None }
 
--- one value of a type, from a place on, behind which so many characters stand
+-- one value of a type, from a place on, after which so many characters stand
 abbrev pub alone : ℕ → ℕ → ℕ → Origin
-alone k at n = record { state = Want k (Alone n); place = at; behind = Some n }
+alone k at n = record { state = Want k (Alone n); place = at; following = Some n }
 
 -- an event leads from a spot to a spot
 abbrev pub Moves : Event → Spot → Spot → Type 0
-Moves (Number i) s s' = (a : Around) × (s ≡ Before 0 a) × (s' ≡ Behind a (Int i))
-Moves (Bare c) s s' = (t : ℕ) × (a : Around) × (s ≡ Before (suc t) a) × (s' ≡ Behind a (Node c End))
+Moves (Number i) s s' = (a : Around) × (s ≡ Before 0 a) × (s' ≡ After a (Int i))
+Moves (Bare c) s s' = (t : ℕ) × (a : Around) × (s ≡ Before (suc t) a) × (s' ≡ After a (Node c End))
 Moves Opened s s' = (t : ℕ) × (a : Around) × (c k : ℕ) × (ks : List ℕ) × (s ≡ Before (suc t) a)
     × (s' ≡ Before k (Field c End ks a))
 Moves Comma s s' = (c : ℕ) × (done : Values) × (v : Value) × (k : ℕ) × (ks : List ℕ) × (a : Around)
-    × (s ≡ Behind (Field c done (k ∷ ks) a) v) × (s' ≡ Before k (Field c (snoc done v) ks a))
-Moves (Closed c n) s s' = (done : Values) × (v : Value) × (a : Around) × (s ≡ Behind (Field c done [] a) v)
-    × (s' ≡ Behind a (Node c (snoc done v))) × (n ≡ suc (count_of done))
-Moves Line s s' = (done : Values) × (v : Value) × (k : ℕ) × (ks : List ℕ) × (s ≡ Behind (Lines done (k ∷ ks)) v)
+    × (s ≡ After (Field c done (k ∷ ks) a) v) × (s' ≡ Before k (Field c (snoc done v) ks a))
+Moves (Closed c n) s s' = (done : Values) × (v : Value) × (a : Around) × (s ≡ After (Field c done [] a) v)
+    × (s' ≡ After a (Node c (snoc done v))) × (n ≡ suc (count_of done))
+Moves Line s s' = (done : Values) × (v : Value) × (k : ℕ) × (ks : List ℕ) × (s ≡ After (Lines done (k ∷ ks)) v)
     × (s' ≡ Before k (Lines (snoc done v) ks))
 
--- behind the last of these values
+-- after the last of these values
 abbrev pub IsLast : Spot → Values → Type 0
 IsLast (Before k a) vs = ⊥
-IsLast (Behind a v) vs = (done : Values) × (a ≡ Lines done []) × (vs ≡ snoc done v)
+IsLast (After a v) vs = (done : Values) × (a ≡ Lines done []) × (vs ≡ snoc done v)
 IsLast Nowhere vs = vs ≡ End
 
 -- what the parts of a step tell: an int; a constructor with fields, or the number of one without; a comma, or the
@@ -188,7 +188,7 @@ IsNarrow _ = Unit {0}
 -- what is read is all read so far, from where reading begins
 pub record IsReading (tb : Table) (from : Origin) (bytes : List ℕ) (o : Outline) (at : ℕ) (s : Spot) : Type 0 where
   pub outline : o ≡ outline_at s
-  pub behind : behind_at s ≡ from.behind
+  pub following : after_at s ≡ from.following
   pub reads : runs tb bytes (state_at s) at ≡ runs tb bytes from.state from.place
   pub known : IsKnown tb o
   pub within : at ≤ length bytes

@@ -1,7 +1,7 @@
--- What it means that a value of a type stands at a place of a text, whatever stands behind it, and that its cells were
+-- What it means that a value of a type stands at a place of a text, whatever stands after it, and that its cells were
 -- made; and that the cells of credits were.
 -- In the text `f(Cons(1, Nil), 7)` a list of ints stands at place 2 and ends at 14, where the comma is; at place 15 the
--- int 7 stands behind a blank, and ends at 17.
+-- int 7 stands after a blank, and ends at 17.
 use Rattle.std.specs.Prelude.{◌≡◌, ℕ, ◌+◌, ◌-◌, ◌^◌, ◌≤◌, List, [], length, drop, slice_index_or}
 use Rattle.fip_language.specs.Character.{Character, characters}
 use Rattle.fip_language.specs.Values.{Value, End, More, cells}

@@ -78,7 +78,7 @@ fn close(tag: u32, size: usize, loader: &mut Loader, words: &mut Vec<u64>) -> Re
     }
 }
 
-// A word is put behind the others.
+// A word is put after the others.
 #[inline(always)]
 fn push_word(words: &mut Vec<u64>, word: u64) -> Result<(), Stopped>
     ensures words { OnOk result (words.new.items ≡ words.old.items ++ word ∷ []) }
@@ -100,7 +100,7 @@ fn stop_of(refused: Refused) -> Stopped
     }
 }
 
-// The builder goes on behind what was put down.
+// The builder goes on after what was put down.
 #[inline(always)]
 fn goes_on(put: Result<(), Stopped>) -> Result<bool, Stopped>
     ensures { result ≡ then_on put }
@@ -156,7 +156,7 @@ fn build_node<'a>(
     }
 }
 
-// What stands behind a field of the innermost open constructor.
+// What stands after a field of the innermost open constructor.
 #[inline(always)]
 fn build_field<'a>(
     bytes: &[u8],
@@ -179,7 +179,7 @@ fn build_field<'a>(
     }
 }
 
-// What stands behind the value of a line.
+// What stands after the value of a line.
 #[inline(always)]
 fn build_line<'a>(bytes: &[u8], cursor: &mut Cursor<'a>) -> Result<bool, Stopped>
     requires place { cursor.old.at ≤ length bytes.now }
@@ -220,9 +220,9 @@ fn build_front<'a>(
     }
 }
 
-// What stands behind a value; false behind the last one.
+// What stands after a value; false after the last one.
 #[inline(always)]
-fn build_behind<'a>(
+fn build_after<'a>(
     bytes: &[u8],
     cursor: &mut Cursor<'a>,
     loader: &mut Loader,
@@ -242,7 +242,7 @@ fn build_behind<'a>(
     }
 }
 
-/// One step, and what it leaves in the store and among the words that wait for their cells; false behind the last
+/// One step, and what it leaves in the store and among the words that wait for their cells; false after the last
 /// value.
 #[inline(always)]
 pub fn advance<'a>(
@@ -260,11 +260,11 @@ pub fn advance<'a>(
 {
     match cursor.next {
         Some(ty) => build_front(table, ty, bytes, cursor, words),
-        None => build_behind(bytes, cursor, loader, words),
+        None => build_after(bytes, cursor, loader, words),
     }
 }
 
-// What stands behind a value, up to where the next one comes; false behind the last one.
+// What stands after a value, up to where the next one comes; false after the last one.
 #[inline(always)]
 fn build_ends<'a>(
     table: &'a TypeTable,
@@ -284,7 +284,7 @@ fn build_ends<'a>(
         if cursor.next.is_some() {
             return Ok(true);
         }
-        match build_behind(bytes, cursor, loader, words) {
+        match build_after(bytes, cursor, loader, words) {
             Ok(true) => {}
             Ok(false) => return Ok(false),
             Err(e) => return Err(e),
@@ -339,7 +339,7 @@ fn add_credit(size: u8, loader: &mut Loader, words: &mut Vec<u64>) -> Result<(),
     }
 }
 
-/// A cell for each credit, behind the words of the values.
+/// A cell for each credit, after the words of the values.
 pub fn add_credits(credits: &[u8], loader: &mut Loader, words: &mut Vec<u64>) -> Result<(), Stopped>
     ensures made { AreCredits credits.now → OnOk result ((first : Loading) (vs : Values) →
         IsBuilt (wanted credits.now vs) first loader.old vs words.old.items →

@@ -88,7 +88,7 @@ fn words_needed(loader: &Loader, counts: &Counts) -> usize
     needed
 }
 
-// The words of the values, and behind them those of the credits' cells. The memory that words took while they waited
+// The words of the values, and after them those of the credits' cells. The memory that words took while they waited
 // for their cells is given back.
 fn with_credits(words: Vec<u64>, credits: &[u8], loader: &mut Loader) -> Result<Vec<u64>, Stopped>
     ensures { AreCredits credits.now → (first : Loading) (vs : Values) →
@@ -319,7 +319,7 @@ fn load_all(
 /// Reads the values of the parameters, one line each, into the cells of a loader, and then makes a cell for each
 /// credit, of that size, its tag and fields 0. Gives the loader, and the words of the values and of the credits' cells.
 /// `BadValue` where the bytes are no text of the types; else `Full` where the cells that no released cell serves need
-/// more words than are left; both hand back the loader as it was. `NoMemory` where memory is wanting. Nesting costs no
+/// more words than are left; both hand back the loader as it was. `NoMemory` where memory runs out. Nesting costs no
 /// stack of the program.
 ///
 /// The clauses speak of a sound table, of parameters of its types, and of at most 16 credits of sizes from 1 to 16.
@@ -335,7 +335,7 @@ pub fn load_values(
     // were live stay.
     ensures loads { IsGiven table.now (types_of params.now) credits.now bytes.now → IfOk result (λ r.
         IsLoaded table.now (types_of params.now) credits.now bytes.now loader r.0 r.1.items) }
-    // Where no cell is released, their cells are made behind all others, in the order of their `)` in the text, and
+    // Where no cell is released, their cells are made after all others, in the order of their `)` in the text, and
     // then the credits'.
     ensures order { IsGiven table.now (types_of params.now) credits.now bytes.now → HasNoFree loader →
         IfOk result (λ r.
@@ -344,7 +344,7 @@ pub fn load_values(
     ensures complete { IsGiven table.now (types_of params.now) credits.now bytes.now → (vs : Values) →
         SpellsValues table.now (types_of params.now) bytes.now vs → needed loader credits.now vs ≤ loader.left →
         MatchResult result (λ r. ℕ) (λ e. e ≡ LoadError.NoMemory) }
-    // A store that is too small is told with both numbers, and handed back,
+    // A store that is too small is reported with both numbers, and handed back,
     ensures full { IsGiven table.now (types_of params.now) credits.now bytes.now → (n words : ℕ) (l : Loading) →
         result ≡ Err (LoadError.Full n words l) → (l ≡ loader) × (words ≡ loader.left) × (words < n) × (vs : Values)
         × SpellsValues table.now (types_of params.now) bytes.now vs × (n ≡ needed loader credits.now vs) }
@@ -353,7 +353,7 @@ pub fn load_values(
         SpellsValues table.now (types_of params.now) bytes.now vs → loader.left < needed loader credits.now vs →
         MatchResult result (λ r. ⊥) (λ e. (e ≡ LoadError.Full (needed loader credits.now vs) loader.left loader)
         ⊎ (e ≡ LoadError.NoMemory)) }
-    // A bad value is told at the least offset with which no text of the types begins, and the loader handed back,
+    // A bad value is reported at the least offset with which no text of the types begins, and the loader handed back,
     ensures place { IsGiven table.now (types_of params.now) credits.now bytes.now → (at : ℕ) (l : Loading) →
         result ≡ Err (LoadError.BadValue at l) → (l ≡ loader)
         × IsPlace (SpellsValues table.now (types_of params.now)) bytes.now at }

@@ -23,16 +23,16 @@ use fip_base::table::{Constructor, TypeTable};
 use itoa::Buffer;
 use std::alloc::{AllocError, Global};
 
-/// The last fields of a cell, which wait: their types, and the cell's place; and behind them so many further cells of
+/// The last fields of a cell, which wait: their types, and the cell's place; and after them so many further cells of
 /// which only the ) is left.
 #[derive(Clone, Copy)]
 pub struct Row<'a> {
     types: &'a [u32],
     place: u32,
-    behind: u32,
+    following: u32,
 }
 
-/// The first of the last fields of a cell: its type and word, and the types of the fields behind it.
+/// The first of the last fields of a cell: its type and word, and the types of the fields after it.
 #[derive(Clone, Copy)]
 pub struct Field<'a> {
     ty: u32,
@@ -66,11 +66,11 @@ fn print_int(word: u64, out: &mut Vec<u8>) -> Result<(), AllocError>
 
 // How many cells wait behind a further one, where only the ) of this one is left.
 #[inline(always)]
-fn closed(types: &[u32], behind: u32) -> Option<u32>
-    ensures { IfSome result (λ n. (length types.now ≡ 0) × (n ≡ suc behind)) }
+fn closed(types: &[u32], following: u32) -> Option<u32>
+    ensures { IfSome result (λ n. (length types.now ≡ 0) × (n ≡ suc following)) }
 {
-    if types.is_empty() && behind < u32::MAX {
-        Some(behind + 1)
+    if types.is_empty() && following < u32::MAX {
+        Some(following + 1)
     } else {
         None
     }
@@ -87,8 +87,8 @@ fn waiting<'a>(rows: &Vec<Row<'a>>) -> Option<(usize, u32)>
     }
     let top = rows.len() - 1;
     let row = rows[top];
-    match closed(row.types, row.behind) {
-        Some(behind) => Some((top, behind)),
+    match closed(row.types, row.following) {
+        Some(following) => Some((top, following)),
         None => None,
     }
 }
@@ -110,22 +110,22 @@ fn add<'a>(rows: &mut Vec<Row<'a>>, types: &'a [u32], place: u32) -> Result<(), 
     ensures one { OnOk result (vec_len rows.new ≤ vec_len rows.old + 1) }
 {
     match waiting(rows) {
-        Some((top, behind)) => {
+        Some((top, following)) => {
             rows[top] = Row {
                 types,
                 place,
-                behind,
+                following,
             };
             Ok(())
         }
         None => {
-            let behind = 0;
+            let following = 0;
             push_row(
                 rows,
                 Row {
                     types,
                     place,
-                    behind,
+                    following,
                 },
             )
         }
@@ -138,39 +138,39 @@ fn nothing<'a>() -> &'a [u32]
     &[]
 }
 
-// The cell of the top row is printed; those behind it wait on.
+// The cell of the top row is printed; those after it wait on.
 #[inline(always)]
-fn close<'a>(rows: &mut Vec<Row<'a>>, top: usize, behind: u32)
+fn close<'a>(rows: &mut Vec<Row<'a>>, top: usize, following: u32)
     requires { suc top ≡ length rows.old.items }
-    ensures tasks { last_first rows.new.items ≡ closes behind (last_first (take top rows.old.items)) }
+    ensures tasks { last_first rows.new.items ≡ closes following (last_first (take top rows.old.items)) }
     ensures fewer { vec_len rows.new ≤ vec_len rows.old }
 {
-    if behind == 0 {
+    if following == 0 {
         rows.truncate(top);
     } else {
         let types = nothing();
         let place = 0;
-        let behind = behind - 1;
+        let following = following - 1;
         rows[top] = Row {
             types,
             place,
-            behind,
+            following,
         };
     }
 }
 
-// One of the cells of the top row, of which only the ) is left, is printed; those behind it wait on.
+// One of the cells of the top row, of which only the ) is left, is printed; those after it wait on.
 #[inline(always)]
-fn close_one<'a>(rows: &mut Vec<Row<'a>>, top: usize, behind: u32)
+fn close_one<'a>(rows: &mut Vec<Row<'a>>, top: usize, following: u32)
     requires top { suc top ≡ length rows.old.items }
-    requires tasks { last_first rows.old.items ≡ Close ∷ closes behind (last_first (take top rows.old.items)) }
-    ensures tasks { last_first rows.new.items ≡ closes behind (last_first (take top rows.old.items)) }
+    requires tasks { last_first rows.old.items ≡ Close ∷ closes following (last_first (take top rows.old.items)) }
+    ensures tasks { last_first rows.new.items ≡ closes following (last_first (take top rows.old.items)) }
     ensures fewer { vec_len rows.new ≤ vec_len rows.old }
 {
-    if behind == 0 {
+    if following == 0 {
         rows.truncate(top);
     } else {
-        rows[top].behind = behind - 1;
+        rows[top].following = following - 1;
     }
 }
 
@@ -180,17 +180,17 @@ fn print_close<'a>(
     out: &mut Vec<u8>,
     rows: &mut Vec<Row<'a>>,
     top: usize,
-    behind: u32,
+    following: u32,
 ) -> Result<(), AllocError>
     requires top { suc top ≡ length rows.old.items }
-    requires tasks { last_first rows.old.items ≡ Close ∷ closes behind (last_first (take top rows.old.items)) }
-    ensures tasks { OnOk result (last_first rows.new.items ≡ closes behind (last_first (take top rows.old.items))) }
+    requires tasks { last_first rows.old.items ≡ Close ∷ closes following (last_first (take top rows.old.items)) }
+    ensures tasks { OnOk result (last_first rows.new.items ≡ closes following (last_first (take top rows.old.items))) }
     ensures fewer { OnOk result (vec_len rows.new ≤ vec_len rows.old) }
     ensures text { OnOk result (out.new.items ≡ out.old.items ++ 41 ∷ []) }
     ensures grows { OnOk result (vec_len out.old < vec_len out.new) }
 {
     push(b')', out)?;
-    close_one(rows, top, behind);
+    close_one(rows, top, following);
     Ok(())
 }
 
@@ -361,14 +361,14 @@ fn print_row<'a, C: Cells>(
     cells: &C,
     last: &'a [u32],
     place: u32,
-    behind: u32,
+    following: u32,
     top: usize,
     out: &mut Vec<u8>,
     rows: &mut Vec<Row<'a>>,
 ) -> Result<Option<(u32, u64)>, AllocError>
     requires top { suc top ≡ length rows.old.items }
     requires tasks { last_first rows.old.items
-        ≡ fields_of last.now place ∷ closes behind (last_first (take top rows.old.items)) }
+        ≡ fields_of last.now place ∷ closes following (last_first (take top rows.old.items)) }
     ensures prints { IfOk result (λ next. (tb : Table) (whole : List ℕ) →
         Printing tb (C.cells cells.now) (last_first rows.old.items) out.old.items whole →
         Printing tb (C.cells cells.now) (then_tasks next (last_first rows.new.items)) out.new.items whole) }
@@ -376,7 +376,7 @@ fn print_row<'a, C: Cells>(
     ensures grows { IfOk result (λ next. vec_len out.old < vec_len out.new) }
 {
     if last.is_empty() {
-        print_close(out, rows, top, behind)?;
+        print_close(out, rows, top, following)?;
         return Ok(None);
     }
     match print_field(cells, last, place, out)? {
@@ -386,7 +386,7 @@ fn print_row<'a, C: Cells>(
             Ok(Some((field.ty, field.word)))
         }
         None => {
-            close(rows, top, behind);
+            close(rows, top, following);
             Ok(None)
         }
     }
@@ -412,7 +412,7 @@ fn next_value<'a, C: Cells>(
         }
         let top = rows.len() - 1;
         let row = rows[top];
-        match print_row(cells, row.types, row.place, row.behind, top, out, rows)? {
+        match print_row(cells, row.types, row.place, row.following, top, out, rows)? {
             Some(next) => return Ok(Some(next)),
             None => {}
         }
@@ -442,7 +442,7 @@ fn print_on<'a, C: Cells>(
     }
 }
 
-// The values, one after another, behind what stands in the text. A value or a row that puts a further row behind itself
+// The values, one after another, after what stands in the text. A value or a row that puts a further row after itself
 // prints a byte, so there is an end to them.
 fn print_values<C: Cells>(
     alloc: Global,
@@ -468,7 +468,7 @@ fn print_values<C: Cells>(
 }
 
 /// The canonical text of the value of a type that a word stands for in the cells: constructors and ints without
-/// blanks but one space behind each comma, ints without leading zeros, and no end of line. An error where memory is
+/// blanks but one space after each comma, ints without leading zeros, and no end of line. An error where memory is
 /// wanting. Nesting costs no stack of the program.
 ///
 /// The clauses speak of stores of at most 2^32 places, and of words that stand for a value of the type.
@@ -491,10 +491,10 @@ pub fn print_value<C: Cells>(
     Ok(print_values(alloc, table, cells, ty, word, Vec::new(alloc))?)
 }
 
-/// The same text, put behind what stands in another, which moves in and out.
+/// The same text, put after what stands in another, which moves in and out.
 ///
 /// The clause speaks of stores of at most 2^32 places, and of words that stand for a value of the type.
-pub fn print_behind<C: Cells>(
+pub fn print_after<C: Cells>(
     alloc: Global,
     table: &TypeTable,
     cells: &C,

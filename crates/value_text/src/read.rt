@@ -32,7 +32,7 @@ pub struct Frame<'a> {
 #[derive(Drop)]
 pub struct Cursor<'a> {
     pub(crate) at: usize,
-    // the type of the value that comes next; none behind a value
+    // the type of the value that comes next; none after a value
     pub(crate) next: Option<u32>,
     // the open constructors, the innermost last
     pub(crate) frames: Vec<Frame<'a>>,
@@ -177,18 +177,18 @@ pub fn read_node<'a>(
     ensures known { IsSoundTable table.now → IsKnown table.now (outline cursor.old) →
         IfOk (node_event result) (λ e. IsKnown table.now (outline cursor.new)) }
 {
-    let (tag, behind) = match scan::name(table, ty, bytes, cursor.at) {
+    let (tag, following) = match scan::name(table, ty, bytes, cursor.at) {
         Ok(found) => found,
         Err(at) => return Err(Refused::BadValue(at)),
     };
     let constructor = constructor_of(table, ty, tag);
     match field_at(constructor, 0) {
         None => {
-            cursor.at = behind;
+            cursor.at = following;
             cursor.next = None;
             Ok(Some(tag as u32))
         }
-        Some(k) => match scan::sign(bytes, behind, b'(') {
+        Some(k) => match scan::sign(bytes, following, b'(') {
             Ok(at) => {
                 let tag = tag as u32;
                 let begun = 1;
@@ -209,7 +209,7 @@ pub fn read_node<'a>(
     }
 }
 
-/// The end of a line behind a value; false where it was the last one, and the text ends.
+/// The end of a line after a value; false where it was the last one, and the text ends.
 #[inline(always)]
 pub fn read_line<'a>(bytes: &[u8], cursor: &mut Cursor<'a>) -> Result<bool, Refused>
     requires place { cursor.old.at ≤ length bytes.now }
@@ -239,7 +239,7 @@ pub fn read_line<'a>(bytes: &[u8], cursor: &mut Cursor<'a>) -> Result<bool, Refu
     }
 }
 
-/// The `,` behind a field of the innermost open constructor, or the `)` behind its last one; the number of a
+/// The `,` after a field of the innermost open constructor, or the `)` after its last one; the number of a
 /// constructor that is closed, and the number of its fields.
 #[inline(always)]
 pub fn read_field<'a>(
@@ -321,7 +321,7 @@ fn line_step(read: Result<bool, Refused>) -> Result<Option<Event>, Refused>
     }
 }
 
-/// One step; none behind the last value, where only blanks and ends of lines come.
+/// One step; none after the last value, where only blanks and ends of lines come.
 pub fn step<'a>(
     table: &'a TypeTable,
     bytes: &[u8],
@@ -403,7 +403,7 @@ pub fn is_whole(cursor: &Cursor) -> bool
     }
 }
 
-/// The place behind what was read.
+/// The place after what was read.
 pub fn place_of(cursor: &Cursor) -> usize
     ensures { result ≡ cursor.now.at }
 {

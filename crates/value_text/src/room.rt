@@ -1,4 +1,4 @@
-// Elements are put behind the others of a vector, or taken away. Where that takes memory or gives it back, the vector
+// Elements are put after the others of a vector, or taken away. Where that takes memory or gives it back, the vector
 // moves to a place of its own meanwhile, so that everywhere else its length and its place can stay in registers.
 ghost use Rattle.std.specs.Prelude.{◌≡◌, ◌+◌, ◌≤◌, ◌++◌, ◌∷◌, [], OnOk, length, take, vec_len, vec_capacity};
 
@@ -17,7 +17,7 @@ fn move_out<T: Copy>(items: &mut Vec<T>) -> Vec<T>
     replace(items, none)
 }
 
-// Puts an element behind the others of a vector that may have to grow.
+// Puts an element after the others of a vector that may have to grow.
 #[cold]
 #[inline(never)]
 fn push_growing<T: Copy>(item: T, items: &mut Vec<T>) -> Result<(), AllocError>
@@ -40,7 +40,7 @@ fn push_last<T: Copy>(item: T, items: &mut Vec<T>) -> Result<(), AllocError>
     pushed
 }
 
-/// Puts an element behind the others. An error where memory is wanting.
+/// Puts an element after the others. An error where memory runs out.
 #[inline(always)]
 pub fn push<T: Copy>(item: T, items: &mut Vec<T>) -> Result<(), AllocError>
     ensures items { OnOk result (items.new.items ≡ items.old.items ++ item ∷ []) }
@@ -77,7 +77,7 @@ pub fn cut<T: Copy>(items: &mut Vec<T>, len: usize)
     }
 }
 
-// Puts bytes behind the others, which may have to grow.
+// Puts bytes after the others, which may have to grow.
 #[inline(never)]
 fn extend_growing(bytes: &[u8], out: &mut Vec<u8>) -> Result<(), AllocError>
     ensures items { OnOk result (out.new.items ≡ out.old.items ++ bytes.now) }
@@ -86,7 +86,7 @@ fn extend_growing(bytes: &[u8], out: &mut Vec<u8>) -> Result<(), AllocError>
     out.extend_from_slice(bytes)
 }
 
-// Puts many bytes behind the others.
+// Puts many bytes after the others.
 #[inline(always)]
 fn put_many(bytes: &[u8], out: &mut Vec<u8>) -> Result<(), AllocError>
     ensures items { OnOk result (out.new.items ≡ out.old.items ++ bytes.now) }
@@ -98,7 +98,7 @@ fn put_many(bytes: &[u8], out: &mut Vec<u8>) -> Result<(), AllocError>
     put
 }
 
-// Puts bytes behind the others, for which there is room.
+// Puts bytes after the others, for which there is room.
 #[inline(always)]
 fn put_within(bytes: &[u8], out: &mut Vec<u8>)
     requires { vec_len out.old + length bytes.now ≤ vec_capacity out.old }
@@ -110,7 +110,7 @@ fn put_within(bytes: &[u8], out: &mut Vec<u8>)
     }
 }
 
-// Puts a few bytes behind the others, for which there is room. Up to eight are told apart, so that they are moved at
+// Puts a few bytes after the others, for which there is room. Up to eight are told apart, so that they are moved at
 // once.
 #[inline(always)]
 fn put_few(bytes: &[u8], out: &mut Vec<u8>)
@@ -145,7 +145,7 @@ fn put_short(name: &[u8], out: &mut Vec<u8>)
     }
 }
 
-/// Puts a name behind the others. An error where memory is wanting.
+/// Puts a name after the others. An error where memory runs out.
 #[inline(always)]
 pub fn put_name(name: &[u8], out: &mut Vec<u8>) -> Result<(), AllocError>
     ensures items { OnOk result (out.new.items ≡ out.old.items ++ name.now) }
@@ -158,7 +158,7 @@ pub fn put_name(name: &[u8], out: &mut Vec<u8>) -> Result<(), AllocError>
     Ok(())
 }
 
-/// Puts bytes behind the others. An error where memory is wanting.
+/// Puts bytes after the others. An error where memory runs out.
 #[inline(always)]
 pub fn put(bytes: &[u8], out: &mut Vec<u8>) -> Result<(), AllocError>
     ensures items { OnOk result (out.new.items ≡ out.old.items ++ bytes.now) }

@@ -1,4 +1,4 @@
-// The tokens of a text of values. Each function begins at a place in the bytes and gives the place behind its token,
+// The tokens of a text of values. Each function begins at a place in the bytes and gives the place after its token,
 // or the place of the first byte that doesn't fit, where the end counts as one.
 ghost use Rattle.std.specs.Prelude.{◌≡◌, ◌↔◌, ℕ, suc, ◌+◌, ◌*◌, ◌-◌, ◌<◌, ◌≤◌, ◌||◌, Bool, true, false, IsTrue};
 ghost use Rattle.std.specs.Prelude.{MatchOption, MatchResult, Some, None, length, take, drop, slice_get};
@@ -48,7 +48,7 @@ fn name_byte(b: u8) -> bool
     digit(b) || 65 <= b && b <= 90 || 97 <= b && b <= 122 || b == b'_'
 }
 
-// The place behind the blanks; most often there is none, or one space.
+// The place after the blanks; most often there is none, or one space.
 #[inline(always)]
 fn skip_blanks(bytes: &[u8], at: usize) -> usize
     requires { at ≤ length bytes.now }
@@ -56,7 +56,7 @@ fn skip_blanks(bytes: &[u8], at: usize) -> usize
     ensures within { result ≤ length bytes.now }
     ensures skips { (tb : Table) (s : State) → act tb s Blank ≡ Some s →
         runs tb bytes.now s at ≡ runs tb bytes.now s result }
-    ensures behind { result < length bytes.now → is_blank (slice_index_or bytes.now result 0) ≡ false }
+    ensures following { result < length bytes.now → is_blank (slice_index_or bytes.now result 0) ≡ false }
 {
     if at < bytes.len() {
         if bytes[at] > b' ' {
@@ -78,7 +78,7 @@ fn skip_all_blanks(bytes: &[u8], at: usize) -> usize
     ensures within { result ≤ length bytes.now }
     ensures skips { (tb : Table) (s : State) → act tb s Blank ≡ Some s →
         runs tb bytes.now s at ≡ runs tb bytes.now s result }
-    ensures behind { result < length bytes.now → is_blank (slice_index_or bytes.now result 0) ≡ false }
+    ensures following { result < length bytes.now → is_blank (slice_index_or bytes.now result 0) ≡ false }
 {
     for i in at..bytes.len() {
         if !blank(bytes[i]) {
@@ -88,7 +88,7 @@ fn skip_all_blanks(bytes: &[u8], at: usize) -> usize
     bytes.len()
 }
 
-// The place behind blanks and this sign: an LF or one of ( ) and comma.
+// The place after blanks and this sign: an LF or one of ( ) and comma.
 #[inline(always)]
 pub fn sign(bytes: &[u8], at: usize, byte: u8) -> Result<usize, usize>
     requires place { at ≤ length bytes.now }
@@ -252,7 +252,7 @@ fn last_digits(bytes: &[u8], at: usize, negative: bool, n: u64) -> Result<(i64, 
     Ok((int_from(negative, n), bytes.len()))
 }
 
-// An int behind blanks, and the place behind it.
+// An int after blanks, and the place after it.
 #[inline(always)]
 pub fn int(bytes: &[u8], at: usize) -> Result<(i64, usize), usize>
     requires { at ≤ length bytes.now }
@@ -275,13 +275,13 @@ pub fn int(bytes: &[u8], at: usize) -> Result<(i64, usize), usize>
     digits(bytes, start + 1, true)
 }
 
-// The place behind the name that begins here.
+// The place after the name that begins here.
 fn name_end(bytes: &[u8], at: usize) -> usize
     requires { at ≤ length bytes.now }
     ensures from { at ≤ result }
     ensures within { result ≤ length bytes.now }
     ensures name { are_name_bytes (take (result - at) (drop at bytes.now)) ≡ true }
-    ensures behind { result < length bytes.now → is_name_byte (slice_index_or bytes.now result 0) ≡ false }
+    ensures following { result < length bytes.now → is_name_byte (slice_index_or bytes.now result 0) ≡ false }
 {
     for i in at..bytes.len() {
         if !name_byte(bytes[i]) {
@@ -358,14 +358,14 @@ fn all_alike(text: &[u8], other: &[u8]) -> bool
     true
 }
 
-// Whether this name stands at a place, and no further byte of a name behind it.
+// Whether this name stands at a place, and no further byte of a name after it.
 #[inline(always)]
 fn stands(name: &[u8], bytes: &[u8], at: usize) -> bool
     requires { at ≤ length bytes.now }
     ensures some { IsTrue result → 0 < length name.now }
     ensures within { IsTrue result → at + length name.now ≤ length bytes.now }
     ensures same { IsTrue result → name.now ≡ take (length name.now) (drop at bytes.now) }
-    ensures behind { IsTrue result → at + length name.now < length bytes.now →
+    ensures following { IsTrue result → at + length name.now < length bytes.now →
         is_name_byte (slice_index_or bytes.now (at + length name.now) 0) ≡ false }
 {
     let size = name.len();
@@ -379,13 +379,13 @@ fn stands(name: &[u8], bytes: &[u8], at: usize) -> bool
     alike(name, &bytes[at..end]) && (end == bytes.len() || !name_byte(bytes[end]))
 }
 
-// The constructor whose name stands at a place, and the place behind the name.
+// The constructor whose name stands at a place, and the place after the name.
 #[inline(always)]
 fn constructor_here(constructors: &[Constructor], bytes: &[u8], at: usize) -> Option<(usize, usize)>
     requires { at ≤ length bytes.now }
     ensures within { IfSome result (λ r. (at < r.1) × (r.1 ≤ length bytes.now)) }
     ensures named { IfSome result (λ r. IsNamed constructors.now (take (r.1 - at) (drop at bytes.now)) r.0) }
-    ensures behind { IfSome result (λ r. r.1 < length bytes.now →
+    ensures following { IfSome result (λ r. r.1 < length bytes.now →
         is_name_byte (slice_index_or bytes.now r.1 0) ≡ false) }
 {
     for i in 0..constructors.len() {
@@ -397,7 +397,7 @@ fn constructor_here(constructors: &[Constructor], bytes: &[u8], at: usize) -> Op
     None
 }
 
-// The constructor whose name comes behind blanks, and the place behind the name.
+// The constructor whose name comes after blanks, and the place after the name.
 #[inline(always)]
 pub fn name(table: &TypeTable, ty: u32, bytes: &[u8], at: usize) -> Result<(usize, usize), usize>
     requires known { ty ≤ length table.now }
@@ -418,7 +418,7 @@ pub fn name(table: &TypeTable, ty: u32, bytes: &[u8], at: usize) -> Result<(usiz
     }
 }
 
-// The same where no name of the type stands behind the blanks. The answer has a place of its own here, so that where a
+// The same where no name of the type stands after the blanks. The answer has a place of its own here, so that where a
 // name is found it stays in registers.
 #[inline(always)]
 fn name_otherwise(
@@ -444,7 +444,7 @@ fn name_otherwise(
     }
 }
 
-// The same by the longest name that comes, and where no constructor has it, the place that tells so.
+// The same by the longest name that comes, and where no constructor has it, the place that reports so.
 #[inline(never)]
 fn name_or_place(
     table: &TypeTable,

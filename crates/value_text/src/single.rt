@@ -34,7 +34,7 @@ pub enum MakeError {
     NoMemory,
 }
 
-// Reads one value: the place behind it, and its cells by size.
+// Reads one value: the place after it, and its cells by size.
 fn read_alone(
     alloc: Global,
     table: &TypeTable,
@@ -50,7 +50,7 @@ fn read_alone(
     while !read::is_whole(&cursor) {
         match read::step(table, bytes, &mut cursor) {
             Ok(Some(event)) => counts.add_closed(event),
-            // A text ends behind its last line alone.
+            // A text ends after its last line alone.
             Ok(None) => return Err(Refused::BadValue(read::place_of(&cursor))),
             Err(e) => return Err(e),
         }
@@ -58,8 +58,8 @@ fn read_alone(
     Ok((read::place_of(&cursor), counts))
 }
 
-/// Reads one value of a type from a place on: the place behind it, and how many cells of each size it has. `BadValue`
-/// where none stands there, `NoMemory` where memory is wanting.
+/// Reads one value of a type from a place on: the place after it, and how many cells of each size it has. `BadValue`
+/// where none stands there, `NoMemory` where memory runs out.
 ///
 /// The clauses speak of a sound table, of a type of it, and of a place of the text.
 pub fn read_value(
@@ -76,7 +76,7 @@ pub fn read_value(
     // wherever one stands there.
     ensures complete { IsPlaced table.now ty bytes.now at → (v : Value) →
         BeginsWith table.now ty (drop at bytes.now) v → MatchResult result (λ r. ℕ) (λ e. e ≡ ReadError.NoMemory) }
-    // A bad value is told at the least offset with which no text that begins with a value goes on,
+    // A bad value is reported at the least offset with which no text that begins with a value goes on,
     ensures place { IsPlaced table.now ty bytes.now at → (k : ℕ) → result ≡ Err (ReadError.BadValue k) → (d : ℕ)
         × (k ≡ at + d) × IsPlace (BeginsWith table.now ty) (drop at bytes.now) d }
     // wherever no value stands there.
@@ -108,7 +108,7 @@ fn build_value(
     while !read::is_whole(&cursor) {
         match advance(table, bytes, &mut cursor, loader, &mut words) {
             Ok(true) => {}
-            // A text ends behind its last line alone.
+            // A text ends after its last line alone.
             Ok(false) => return Err(Stopped::BadValue(read::place_of(&cursor))),
             Err(e) => return Err(e),
         }
@@ -129,7 +129,7 @@ fn error_of(stopped: Stopped) -> MakeError
 
 /// Makes the cells of the value of a type that stands at a place, and gives the loader and the value's word. `BadValue`
 /// where none stands there; `Full` where the loader has no room for the cells of the value, or for those that come
-/// before the bad place; `NoMemory` where memory is wanting.
+/// before the bad place; `NoMemory` where memory runs out.
 ///
 /// The clauses speak of a sound table, of a type of it, and of a place of the text.
 pub fn make_value(
@@ -147,11 +147,11 @@ pub fn make_value(
     ensures complete { IsPlaced table.now ty bytes.now at → (v : Value) →
         BeginsWith table.now ty (drop at bytes.now) v → needed_by loader v ≤ loader.left →
         MatchResult result (λ r. ℕ) (λ e. e ≡ MakeError.NoMemory) }
-    // and is told to be too large where they don't.
+    // and is reported to be too large where they don't.
     ensures too_small { IsPlaced table.now ty bytes.now at → (v : Value) →
         BeginsWith table.now ty (drop at bytes.now) v → loader.left < needed_by loader v →
         MatchResult result (λ r. ⊥) (λ e. (e ≡ MakeError.Full) ⊎ (e ≡ MakeError.NoMemory)) }
-    // A bad value is told at the least offset with which no text that begins with a value goes on;
+    // A bad value is reported at the least offset with which no text that begins with a value goes on;
     ensures place { IsPlaced table.now ty bytes.now at → (k : ℕ) → result ≡ Err (MakeError.BadValue k) → (d : ℕ)
         × (k ≡ at + d) × IsPlace (BeginsWith table.now ty) (drop at bytes.now) d }
     // nothing is made where no value stands.
@@ -171,7 +171,7 @@ pub fn make_value(
 
 /// Makes a cell for each of these credits, of that many fields, its constructor and its fields 0, and gives the loader
 /// and the words that name the cells, in the order of the credits. `Full` where the loader has no room for one of them,
-/// `NoMemory` where memory is wanting.
+/// `NoMemory` where memory runs out.
 ///
 /// The clauses speak of at most 16 credits of sizes 1 to 16.
 pub fn make_credits(

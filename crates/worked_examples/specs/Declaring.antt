@@ -46,7 +46,7 @@ abbrev pub unknown : Core
 unknown = declaring (plain_type (codes "a") (at 1 6)
     (with_fields (codes "X") (at 1 10) (named (codes "nat") (at 1 12) ∷ []) ∷ []) ∷ [])
 
--- data a { X } and data b { Y; X } behind it
+-- data a { X } and data b { Y; X } after it
 abbrev pub with_two : Core
 with_two = declaring (plain_type (codes "a") (at 1 6) (with_fields (codes "X") (at 1 10) [] ∷ [])
     ∷ plain_type (codes "b") (at 2 6) (with_fields (codes "Y") (at 2 10) [] ∷ with_fields (codes "X") (at 2 13) [] ∷ [])

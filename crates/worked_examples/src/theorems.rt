@@ -1,4 +1,4 @@
-// What the definitions say of small programs and codes. Each law is the contract of a function that does nothing.
+// What the definitions say of small programs and codes. Each theorem is the contract of a function that does nothing.
 ghost use Rattle.std.specs.Prelude.{◌≡◌, ℕ, pos, Bool, true, false, List, [], ◌∷◌, Some, codes};
 ghost use Rattle.source_report.specs.fip_language.declared.rule.Rule.TheVariants.{E10, E11, E12, E13, E30, E31, E56, E62};
 ghost use Rattle.source_report.specs.fip_language.Example.{at, here};
@@ -94,7 +94,7 @@ pub fn stack_numbers_with_credits()
 {}
 
 /// What is known of the registers of the reversal before each of its instructions: which constructors the list may
-/// have, and behind the Take the item, the rest and the credit. For who reads a verifier's kinds.
+/// have, and after the Take the item, the rest and the credit. For who reads a verifier's kinds.
 #[tactic(auto, using(crate::proofs::Registers::computed))]
 pub fn kinds_at_each_instruction()
     ensures test { KnownAt reversal rev 0 (four_known any_list any_list Gone Gone) }
@@ -119,5 +119,5 @@ pub fn what_the_calculus_derives()
 /// one. For who asks whether any source is accepted.
 #[tactic(auto, using(crate::proofs::Empty::accepted))]
 pub fn an_empty_source_is_accepted()
-    ensures law { IsAccepted [] empty_program }
+    ensures theorem { IsAccepted [] empty_program }
 {}

@@ -60,7 +60,7 @@ pub extern "C" fn fip_cell(
 #[unsafe(no_mangle)]
 pub extern "C" fn fip_cell_at(machine: &mut Handle, word: u64, cell: &mut FipCell) -> u32
     ensures same { machine.new.held ≡ machine.old.held }
-    ensures tells { result ≡ 0 → IsCell machine.old.held.store word cell.new }
+    ensures reports { result ≡ 0 → IsCell machine.old.held.store word cell.new }
     ensures none { result ≢ 0 → (result ≡ 12) × (cell.new ≡ cell.old)
         × IsNamedBy machine.old.held.store.cells word None }
 {
@@ -77,7 +77,7 @@ pub extern "C" fn fip_cell_at(machine: &mut Handle, word: u64, cell: &mut FipCel
 #[unsafe(no_mangle)]
 pub extern "C" fn fip_field(machine: &mut Handle, word: u64, i: usize, field: &mut u64) -> u32
     ensures same { machine.new.held ≡ machine.old.held }
-    ensures tells { result ≡ 0 → IsField machine.old.held.store word i field.new }
+    ensures reports { result ≡ 0 → IsField machine.old.held.store word i field.new }
     ensures none { result ≢ 0 → (result ≡ 12) × (field.new ≡ field.old) }
 {
     match machine.machine().field(word, i) {
@@ -89,12 +89,12 @@ pub extern "C" fn fip_field(machine: &mut Handle, word: u64, i: usize, field: &m
     }
 }
 
-/// The word of the cell behind the one that a word names; of the first cell where the word names none, as 0 does.
+/// The word of the cell after the one that a word names; of the first cell where the word names none, as 0 does.
 /// Status 12: no further cell is there.
 #[unsafe(no_mangle)]
 pub extern "C" fn fip_next(machine: &mut Handle, word: u64, next: &mut u64) -> u32
     ensures same { machine.new.held ≡ machine.old.held }
-    ensures tells { result ≡ 0 → IsNext machine.old.held.store.cells word next.new }
+    ensures reports { result ≡ 0 → IsNext machine.old.held.store.cells word next.new }
     ensures none { result ≢ 0 → (result ≡ 12) × (next.new ≡ next.old) × IsLast machine.old.held.store.cells word }
 {
     match machine.machine().next(word) {

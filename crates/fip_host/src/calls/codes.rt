@@ -20,7 +20,7 @@ use code_file::{ReadCodeError, read_code};
 use code_verify::{SoundRule, Verified, VerifyError, verify};
 use std::alloc::Global;
 
-fn told(status: u32, rule: u32, function: usize, at: usize) -> FipVerdict
+fn reported(status: u32, rule: u32, function: usize, at: usize) -> FipVerdict
     ensures status { result.status ≡ status }
     ensures rule { result.rule ≡ rule }
     ensures function { result.function ≡ function }
@@ -65,12 +65,12 @@ fn verified_of(alloc: Global, bytes: &[u8]) -> Result<Verified, FipVerdict>
                 Ok(verified)
             }
             Err(VerifyError::Unsound { function, at, rule }) => {
-                Err(told(11, rule_number(rule), function, at))
+                Err(reported(11, rule_number(rule), function, at))
             }
-            Err(VerifyError::NoMemory) => Err(told(10, 0, 0, 0)),
+            Err(VerifyError::NoMemory) => Err(reported(10, 0, 0, 0)),
         },
-        Err(ReadCodeError::BadCode { at }) => Err(told(8, 0, 0, at)),
-        Err(ReadCodeError::NoMemory) => Err(told(10, 0, 0, 0)),
+        Err(ReadCodeError::BadCode { at }) => Err(reported(8, 0, 0, at)),
+        Err(ReadCodeError::NoMemory) => Err(reported(10, 0, 0, 0)),
     }
 }
 
@@ -98,9 +98,9 @@ fn judged(alloc: Global, bytes: &[u8], machine: &mut Slot) -> FipVerdict
     match verified_of(alloc, bytes) {
         Ok(verified) => {
             if hand_out(alloc, verified, machine) {
-                told(0, 0, 0, 0)
+                reported(0, 0, 0, 0)
             } else {
-                told(10, 0, 0, 0)
+                reported(10, 0, 0, 0)
             }
         }
         Err(refused) => refused,
@@ -168,11 +168,11 @@ pub extern "C" fn fip_function(
     function: &mut FipFunction,
 ) -> u32
     ensures same { machine.new.held ≡ machine.old.held }
-    ensures tells { result ≡ 0 → IsFunction machine.old.held.code number function.new }
+    ensures reports { result ≡ 0 → IsFunction machine.old.held.code number function.new }
     ensures none { result ≢ 0 → (result ≡ 12) × (function.new ≡ function.old)
         × (slice_get machine.old.held.code.code.functions.items number ≡ None) }
 {
-    match machine.machine().told(number) {
+    match machine.machine().reported(number) {
         Some(found) => {
             *function = found;
             0
@@ -191,7 +191,7 @@ pub extern "C" fn fip_name(
     length: &mut usize,
 ) -> u32
     ensures same { machine.new.held ≡ machine.old.held }
-    ensures tells { result ≡ 0 → (f : a_function)
+    ensures reports { result ≡ 0 → (f : a_function)
         × (slice_get machine.old.held.code.code.functions.items number ≡ Some f)
         × (out.new ≡ filled out.old f.name) × (length.new ≡ byte_count f.name) }
     ensures none { result ≢ 0 → (result ≡ 12) × (out.new ≡ out.old)
@@ -215,7 +215,7 @@ pub extern "C" fn fip_parameter(
     parameter: &mut FipParameter,
 ) -> u32
     ensures same { machine.new.held ≡ machine.old.held }
-    ensures tells { result ≡ 0 → (f : a_function)
+    ensures reports { result ≡ 0 → (f : a_function)
         × (slice_get machine.old.held.code.code.functions.items number ≡ Some f) × (p : a_param)
         × (slice_get f.params i ≡ Some p) × (parameter.new.type_number ≡ p.ty) × (parameter.new.borrowed ≡ p.lent) }
     ensures none { result ≢ 0 → (result ≡ 12) × (parameter.new ≡ parameter.old) }
@@ -244,7 +244,7 @@ pub extern "C" fn fip_result_type(
     type_number: &mut u32,
 ) -> u32
     ensures same { machine.new.held ≡ machine.old.held }
-    ensures tells { result ≡ 0 → (f : a_function)
+    ensures reports { result ≡ 0 → (f : a_function)
         × (slice_get machine.old.held.code.code.functions.items number ≡ Some f)
         × (slice_get f.results i ≡ Some type_number.new) }
     ensures none { result ≢ 0 → (result ≡ 12) × (type_number.new ≡ type_number.old) }
@@ -265,7 +265,7 @@ pub extern "C" fn fip_result_type(
 #[unsafe(no_mangle)]
 pub extern "C" fn fip_credit(machine: &mut Handle, number: usize, i: usize, size: &mut u8) -> u32
     ensures same { machine.new.held ≡ machine.old.held }
-    ensures tells { result ≡ 0 → (f : a_function)
+    ensures reports { result ≡ 0 → (f : a_function)
         × (slice_get machine.old.held.code.code.functions.items number ≡ Some f)
         × (slice_get f.credits.items i ≡ Some size.new) }
     ensures none { result ≢ 0 → (result ≡ 12) × (size.new ≡ size.old) }
@@ -303,7 +303,7 @@ pub extern "C" fn fip_constructor(
     length: &mut usize,
 ) -> u32
     ensures same { machine.new.held ≡ machine.old.held }
-    ensures tells { result ≡ 0 → (s : Shape)
+    ensures reports { result ≡ 0 → (s : Shape)
         × (slice_get (constructors machine.old.held.code.code.types type_number) i ≡ Some s)
         × (fields.new ≡ field_count s) × (out.new ≡ filled out.old s.name) × (length.new ≡ byte_count s.name) }
     ensures none { result ≢ 0 → (result ≡ 12) × (out.new ≡ out.old) }
@@ -332,7 +332,7 @@ pub extern "C" fn fip_field_type(
     field_type: &mut u32,
 ) -> u32
     ensures same { machine.new.held ≡ machine.old.held }
-    ensures tells { result ≡ 0 → (s : Shape)
+    ensures reports { result ≡ 0 → (s : Shape)
         × (slice_get (constructors machine.old.held.code.code.types type_number) i ≡ Some s)
         × (slice_get s.fields field ≡ Some field_type.new) }
     ensures none { result ≢ 0 → (result ≡ 12) × (field_type.new ≡ field_type.old) }
@@ -366,7 +366,7 @@ pub extern "C" fn fip_need(
     need: &mut FipNeed,
 ) -> u32
     ensures same { machine.new.held ≡ machine.old.held }
-    ensures tells { result ≡ 0 → IsNeed machine.old.held.code number words kept frames need.new }
+    ensures reports { result ≡ 0 → IsNeed machine.old.held.code number words kept frames need.new }
     ensures none { result ≢ 0 → (result ≡ 12) × (need.new ≡ need.old)
         × (slice_get machine.old.held.code.code.functions.items number ≡ None) }
 {

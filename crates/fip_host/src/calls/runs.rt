@@ -1,6 +1,6 @@
 // Runs.
 ghost use Rattle.std.specs.Prelude.{◌≡◌, ◌≢◌, ℕ, List, Some, None, slice_get};
-ghost use Rattle.fip_host.specs.Telling.{TellsSize};
+ghost use Rattle.fip_host.specs.Telling.{ReportsSize};
 ghost use Rattle.fip_host.specs.Hosting.{StepsTo, RunsOn, IsIdle, IsStarted, end_now, results_of, count_of};
 ghost use Rattle.fip_host.specs.Starting.{IsTextStarted};
 
@@ -63,7 +63,7 @@ pub extern "C" fn fip_start_text(
     }
 }
 
-/// Does one instruction of the run, and tells where it is then. It takes no memory. Once the run has ended, it tells
+/// Does one instruction of the run, and reports where it is then. It takes no memory. Once the run has ended, it reports
 /// the same again and changes nothing.
 #[unsafe(no_mangle)]
 pub extern "C" fn fip_step(machine: &mut Handle, end: &mut FipEnd) -> u32
@@ -118,7 +118,7 @@ pub extern "C" fn fip_results(machine: &mut Handle) -> usize
 #[unsafe(no_mangle)]
 pub extern "C" fn fip_result(machine: &mut Handle, i: usize, word: &mut u64) -> u32
     ensures same { machine.new.held ≡ machine.old.held }
-    ensures tells { result ≡ 0 → (ws : List ℕ) × (results_of machine.old.held ≡ Some ws)
+    ensures reports { result ≡ 0 → (ws : List ℕ) × (results_of machine.old.held ≡ Some ws)
         × (slice_get ws i ≡ Some word.new) }
     ensures none { result ≢ 0 → word.new ≡ word.old }
     ensures closed { results_of machine.old.held ≡ None → result ≡ 13 }
@@ -160,7 +160,7 @@ pub extern "C" fn fip_print_results(
 #[unsafe(no_mangle)]
 pub extern "C" fn fip_gauge(machine: &mut Handle, size: usize, gauge: &mut FipGauge) -> u32
     ensures same { machine.new.held ≡ machine.old.held }
-    ensures tells { result ≡ 0 → TellsSize machine.old.held.gauge size gauge.new }
+    ensures reports { result ≡ 0 → ReportsSize machine.old.held.gauge size gauge.new }
     ensures none { result ≢ 0 → (result ≡ 12) × (gauge.new ≡ gauge.old) }
 {
     if size == 0 || size > MOST_FIELDS {

@@ -35,7 +35,7 @@ pub extern "C" fn fip_keep(machine: &mut Handle, numbers: &mut [usize], count: &
 #[unsafe(no_mangle)]
 pub extern "C" fn fip_kept(machine: &mut Handle, number: usize, kept: &mut FipKept) -> u32
     ensures same { machine.new.held ≡ machine.old.held }
-    ensures tells { result ≡ 0 → kept_at machine.old.held.kept number
+    ensures reports { result ≡ 0 → kept_at machine.old.held.kept number
         ≡ Some (record { ty = kept.new.type_number; word = kept.new.word }) }
     ensures none { result ≢ 0 → (result ≡ 12) × (kept.new ≡ kept.old) × (kept_at machine.old.held.kept number ≡ None) }
 {

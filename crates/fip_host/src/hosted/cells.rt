@@ -51,7 +51,7 @@ fn made(loader: &mut Loader, tag: u32, fields: &[u64]) -> Result<u64, Refusal>
     }
 }
 
-// Makes a cell for each of these credits, with tag and fields 0, and puts its word behind the others; stops where one
+// Makes a cell for each of these credits, with tag and fields 0, and puts its word after the others; stops where one
 // can't be made.
 fn made_for(loader: &mut Loader, credits: &[u8], words: &mut Vec<u64>) -> Result<(), Refusal>
     ensures words { OnOk result (HasMore words.old.items words.new.items (length credits.now)) }
@@ -81,7 +81,7 @@ fn give_back(cells: &mut Sealed, words: &[u64])
     }
 }
 
-/// Makes a cell for each of these credits, and puts its word behind the others: all of them or none.
+/// Makes a cell for each of these credits, and puts its word after the others: all of them or none.
 pub fn add_credits(
     alloc: Global,
     cells: &mut Sealed,
@@ -159,7 +159,7 @@ impl Hosted {
         }
     }
 
-    /// The word of the cell behind the one that a word names, or of the first cell where the word names none; none
+    /// The word of the cell after the one that a word names, or of the first cell where the word names none; none
     /// where no further one is there.
     pub fn next(&self, word: u64) -> Option<u64>
         ensures some { IfSome result (IsNext self.now.store.cells word) }

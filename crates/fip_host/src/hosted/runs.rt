@@ -6,7 +6,7 @@ ghost use Rattle.code_verify.specs.Checked.{Checked};
 ghost use Rattle.fip_machine.specs.Pausing.{stand_of};
 ghost use Rattle.fip_machine.specs.Tasks.{ended_by, state_with, IsFresh};
 ghost use Rattle.fip_machine.specs.Ending.{KnowsRun, RunsTo};
-ghost use Rattle.fip_machine.specs.GaugeView.{IsUnseen, TellsRun};
+ghost use Rattle.fip_machine.specs.GaugeView.{IsUnseen, ReportsRun};
 ghost use Rattle.fip_machine.specs.machine_cells.Small.{IsSmall};
 ghost use Rattle.fip_machine.specs.machine_cells.machine_semantics.Codes.{plain};
 ghost use Rattle.fip_machine.specs.machine_cells.machine_semantics.States.{Typed};
@@ -112,7 +112,7 @@ fn drive<'a>(machine: &mut Machine<'a>, calls: u64, gauge: &mut Gauge) -> Ended
         (state_with machine.new.stack lent machine.new.store) machine.new.stack.given }
     ensures gauge { IsUnseen gauge.old → (kinds : Kinds) (lent : List Typed) → KnowsRun machine.old.stack.code kinds
         (state_with machine.old.stack lent machine.old.store) calls → IsFresh machine.old.stack →
-        IsSmall machine.old.store.cells → machine.old.pushed ≡ [] → TellsRun kinds (plain machine.old.stack.code.code)
+        IsSmall machine.old.store.cells → machine.old.pushed ≡ [] → ReportsRun kinds (plain machine.old.stack.code.code)
         (state_with machine.old.stack lent machine.old.store) calls gauge.new }
 {
     machine.run(calls, gauge)

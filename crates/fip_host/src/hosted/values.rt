@@ -19,7 +19,7 @@ use fip_base::plain::{NoMemory, Param};
 use fip_base::table::TypeTable;
 use machine_cells::{SIZES, release_tree};
 use std::alloc::Global;
-use value_text::{print_behind, print_value};
+use value_text::{print_after, print_value};
 
 // Whether a word is that of a constructor of a type that has no fields.
 fn is_bare(types: &TypeTable, ty: u32, word: u64) -> bool {
@@ -101,7 +101,7 @@ fn word_of(
     Ok(value.word)
 }
 
-// Puts the words of the arguments behind the others, for which there is room.
+// Puts the words of the arguments after the others, for which there is room.
 fn add_words(
     types: &TypeTable,
     kept: &[Option<Kept>],
@@ -290,7 +290,7 @@ impl Hosted {
         let types = &self.verified.code().types;
         let mut text = Vec::new(alloc);
         for (ty, word) in function.results.as_slice().iter().zip(words.iter()) {
-            text = print_behind(alloc, types, &self.cells, *ty, *word, text)?;
+            text = print_after(alloc, types, &self.cells, *ty, *word, text)?;
             text.push(b'\n')?;
         }
         Ok(text)

@@ -6,7 +6,7 @@ use std::test::Fail;
 use test_host::programs::{ARGUMENTS, LIST, LISTS, MAPS, NOT_UNDERSTOOD, REVERSED};
 use test_host::{Row, first_wrong_run, host_of, run};
 
-// Behind the command and its file, over `LISTS`: what `exec`, `run` and `eval` end with.
+// After the command and its file, over `LISTS`: what `exec`, `run` and `eval` end with.
 const EVERYWHERE: &[Row<'static>] = &[
     ("rev", ARGUMENTS, 0, REVERSED),
     ("rev", "Nil\nNil", 0, "Nil\n"),

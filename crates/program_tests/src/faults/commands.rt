@@ -115,7 +115,7 @@ bound: 0 frames, 9 words
 ];
 
 #[test]
-fn each_fault_of_a_command_over_a_source_is_told(rt: HostRuntime) -> Result<(), Fail> {
+fn each_fault_of_a_command_over_a_source_is_reported(rt: HostRuntime) -> Result<(), Fail> {
     assert_eq!(rt;
         first_wrong_faults::<Fp2>(rt.alloc(), host_of(LISTS.as_bytes(), b""), ON_SOURCES)?,
         None
@@ -124,7 +124,7 @@ fn each_fault_of_a_command_over_a_source_is_told(rt: HostRuntime) -> Result<(), 
 }
 
 #[test]
-fn each_fault_of_a_command_without_a_file_is_told(rt: HostRuntime) -> Result<(), Fail> {
+fn each_fault_of_a_command_without_a_file_is_reported(rt: HostRuntime) -> Result<(), Fail> {
     assert_eq!(rt;
         first_wrong_faults::<Fp2>(rt.alloc(), host_of(b"", b""), ON_NO_FILE)?,
         None
@@ -133,7 +133,7 @@ fn each_fault_of_a_command_without_a_file_is_told(rt: HostRuntime) -> Result<(),
 }
 
 #[test]
-fn each_fault_of_a_command_over_a_code_is_told(rt: HostRuntime) -> Result<(), Fail> {
+fn each_fault_of_a_command_over_a_code_is_reported(rt: HostRuntime) -> Result<(), Fail> {
     let alloc = rt.alloc();
     let code = bytes_of(alloc, NEW_REVERSE)?;
     assert_eq!(rt;
@@ -144,7 +144,7 @@ fn each_fault_of_a_command_over_a_code_is_told(rt: HostRuntime) -> Result<(), Fa
 }
 
 #[test]
-fn a_fault_that_cannot_be_told_stays_status_9(rt: HostRuntime) -> Result<(), Fail> {
+fn a_fault_that_cannot_be_reported_stays_status_9(rt: HostRuntime) -> Result<(), Fail> {
     let alloc = rt.alloc();
     let lists = LISTS.as_bytes();
     let row = ("exec a.fp inc", LIST, 0, "Cons(2, Cons(3, Cons(4, Nil)))\n");

@@ -84,7 +84,7 @@ const REFUSED: &[(&str, &str)] = &[
 ];
 
 #[test]
-fn the_entry_is_looked_up_behind_all_rules(rt: HostRuntime) -> Result<(), Fail> {
+fn the_entry_is_looked_up_after_all_rules(rt: HostRuntime) -> Result<(), Fail> {
     for (source, text) in REFUSED {
         let rows: [Row<'_>; 1] = [("exec a.fp rev", ARGUMENTS, 1, *text)];
         assert_eq!(rt;
@@ -109,7 +109,7 @@ const FAULTS: &[FaultRow<'static>] = &[
 ];
 
 #[test]
-fn each_fault_is_told(rt: HostRuntime) -> Result<(), Fail> {
+fn each_fault_is_reported(rt: HostRuntime) -> Result<(), Fail> {
     let alloc = rt.alloc();
     let source = REVERSE.as_bytes();
     assert_eq!(rt;

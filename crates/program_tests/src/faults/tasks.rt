@@ -84,7 +84,7 @@ fn stored(alloc: Global, words: &str, input: &str) -> Result<Vec<u8>, AllocError
 }
 
 #[test]
-fn each_fault_of_a_command_over_a_source_is_told(rt: HostRuntime) -> Result<(), Fail> {
+fn each_fault_of_a_command_over_a_source_is_reported(rt: HostRuntime) -> Result<(), Fail> {
     let host = host_of(LISTS.as_bytes(), b"");
     assert_eq!(rt;
         first_wrong_faults::<Fp2>(rt.alloc(), host, ON_SOURCES)?,
@@ -94,7 +94,7 @@ fn each_fault_of_a_command_over_a_source_is_told(rt: HostRuntime) -> Result<(), 
 }
 
 #[test]
-fn each_fault_of_an_audit_is_told(rt: HostRuntime) -> Result<(), Fail> {
+fn each_fault_of_an_audit_is_reported(rt: HostRuntime) -> Result<(), Fail> {
     let alloc = rt.alloc();
     let host = host_of(LISTS.as_bytes(), b"");
     assert_eq!(rt; first_wrong_faults::<Fp2>(alloc, host, ON_NO_PROOFS)?, None);
@@ -108,7 +108,7 @@ fn each_fault_of_an_audit_is_told(rt: HostRuntime) -> Result<(), Fail> {
 }
 
 #[test]
-fn each_fault_of_a_replay_is_told(rt: HostRuntime) -> Result<(), Fail> {
+fn each_fault_of_a_replay_is_reported(rt: HostRuntime) -> Result<(), Fail> {
     let alloc = rt.alloc();
     let trace = stored(alloc, "trace a.fp inc b.fpc", "Cons(1, Nil)\n")?;
     let host = host_of(trace.as_slice(), b"");

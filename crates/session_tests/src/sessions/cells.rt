@@ -17,7 +17,7 @@ fn is_live(cells: &Sealed, place: u32) -> bool {
 }
 
 // The place of the next cell.
-fn behind(cells: &Sealed, place: u32) -> Option<u32> {
+fn following(cells: &Sealed, place: u32) -> Option<u32> {
     if cells.begins(place) {
         cells.after(Some(place))
     } else {
@@ -36,7 +36,7 @@ pub fn live_places(alloc: Global, cells: &Sealed) -> Result<Vec<u32>, NoMemory> 
         if is_live(cells, place) {
             places.push(place)?;
         }
-        at = behind(cells, place);
+        at = following(cells, place);
     }
     Ok(places)
 }

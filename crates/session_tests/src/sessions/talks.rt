@@ -84,7 +84,7 @@ fn are_held(session: &Session, names: &[u8], want: bool) -> bool {
     true
 }
 
-// Whether the names of a line hold what they have to behind it: a value if they name results of a run that gave some,
+// Whether the names of a line hold what they have to after it: a value if they name results of a run that gave some,
 // and nothing where the run ended without a value.
 fn has_names(session: &Session, line: &Drawn, reply: &[u8]) -> bool {
     if is_without_value(reply) {
@@ -94,7 +94,7 @@ fn has_names(session: &Session, line: &Drawn, reply: &[u8]) -> bool {
     reply != b"ok".as_slice() || are_held(session, line.results.as_slice(), true)
 }
 
-// A session of drawn lines, behind each of which the names and the cells are looked at: how often each reply came.
+// A session of drawn lines, after each of which the names and the cells are looked at: how often each reply came.
 fn talk(
     rt: &impl Abort,
     alloc: Global,
@@ -199,7 +199,7 @@ fn nothing_stays_where_runs_end_without_a_value(rt: HostRuntime) -> Result<(), F
 
 // No drawn line has the name z, so its cells aren't looked for.
 #[test]
-fn a_cell_of_another_name_is_told(rt: HostRuntime) -> Result<(), Fail> {
+fn a_cell_of_another_name_is_reported(rt: HostRuntime) -> Result<(), Fail> {
     let alloc = rt.alloc();
     let Ok(known) = front(alloc, PROGRAM) else {
         assert!(rt; false, "the program is refused");

@@ -8,7 +8,7 @@ returns c = record {
   small = λ source input r y vs h k. X.Small y vs h k;
   exec = λ source input r s vs e h k t. X.Ran s vs e h k t;
   kept = λ source input name entry out room s vs f h k t. A.Ended f (X.Ran s vs _ h k t);
-  traced = λ source input name entry out text room s vs t h k told of' short. A.Traced text t (X.Ran s vs _ h k told) of' short;
+  traced = λ source input name entry out text room s vs t h k reported of' short. A.Traced text t (X.Ran s vs _ h k reported) of' short;
   untraced = λ source input name entry out room t of' long. A.TooLong t of' long;
   tasks = λ source input name seed turns room e h. h;
 }

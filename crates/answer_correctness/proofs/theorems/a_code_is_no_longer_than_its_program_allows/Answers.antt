@@ -3,6 +3,6 @@ use Rattle.answer_correctness.proofs.theorems.a_code_is_no_longer_than_its_progr
 
 pub returns : goal.returns
 returns c = record {
-  law = code_within;
+  theorem = code_within;
   refused = long_allowed;
 }

@@ -2,5 +2,5 @@ use Rattle.answer_correctness.proofs.theorems.only_a_long_code_is_unspelt.Goals 
 
 pub returns : goal.returns
 returns c = record {
-  law = λ p code is u. (is.spelt.0, is.spelt.1, u is.spelt.0 is.spelt.1);
+  theorem = λ p code is u. (is.spelt.0, is.spelt.1, u is.spelt.0 is.spelt.1);
 }

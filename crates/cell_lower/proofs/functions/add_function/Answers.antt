@@ -12,8 +12,8 @@ use Rattle.cell_lower.proofs.functions.add_function.Goals as goal
 
 pub returns-in_ok-push-clause-small : goal.returns-in_ok-push-clause-small
 returns-in_ok-push-clause-small c =
-    let told : option_map (λ (m : Member). m.registers) (slice_get c.args.groups.now c.args.number) ≡ Some c.in_ok-registers.registers = search rules in
-    small_added (setting c.args.context.now) c.args.groups.now c.args.number (is_ruled c.args.instance.now.kind) (instance_of c.args.instance.now) c.args.functions.now.items c.push.new.self.items c.in_ok-function.function c.in_ok-registers.registers (sym c.is_ruled.ensures.ruled ∙ c.if-is_ruled.true) (registers-some (slice_get c.args.groups.now c.args.number) c.in_ok-registers.registers told) c.in_ok-push.ensures.items c.in_ok-function.ensures.small
+    let reported : option_map (λ (m : Member). m.registers) (slice_get c.args.groups.now c.args.number) ≡ Some c.in_ok-registers.registers = search rules in
+    small_added (setting c.args.context.now) c.args.groups.now c.args.number (is_ruled c.args.instance.now.kind) (instance_of c.args.instance.now) c.args.functions.now.items c.push.new.self.items c.in_ok-function.function c.in_ok-registers.registers (sym c.is_ruled.ensures.ruled ∙ c.if-is_ruled.true) (registers-some (slice_get c.args.groups.now c.args.number) c.in_ok-registers.registers reported) c.in_ok-push.ensures.items c.in_ok-function.ensures.small
 
 pub returns-in_ok-push-clause-spelt : goal.returns-in_ok-push-clause-spelt
 returns-in_ok-push-clause-spelt c = function_pushed c.args.functions.now.items c.push.new.self.items c.in_ok-function.function c.in_ok-push.ensures.items c.in_ok-function.ensures.spelt

@@ -9,7 +9,7 @@ use Rattle.code_rules.specs.Tables.{AreSoundTables}
 use Rattle.code_tables.specs.Apart.{apart, is_some_name, none_met, function_names}
 use Rattle.code_tables.specs.Rows.{is_bool_row, are_sound_rows}
 use Rattle.code_tables.specs.Marks.{HaveValues}
-use Rattle.code_tables.proofs.SoundRows.{tables_tell, rows_sound, values_sound, names_sound}
+use Rattle.code_tables.proofs.SoundRows.{tables_report, rows_sound, values_sound, names_sound}
 use Rattle.code_tables.proofs.tables.are_sound_tables.Goals as goal
 
 pub returns-then-not-branch : goal.returns-then-not-branch
@@ -30,7 +30,7 @@ returns-then-not-branch-2 c = record {
 
 decided : (c : Code) (r : Result Bool NoMemory) → length c.types ≤ most_types → length c.functions.items ≤ most_functions → is_bool_row (constructors c.types 1) ≡ true → are_sound_rows c.types c.types ≡ true → HaveValues c.types → IfOk r (λ own. own ≡ apart is_some_name none_met (function_names c.functions.items)) → IfOk r (λ sound. IsTrue sound ↔ AreSoundTables (plain c))
 decided c (Ok b) types functions is_bool rows values names = (
-  λ e. tables_tell c types functions is_bool rows values (sym names ∙ e),
+  λ e. tables_report c types functions is_bool rows values (sym names ∙ e),
   λ h. names ∙ names_sound c h,
 )
 decided c (Err e) types functions is_bool rows values names = tt

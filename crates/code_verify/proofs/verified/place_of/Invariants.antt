@@ -8,7 +8,7 @@ invariant-loop-low l = record {
   order : l.low ≤ l.high;
   within : l.high ≤ length l.drops;
   before : (j : ℕ) (d : DropType) → j < l.low → slice_get l.drops j ≡ Some d → d.at < l.at;
-  behind : (j : ℕ) (d : DropType) → l.high ≤ j → slice_get l.drops j ≡ Some d → l.at ≤ d.at;
+  following : (j : ℕ) (d : DropType) → l.high ≤ j → slice_get l.drops j ≡ Some d → l.at ≤ d.at;
 }
 
 abbrev pub decreases-loop-low : goal.decreases-loop-low

@@ -4,7 +4,7 @@ use Rattle.fip_machine.specs.code_verify.Checked.{Checked, HasMachineInts}
 use Rattle.fip_machine.specs.GaugeView.{IsUnseen}
 use Rattle.command_tasks.specs.command_run.machine_correctness.Starts.{IsSoundCode}
 use Rattle.command_tasks.specs.command_run.Rooms.{IsAllowed}
-use Rattle.command_tasks.specs.command_run.Starting.{TellsEnded}
+use Rattle.command_tasks.specs.command_run.Starting.{ReportsEnded}
 use Rattle.command_tasks.specs.command_run.code_rules.Breaks.{IsSound}
 use Rattle.command_tasks.specs.command_run.code_rules.Codes.{plain}
 use Rattle.command_tasks.proofs.command_run.machine_correctness.Literals.{has_literals}
@@ -14,7 +14,7 @@ use Rattle.command_tasks.proofs.command_run.Leaving.{last_store}
 use Rattle.command_tasks.specs.command_run.Leaving.{IsLastStore}
 use Rattle.command_tasks.proofs.command_run.Ran.{ran}
 use Rattle.command_library.specs.GenAnswer.{build, gen_room}
-use Rattle.command_library.proofs.Runs.{is_value, run_failed, failed_told, or_memory, too_long, no_tree, tree}
+use Rattle.command_library.proofs.Runs.{is_value, run_failed, failed_reported, or_memory, too_long, no_tree, tree}
 use Rattle.command_library.proofs.making.make.Goals as goal
 
 pub returns-then-len-gt-MOST_FILE_BYTES-clause-makes : goal.returns-then-len-gt-MOST_FILE_BYTES-clause-makes
@@ -47,8 +47,8 @@ returns-in-Some-clause-makes c = λ source ready is.
     let g = c.run-ended.new.gauge in
     let q = ran r input gen_room m st o new g sound c.run-ended.ensures.run (c.run-ended.ensures.gauge unseen) in
     let failure = c.in-Some.failure in
-    let told = failed_told r.checked.code.types is.named.function.results gen_room _ new.store new.stack.given o failure (sym c.failure_of.ensures.exact ∙ c.in-Some.is) in
-    no_tree source c.args.seed c.args.count input text short failure (X.finished source build input r ready is literals gen_room false m st o new g q (Err failure) (or_memory (TellsEnded r.checked.code.types is.named.function.results gen_room _ new.store new.stack.given o) failure told))
+    let reported = failed_reported r.checked.code.types is.named.function.results gen_room _ new.store new.stack.given o failure (sym c.failure_of.ensures.exact ∙ c.in-Some.is) in
+    no_tree source c.args.seed c.args.count input text short failure (X.finished source build input r ready is literals gen_room false m st o new g q (Err failure) (or_memory (ReportsEnded r.checked.code.types is.named.function.results gen_room _ new.store new.stack.given o) failure reported))
 
 pub returns-in-Some-clause-meant : goal.returns-in-Some-clause-meant
 returns-in-Some-clause-meant c = λ source ready is.

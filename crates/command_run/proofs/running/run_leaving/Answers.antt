@@ -34,7 +34,7 @@ returns-then-is_run_end-clause-means c = λ source name ready is room le.
     let unseen : IsUnseen c.new-seen.result = record { seen = c.new-seen.ensures.unseen; highest = c.new-seen.ensures.highest; frames = c.new-seen.ensures.frames; words = c.new-seen.ensures.words } in
     let st = c.in-Ok.ensures.begins (N.table_sound source name r ready is) room le in
     let q = ran r c.args.input.now (room_of c.args.room) c.in-Ok.machine st c.run-ended.result c.run-ended.new.self c.run-ended.new.gauge (record { sound = sound; literals = literals }) c.run-ended.ensures.run (c.run-ended.ensures.gauge unseen) in
-    X.finished source name c.args.input.now r ready is literals (room_of c.args.room) c.args.gauge c.in-Ok.machine st c.run-ended.result c.run-ended.new.self c.run-ended.new.gauge q c.told-end.result (c.told-end.ensures.tells is.named.function st.has_frames.held is.named.there st.has_frames.stack q.small)
+    X.finished source name c.args.input.now r ready is literals (room_of c.args.room) c.args.gauge c.in-Ok.machine st c.run-ended.result c.run-ended.new.self c.run-ended.new.gauge q c.reported-end.result (c.reported-end.ensures.reports is.named.function st.has_frames.held is.named.there st.has_frames.stack q.small)
 
 pub returns-then-is_run_end-clause-runs : goal.returns-then-is_run_end-clause-runs
 returns-then-is_run_end-clause-runs c = λ bytes name is room le.
@@ -45,7 +45,7 @@ returns-then-is_run_end-clause-runs c = λ bytes name is room le.
     let unseen : IsUnseen c.new-seen.result = record { seen = c.new-seen.ensures.unseen; highest = c.new-seen.ensures.highest; frames = c.new-seen.ensures.frames; words = c.new-seen.ensures.words } in
     let st = c.in-Ok.ensures.begins (file_table bytes r.checked.code is.file tables) room le in
     let q = ran r c.args.input.now (room_of c.args.room) c.in-Ok.machine st c.run-ended.result c.run-ended.new.self c.run-ended.new.gauge (record { sound = sound; literals = literals }) c.run-ended.ensures.run (c.run-ended.ensures.gauge unseen) in
-    D.finished bytes name c.args.input.now r is (room_of c.args.room) c.args.gauge c.in-Ok.machine st c.run-ended.result c.run-ended.new.self c.run-ended.new.gauge q c.told-end.result (c.told-end.ensures.tells is.named.function st.has_frames.held is.named.there st.has_frames.stack q.small)
+    D.finished bytes name c.args.input.now r is (room_of c.args.room) c.args.gauge c.in-Ok.machine st c.run-ended.result c.run-ended.new.self c.run-ended.new.gauge q c.reported-end.result (c.reported-end.ensures.reports is.named.function st.has_frames.held is.named.there st.has_frames.stack q.small)
 
 pub returns-else-is_run_end-clause-means : goal.returns-else-is_run_end-clause-means
 returns-else-is_run_end-clause-means c = λ source name ready is room le.
@@ -55,7 +55,7 @@ returns-else-is_run_end-clause-means c = λ source name ready is room le.
     let unseen : IsUnseen c.new-seen.result = record { seen = c.new-seen.ensures.unseen; highest = c.new-seen.ensures.highest; frames = c.new-seen.ensures.frames; words = c.new-seen.ensures.words } in
     let st = c.in-Ok.ensures.begins (N.table_sound source name r ready is) room le in
     let q = ran r c.args.input.now (room_of c.args.room) c.in-Ok.machine st c.run-ended.result c.run-ended.new.self c.run-ended.new.gauge (record { sound = sound; literals = literals }) c.run-ended.ensures.run (c.run-ended.ensures.gauge unseen) in
-    X.finished source name c.args.input.now r ready is literals (room_of c.args.room) c.args.gauge c.in-Ok.machine st c.run-ended.result c.run-ended.new.self c.run-ended.new.gauge q c.told-end.result (c.told-end.ensures.tells is.named.function st.has_frames.held is.named.there st.has_frames.stack q.small)
+    X.finished source name c.args.input.now r ready is literals (room_of c.args.room) c.args.gauge c.in-Ok.machine st c.run-ended.result c.run-ended.new.self c.run-ended.new.gauge q c.reported-end.result (c.reported-end.ensures.reports is.named.function st.has_frames.held is.named.there st.has_frames.stack q.small)
 
 pub returns-else-is_run_end-clause-runs : goal.returns-else-is_run_end-clause-runs
 returns-else-is_run_end-clause-runs c = λ bytes name is room le.
@@ -66,7 +66,7 @@ returns-else-is_run_end-clause-runs c = λ bytes name is room le.
     let unseen : IsUnseen c.new-seen.result = record { seen = c.new-seen.ensures.unseen; highest = c.new-seen.ensures.highest; frames = c.new-seen.ensures.frames; words = c.new-seen.ensures.words } in
     let st = c.in-Ok.ensures.begins (file_table bytes r.checked.code is.file tables) room le in
     let q = ran r c.args.input.now (room_of c.args.room) c.in-Ok.machine st c.run-ended.result c.run-ended.new.self c.run-ended.new.gauge (record { sound = sound; literals = literals }) c.run-ended.ensures.run (c.run-ended.ensures.gauge unseen) in
-    D.finished bytes name c.args.input.now r is (room_of c.args.room) c.args.gauge c.in-Ok.machine st c.run-ended.result c.run-ended.new.self c.run-ended.new.gauge q c.told-end.result (c.told-end.ensures.tells is.named.function st.has_frames.held is.named.there st.has_frames.stack q.small)
+    D.finished bytes name c.args.input.now r is (room_of c.args.room) c.args.gauge c.in-Ok.machine st c.run-ended.result c.run-ended.new.self c.run-ended.new.gauge q c.reported-end.result (c.reported-end.ensures.reports is.named.function st.has_frames.held is.named.there st.has_frames.stack q.small)
 
 pub returns-then-is_run_end-clause-meant : goal.returns-then-is_run_end-clause-meant
 returns-then-is_run_end-clause-meant c = λ source name ready is room le.

@@ -4,7 +4,7 @@ use Rattle.command_source.specs.Roots.{root_named}
 use Rattle.command_source.specs.Wanted.{Compiled, IsCompiled, IsRefusedBy, MissesCode}
 use Rattle.command_source.proofs.Entries.{ready, code_missing}
 use Rattle.command_source.proofs.Rooted.{root_has_function}
-use Rattle.command_source.proofs.Told.{wanting_keeps}
+use Rattle.command_source.proofs.Reported.{out_of_memory_keeps}
 use Rattle.command_source.proofs.Compiling.{entry_of}
 use Rattle.command_source.proofs.entry.compiled.Goals as goal
 
@@ -13,7 +13,7 @@ returns-in-Ok-clause-ready c = λ source accepted. ready source (Compiled c.args
 
 pub returns-in-Ok-clause-kept : goal.returns-in-Ok-clause-kept
 returns-in-Ok-clause-kept c = λ source accepted lowered sound.
-    wanting_keeps source (Compiled c.args.entry.now) c.verified_entry.result (c.verified_entry.ensures.wanting sound
+    out_of_memory_keeps source (Compiled c.args.entry.now) c.verified_entry.result (c.verified_entry.ensures.out_of_memory sound
     (root_has_function source c.args.entry.now (program c.args.lowered.typed.program) c.args.lowered.code accepted lowered (subst (λ ds. IsCompiled (root_named c.args.entry.now (instances ds))) c.as_slice.ensures.value c.in-Ok.ensures.compiled)))
 
 pub returns-in-Ok-clause-code : goal.returns-in-Ok-clause-code

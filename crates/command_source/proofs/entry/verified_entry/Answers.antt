@@ -5,5 +5,5 @@ use Rattle.command_source.proofs.entry.verified_entry.Goals as goal
 pub returns-in-Ok-clause-sound : goal.returns-in-Ok-clause-sound
 returns-in-Ok-clause-sound c = sound_kept c.in-Ok.front.verified.code c.chosen.result c.in-Ok.ensures.sound c.chosen.ensures.same
 
-pub returns-in-Ok-clause-wanting : goal.returns-in-Ok-clause-wanting
-returns-in-Ok-clause-wanting c = λ sound named. named_wants c.args.entry.now c.args.lowered.code c.in-Ok.front.verified.code c.chosen.result c.in-Ok.ensures.code c.chosen.ensures.none named
+pub returns-in-Ok-clause-out_of_memory : goal.returns-in-Ok-clause-out_of_memory
+returns-in-Ok-clause-out_of_memory c = λ sound named. named_wants c.args.entry.now c.args.lowered.code c.in-Ok.front.verified.code c.chosen.result c.in-Ok.ensures.code c.chosen.ensures.none named

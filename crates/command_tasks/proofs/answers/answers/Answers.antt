@@ -22,7 +22,7 @@ loop-k-preserved c =
       lines = λ v kinds first means same can s many ends.
           let shown : ShowsSome v kinds first new = to_end v kinds first c.loop-k.tasks new k can (c.finish-ended.ensures.turns v kinds) (c.loop-k.invariant.shows v kinds first can s) in
           let mean = some_at starts means k b many at in
-          let answers : Answers v.code new b mean.0 stand.0 c.finish-ended.result = ends new shown k b mean.0 stand.0 c.finish-ended.result at mean.1 stand.1 (c.finish-ended.ensures.told stand.0 stand.1) in
+          let answers : Answers v.code new b mean.0 stand.0 c.finish-ended.result = ends new shown k b mean.0 stand.0 c.finish-ended.result at mean.1 stand.1 (c.finish-ended.ensures.reported stand.0 stand.1) in
           let put = c.in_ok-put_task.ensures.line stand.0 mean.0 stand.1 shown.1.small (subst (λ (code : Code). Answers code new b mean.0 stand.0 c.finish-ended.result) same answers) in
           line_more c.args.code.now starts means k b mean.0 c.loop-k.out.items c.put_task.new.out.items put.0 at mean.1 (c.loop-k.invariant.lines v kinds first means same can s many ends) put.1 put.2;
     }

@@ -44,5 +44,5 @@ returns-in-Ok-run-clause-means c = λ source is allowed short.
     let needed : c.words-needed.result ≡ words_of_calls list.0 = c.words-needed.ensures.exact (let w = weighs.words in let few = weighs.few in omega (arith, w, few)) ∙ weighs.words in
     let given : c.min-words.result ≡ c.args.room.words = (let m = c.min-words.ensures in let few = allowed.words in omega (arith, m, few)) in
     let twins = tasks_of source p f.groups code is.accepted is.found is.sound is.code (lines_of c.args.input.now) list.0 list.1.calls in
-    let told = c.in-Ok-run.ensures.lines source (core source p f.groups code is.accepted is.found is.sound is.code) list.0 (code_of source p f.groups code is.accepted is.found is.sound is.code) reads (twins_named p code list.0 twins.0 twins.2) list.1.lines in
-    answered source p f.groups code is.accepted is.found is.sound is.code room limits refl frames allowed.frames c.args.input.now list.0 c.words-needed.result c.min-words.result c.in-Ok-run.text.items list.1.calls list.1.few needed given c.if-needed-words.false told
+    let reported = c.in-Ok-run.ensures.lines source (core source p f.groups code is.accepted is.found is.sound is.code) list.0 (code_of source p f.groups code is.accepted is.found is.sound is.code) reads (twins_named p code list.0 twins.0 twins.2) list.1.lines in
+    answered source p f.groups code is.accepted is.found is.sound is.code room limits refl frames allowed.frames c.args.input.now list.0 c.words-needed.result c.min-words.result c.in-Ok-run.text.items list.1.calls list.1.few needed given c.if-needed-words.false reported

@@ -10,7 +10,7 @@ returns c = record {
       let answer = c.in_ok-answer.answer.items in
       let text = c.as_bytes.ensures.value ∙ c.in_ok-number.ensures.text in (
         number ++ answer,
-        (answer, c.in_ok-answer.ensures.tells a m at small answers, ap (λ t. t ++ answer) text ∙ append_assoc (decimal c.args.k) (codes ": ") answer),
+        (answer, c.in_ok-answer.ensures.reports a m at small answers, ap (λ t. t ++ answer) text ∙ append_assoc (decimal c.args.k) (codes ": ") answer),
         c.in_ok-extend_from_slice-2.ensures.items ∙ ap (λ t. t ++ c.as_slice.result.now) c.in_ok-extend_from_slice.ensures.items ∙ append_assoc c.args.out.now.items number c.as_slice.result.now ∙ ap (λ t. c.args.out.now.items ++ (number ++ t)) c.as_slice.ensures.value,
       );
 }

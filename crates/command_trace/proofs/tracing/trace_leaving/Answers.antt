@@ -7,7 +7,7 @@ use Rattle.command_outcome.specs.declared.failure.Failure.{Failure}
 use Rattle.fip_machine.specs.GaugeView.{IsUnseen}
 use Rattle.fip_machine.specs.Traces.{HasTrace}
 use Rattle.command_run.specs.machine_correctness.Starts.{IsSoundCode}
-use Rattle.command_run.specs.Starting.{TellsEnded}
+use Rattle.command_run.specs.Starting.{ReportsEnded}
 use Rattle.command_run.specs.code_rules.Breaks.{IsSound}
 use Rattle.command_run.specs.code_rules.Codes.{plain}
 use Rattle.command_run.proofs.machine_correctness.Literals.{has_literals}
@@ -17,7 +17,7 @@ use Rattle.command_run.proofs.Ran.{ran}
 use Rattle.command_run.specs.CodeRun.{is_run_failure}
 use Rattle.command_trace.specs.TraceAnswer.{Traces, TracesRun, KeptOrNoMemory}
 use Rattle.command_run.proofs.Leaving.{last_store}
-use Rattle.command_trace.proofs.Kept.{Says, kept_own, kept_trace, long, long_trace, stored, failed, run_failed, with_trace, without_trace, tells_failure, tells_value, or_memory}
+use Rattle.command_trace.proofs.Kept.{Says, kept_own, kept_trace, long, long_trace, stored, failed, run_failed, with_trace, without_trace, reports_failure, reports_value, or_memory}
 use Rattle.command_trace.proofs.tracing.trace_leaving.Goals as goal
 
 pub returns-in-Err-clause-traces : goal.returns-in-Err-clause-traces
@@ -50,8 +50,8 @@ returns-in-Ok-traced_text-clause-traces c = λ source name ready is allowed le.
     let says = subst (λ (t : Option Memory). IfSome t (λ u. Says m room.calls (λ kinds code s. HasTrace kinds code s room.calls 16777216 u))) c.in-Some.is c.in-Ok-run_traced.ensures.traced in
     let own = kept_trace source name input r ready is room m st sound u kept.file.items says c.in-Ok-traced_text.ensures.file in
     let over = with_trace o c.in-Ok-run_traced.trace u c.in-Ok-run_traced.ensures.none c.in-Some.is in
-    let told = tells_value r.checked.code.types is.named.function.results room new.store new.stack.given o kept.text.items over (λ vs p. c.in-Ok-traced_text.ensures.lines is.named.function vs is.named.there q.small p) in
-    let execs = X.finished source name input r ready is literals room false m st o new g q (Ok kept.text) told in
+    let reported = reports_value r.checked.code.types is.named.function.results room new.store new.stack.given o kept.text.items over (λ vs p. c.in-Ok-traced_text.ensures.lines is.named.function vs is.named.there q.small p) in
+    let execs = X.finished source name input r ready is literals room false m st o new g q (Ok kept.text) reported in
     stored source name input r ready is room m st sound kept.file.items kept.text.items own execs
 
 pub returns-in-Ok-traced_text-clause-own : goal.returns-in-Ok-traced_text-clause-own
@@ -106,8 +106,8 @@ returns-in-None-clause-traces c = λ source name ready is allowed le.
     let q = ran r input room m st o new g sound c.in-Ok-run_traced.ensures.run (c.in-Ok-run_traced.ensures.gauge unseen) in
     let failure = c.untraced.result in
     let other = without_trace o c.in-Ok-run_traced.trace c.in-Ok-run_traced.ensures.trace c.in-None.is in
-    let told = tells_failure r.checked.code.types is.named.function.results room _ new.store new.stack.given o failure other (c.untraced.ensures.exact other) in
-    failed source name input room failure (X.finished source name input r ready is literals room false m st o new g q (Err failure) (or_memory (TellsEnded r.checked.code.types is.named.function.results room _ new.store new.stack.given o) failure told))
+    let reported = reports_failure r.checked.code.types is.named.function.results room _ new.store new.stack.given o failure other (c.untraced.ensures.exact other) in
+    failed source name input room failure (X.finished source name input r ready is literals room false m st o new g q (Err failure) (or_memory (ReportsEnded r.checked.code.types is.named.function.results room _ new.store new.stack.given o) failure reported))
 
 pub returns-in-None-clause-own : goal.returns-in-None-clause-own
 returns-in-None-clause-own c = λ source name ready is allowed le. kept_own (plain c.args.ready.now.checked.code) c.args.ready.now.entry c.args.input.now (room_of c.args.room) c.untraced.result c.untraced.ensures.stage

@@ -2,4 +2,4 @@ use Rattle.compile_correctness.proofs.Bytes.{uncompiled_large}
 use Rattle.compile_correctness.proofs.theorems.a_small_source_is_compiled.Goals as goal
 
 pub returns : goal.returns
-returns c = record { law = uncompiled_large }
+returns c = record { theorem = uncompiled_large }

@@ -2,4 +2,4 @@ use Rattle.compiler_correctness.proofs.SoundnessWhole.{is_asked}
 use Rattle.compiler_correctness.proofs.soundness_theorems.accepted_programs_are_as_asked.Goals as goal
 
 pub returns : goal.returns
-returns c = record { law = λ source program accepted. is_asked source program accepted }
+returns c = record { theorem = λ source program accepted. is_asked source program accepted }

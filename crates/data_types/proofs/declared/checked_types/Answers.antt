@@ -9,7 +9,7 @@ use Rattle.fip_trees.specs.declared.decls.DeclaredType.{DeclaredType}
 use Rattle.data_types.specs.Answers.{value_faults}
 use Rattle.data_types.specs.Declarations.{data_declared, declarations, row_names}
 use Rattle.data_types.specs.Faults.{all_data_faults, all_function_faults}
-use Rattle.data_types.specs.Steps.{TellsValued}
+use Rattle.data_types.specs.Steps.{ReportsValued}
 use Rattle.data_types.specs.Numbered.{HasNumbers}
 use Rattle.data_types.specs.View as v
 use Rattle.data_types.proofs.Naming.{all_walked}
@@ -39,7 +39,7 @@ returns-clause-faults c o noted =
     ∙ ap (λ (ns : Names). map (data_declared ns) (data_types program)) c.requires.names in
     record {
       flags = flags;
-      told = subst (λ ds. TellsValued ds flags) (ap (λ (ts : List DeclaredType). v.declarations ts) c.deref-4.ensures.value ∙ types) c.in_ok-check_values.ensures.1;
+      reported = subst (λ ds. ReportsValued ds flags) (ap (λ (ts : List DeclaredType). v.declarations ts) c.deref-4.ensures.value ∙ types) c.in_ok-check_values.ensures.1;
       noted =
           all_walked program ns flags o c.args.least.now c.types_of.new.least c.check_functions.new.least c.check_values.new.least c.requires.names noted
           (c.in_ok-types.ensures.faults ∙ ap (λ (ds : List Data). after c.args.least.now (all_data_faults ns (map data_type ds))) c.deref.ensures.value)

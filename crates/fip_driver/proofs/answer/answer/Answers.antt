@@ -104,7 +104,7 @@ returns-in-Gen-clause-outcome g c =
     let ir = Rose (g.S.Source.faults c.args.input.now) (g.S.Source.faults c.args.input.now) in
     subst (λ x. CommandOutcome (command_of x) (g.F.Folder.files c.args.folder.now) (g.S.Source.left c.args.input.now) fr ir c.generate.result) (sym c.in-Gen.is) (file_outcome _ (g.F.Folder.files c.args.folder.now) (g.S.Source.left c.args.input.now) fr ⊥ ir c.generate.result (λ r. absurd r) (gen_ends _ _ (g.F.Folder.files c.args.folder.now) (g.S.Source.left c.args.input.now) fr ⊥ c.generate.result c.generate.ensures.generates))
 
--- ---- what is stored, whatever the input told
+-- ---- what is stored, whatever the input reported
 
 pub returns-in-Compile-clause-files : goal.returns-in-Compile-clause-files
 returns-in-Compile-clause-files g c = subst (λ x. AreKept (command_of x) (g.S.Source.left c.args.input.now) (stored_name (command_of x)) (Rose (g.F.Folder.faults c.args.folder.now) (g.F.Folder.faults c.compile.new.folder)) (g.F.Folder.files c.args.folder.now) (g.F.Folder.files c.compile.new.folder) c.compile.result) (sym c.in-Compile.is) (c.compile.ensures.kept (g.S.Source.left c.args.input.now))

@@ -20,17 +20,17 @@ pub returns-clause-files : goal.returns-clause-files
 returns-clause-files g c = λ d asked. files_after (seen (g.O.Sink.written c.args.out.now) (g.O.Sink.faults c.args.out.now)) (seen (g.O.Sink.written c.deliver-status.new.out) (g.O.Sink.faults c.deliver-status.new.out)) (seen (g.E.Sink.written c.args.err.now) (g.E.Sink.faults c.args.err.now)) (seen (g.E.Sink.written c.deliver-status.new.err) (g.E.Sink.faults c.deliver-status.new.err)) d (g.S.Source.left c.args.input.now) (stored_name d) _ _ _ c.outcome-outcome.result c.deliver-status.result.0 c.deliver-status.ensures.delivered (c.outcome-outcome.ensures.files d asked)
 
 pub returns-clause-whole : goal.returns-clause-whole
-returns-clause-whole g c files bytes told_files told_input no_folder no_input no_out no_err =
+returns-clause-whole g c files bytes reported_files reported_input no_folder no_input no_out no_err =
     let words = map string_bytes c.args.words.now in
     let old = g.F.Folder.files c.args.folder.now in
     let now = g.F.Folder.files c.outcome-outcome.new.folder in
     let folder_rose = Rose (g.F.Folder.faults c.args.folder.now) (g.F.Folder.faults c.outcome-outcome.new.folder) in
     let input_rose = Rose (g.S.Source.faults c.args.input.now) (g.S.Source.faults c.outcome-outcome.new.input) in
-    let kept : (d : Command) → IsCommand words d → AreKept d (Some bytes) (stored_name d) folder_rose (Some files) now c.outcome-outcome.result = λ d asked. subst (λ o. AreKept d o (stored_name d) folder_rose (Some files) now c.outcome-outcome.result) told_input
-    (subst (λ o. AreKept d (g.S.Source.left c.args.input.now) (stored_name d) folder_rose o now c.outcome-outcome.result) told_files (c.outcome-outcome.ensures.files d asked)) in
-    let had : (now ≡ Some files) ⊎ HadFolder words c.outcome-outcome.result = subst (λ o. (now ≡ o) ⊎ HadFolder words c.outcome-outcome.result) told_files (kept_or_had words old now c.outcome-outcome.result _ (ap g.F.Folder.files) c.outcome-outcome.ensures.unfetched) in
-    let outcome : WordsOutcome words (Some files) (Some bytes) folder_rose input_rose c.outcome-outcome.result = subst (λ o. WordsOutcome words (Some files) o folder_rose input_rose c.outcome-outcome.result) told_input
-    (subst (λ o. WordsOutcome words o (g.S.Source.left c.args.input.now) folder_rose input_rose c.outcome-outcome.result) told_files c.outcome-outcome.ensures.outcome) in
+    let kept : (d : Command) → IsCommand words d → AreKept d (Some bytes) (stored_name d) folder_rose (Some files) now c.outcome-outcome.result = λ d asked. subst (λ o. AreKept d o (stored_name d) folder_rose (Some files) now c.outcome-outcome.result) reported_input
+    (subst (λ o. AreKept d (g.S.Source.left c.args.input.now) (stored_name d) folder_rose o now c.outcome-outcome.result) reported_files (c.outcome-outcome.ensures.files d asked)) in
+    let had : (now ≡ Some files) ⊎ HadFolder words c.outcome-outcome.result = subst (λ o. (now ≡ o) ⊎ HadFolder words c.outcome-outcome.result) reported_files (kept_or_had words old now c.outcome-outcome.result _ (ap g.F.Folder.files) c.outcome-outcome.ensures.unfetched) in
+    let outcome : WordsOutcome words (Some files) (Some bytes) folder_rose input_rose c.outcome-outcome.result = subst (λ o. WordsOutcome words (Some files) o folder_rose input_rose c.outcome-outcome.result) reported_input
+    (subst (λ o. WordsOutcome words o (g.S.Source.left c.args.input.now) folder_rose input_rose c.outcome-outcome.result) reported_files c.outcome-outcome.ensures.outcome) in
     whole_outcome words files bytes _ _ _ _ now folder_rose input_rose no_folder no_input no_out no_err c.outcome-outcome.result c.deliver-status.result.0 had kept c.deliver-status.ensures.delivered outcome
 
 pub returns-clause-unread : goal.returns-clause-unread

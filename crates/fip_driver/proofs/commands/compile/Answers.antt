@@ -11,7 +11,7 @@ use Rattle.fip_driver.proofs.Counted.{stored_counted, source_counted, fetch_coun
 use Rattle.fip_driver.proofs.commands.compile.Goals as goal
 
 pub returns-in-Ok-made_file-clause-outcome : goal.returns-in-Ok-made_file-clause-outcome
-returns-in-Ok-made_file-clause-outcome g c = λ left. source_ends (W.Compile c.args.file.now c.args.out.now) Lawful c.args.file.now (g.F.Folder.files c.args.folder.now) left _ ⊥ _ _ c.in-Ok.bytes.items c.as_slice.result.now (end_of c.store.result) (λ r. r) (λ r. r) c.in-Ok.ensures.found refl refl c.as_slice.ensures.value (compile_ends c.args.file.now c.args.out.now c.as_slice.result.now c.in-Ok-made_file.compiled.text.items left ⊥ _ _ _ c.store.result c.in-Ok.ensures.later c.in-Ok-made_file.ensures.listed c.store.ensures.told c.store.ensures.fails)
+returns-in-Ok-made_file-clause-outcome g c = λ left. source_ends (W.Compile c.args.file.now c.args.out.now) Lawful c.args.file.now (g.F.Folder.files c.args.folder.now) left _ ⊥ _ _ c.in-Ok.bytes.items c.as_slice.result.now (end_of c.store.result) (λ r. r) (λ r. r) c.in-Ok.ensures.found refl refl c.as_slice.ensures.value (compile_ends c.args.file.now c.args.out.now c.as_slice.result.now c.in-Ok-made_file.compiled.text.items left ⊥ _ _ _ c.store.result c.in-Ok.ensures.later c.in-Ok-made_file.ensures.listed c.store.ensures.reported c.store.ensures.fails)
 
 pub returns-in-Ok-clause-outcome : goal.returns-in-Ok-clause-outcome
 returns-in-Ok-clause-outcome g c = λ left. source_ends (W.Compile c.args.file.now c.args.out.now) Lawful c.args.file.now (g.F.Folder.files c.args.folder.now) left ⊥ ⊥ _ _ c.in-Ok.bytes.items c.as_slice.result.now _ (λ r. absurd r) (λ r. r) c.in-Ok.ensures.found refl refl c.as_slice.ensures.value (compile_refused c.args.file.now c.args.out.now c.as_slice.result.now left ⊥ ⊥ c.in-Err-made_file.failure c.in-Err-made_file.ensures.kept)
@@ -38,10 +38,10 @@ pub returns-clause-counted : goal.returns-clause-counted
 returns-clause-counted g c = fetch_counted (g.F.Folder.files c.args.folder.now) c.args.file.now _ _ c.in-Err.failure c.in-Err.ensures.fails
 
 pub returns-in-Ok-made_file-clause-made : goal.returns-in-Ok-made_file-clause-made
-returns-in-Ok-made_file-clause-made g c = λ told. compiled c.args.file.now c.args.out.now (g.F.Folder.files c.args.folder.now) _ _ told c.in-Ok.bytes.items c.as_slice.result.now c.in-Ok.ensures.found c.as_slice.ensures.value c.in-Ok.ensures.same c.made_file.new.made c.in-Ok-made_file.compiled.file.items _ _ c.store.result c.in-Ok-made_file.ensures.made c.in-Ok-made_file.ensures.own c.store.ensures.fails c.store.ensures.kept
+returns-in-Ok-made_file-clause-made g c = λ reported. compiled c.args.file.now c.args.out.now (g.F.Folder.files c.args.folder.now) _ _ reported c.in-Ok.bytes.items c.as_slice.result.now c.in-Ok.ensures.found c.as_slice.ensures.value c.in-Ok.ensures.same c.made_file.new.made c.in-Ok-made_file.compiled.file.items _ _ c.store.result c.in-Ok-made_file.ensures.made c.in-Ok-made_file.ensures.own c.store.ensures.fails c.store.ensures.kept
 
 pub returns-in-Ok-clause-made : goal.returns-in-Ok-clause-made
-returns-in-Ok-clause-made g c = λ told. uncompiled c.args.file.now c.args.out.now (g.F.Folder.files c.args.folder.now) _ (g.F.Folder.files c.args.folder.now) told c.in-Ok.bytes.items c.as_slice.result.now c.in-Ok.ensures.found c.as_slice.ensures.value c.in-Ok.ensures.same c.made_file.new.made c.in-Err-made_file.failure c.in-Err-made_file.ensures.made c.in-Err-made_file.ensures.unspelt
+returns-in-Ok-clause-made g c = λ reported. uncompiled c.args.file.now c.args.out.now (g.F.Folder.files c.args.folder.now) _ (g.F.Folder.files c.args.folder.now) reported c.in-Ok.bytes.items c.as_slice.result.now c.in-Ok.ensures.found c.as_slice.ensures.value c.in-Ok.ensures.same c.made_file.new.made c.in-Err-made_file.failure c.in-Err-made_file.ensures.made c.in-Err-made_file.ensures.unspelt
 
 pub returns-clause-made : goal.returns-clause-made
-returns-clause-made g c = λ told. unfetched (W.Compile c.args.file.now c.args.out.now) Lawful (λ s k. k) c.args.file.now (g.F.Folder.files c.args.folder.now) _ c.in-Err.ensures.same _ _ c.in-Err.failure c.in-Err.ensures.fails
+returns-clause-made g c = λ reported. unfetched (W.Compile c.args.file.now c.args.out.now) Lawful (λ s k. k) c.args.file.now (g.F.Folder.files c.args.folder.now) _ c.in-Err.ensures.same _ _ c.in-Err.failure c.in-Err.ensures.fails

@@ -10,7 +10,7 @@ use Rattle.fip_driver.proofs.Counted.{stored_counted, source_counted, file_count
 use Rattle.fip_driver.proofs.commands.upgrade.Goals as goal
 
 pub returns-in-Ok-upgrade-clause-outcome : goal.returns-in-Ok-upgrade-clause-outcome
-returns-in-Ok-upgrade-clause-outcome g c = λ left. code_ends (W.Upgrade c.args.file.now c.args.out.now) c.args.file.now (g.F.Folder.files c.args.folder.now) left _ ⊥ _ _ c.in-Ok.bytes.items c.as_slice.result.now (end_of c.store.result) (λ r. r) (λ r. r) c.in-Ok.ensures.found refl (λ all input h. h) c.as_slice.ensures.value (upgrade_ends c.args.file.now c.args.out.now c.as_slice.result.now c.in-Ok-upgrade.compiled.text.items c.in-Ok-upgrade.compiled.file.items left ⊥ _ _ _ c.store.result c.in-Ok.ensures.later c.in-Ok-upgrade.ensures.listed c.in-Ok-upgrade.ensures.spelt c.store.ensures.told c.store.ensures.fails)
+returns-in-Ok-upgrade-clause-outcome g c = λ left. code_ends (W.Upgrade c.args.file.now c.args.out.now) c.args.file.now (g.F.Folder.files c.args.folder.now) left _ ⊥ _ _ c.in-Ok.bytes.items c.as_slice.result.now (end_of c.store.result) (λ r. r) (λ r. r) c.in-Ok.ensures.found refl (λ all input h. h) c.as_slice.ensures.value (upgrade_ends c.args.file.now c.args.out.now c.as_slice.result.now c.in-Ok-upgrade.compiled.text.items c.in-Ok-upgrade.compiled.file.items left ⊥ _ _ _ c.store.result c.in-Ok.ensures.later c.in-Ok-upgrade.ensures.listed c.in-Ok-upgrade.ensures.spelt c.store.ensures.reported c.store.ensures.fails)
 
 pub returns-in-Ok-clause-outcome : goal.returns-in-Ok-clause-outcome
 returns-in-Ok-clause-outcome g c = λ left. code_ends (W.Upgrade c.args.file.now c.args.out.now) c.args.file.now (g.F.Folder.files c.args.folder.now) left ⊥ ⊥ _ _ c.in-Ok.bytes.items c.as_slice.result.now _ (λ r. absurd r) (λ r. r) c.in-Ok.ensures.found refl (λ all input h. h) c.as_slice.ensures.value (upgrade_refused c.args.file.now c.args.out.now c.as_slice.result.now left ⊥ ⊥ c.in-Err-upgrade.failure c.in-Err-upgrade.ensures.kept)

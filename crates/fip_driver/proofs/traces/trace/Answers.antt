@@ -18,7 +18,7 @@ use Rattle.fip_driver.proofs.Counted.{stored_counted, late_failure_counted, sour
 use Rattle.fip_driver.proofs.traces.trace.Goals as goal
 
 pub returns-in-Ok-traced-clause-outcome : goal.returns-in-Ok-traced-clause-outcome
-returns-in-Ok-traced-clause-outcome g c = source_ends (W.Trace c.args.file.now c.args.entry.now c.args.out.now (room_of c.args.room)) (Compiled c.args.entry.now) c.args.file.now (g.F.Folder.files c.args.folder.now) (g.S.Source.left c.args.input.now) _ _ _ _ c.in-Ok.source.items c.as_slice.result.now (end_of c.store_leaving.result) (λ r. r) (λ r. r) c.in-Ok.ensures.found refl refl c.as_slice.ensures.value (trace_stored (g.S.Source.left c.args.input.now) _ c.args.file.now c.args.entry.now c.args.out.now c.as_slice.result.now c.in-Ok-traced.compiled.text.items (room_of c.args.room) _ _ _ (Compiled c.args.entry.now) c.store_leaving.result c.in-Ok.ensures.later c.in-Ok-exec_entry.ensures.ready (c.in-Ok-traced.ensures.outcome c.as_slice.result.now c.args.entry.now c.in-Ok-exec_entry.ensures.ready c.in-Ok-exec_entry.ensures.code) c.store_leaving.ensures.told c.store_leaving.ensures.fails)
+returns-in-Ok-traced-clause-outcome g c = source_ends (W.Trace c.args.file.now c.args.entry.now c.args.out.now (room_of c.args.room)) (Compiled c.args.entry.now) c.args.file.now (g.F.Folder.files c.args.folder.now) (g.S.Source.left c.args.input.now) _ _ _ _ c.in-Ok.source.items c.as_slice.result.now (end_of c.store_leaving.result) (λ r. r) (λ r. r) c.in-Ok.ensures.found refl refl c.as_slice.ensures.value (trace_stored (g.S.Source.left c.args.input.now) _ c.args.file.now c.args.entry.now c.args.out.now c.as_slice.result.now c.in-Ok-traced.compiled.text.items (room_of c.args.room) _ _ _ (Compiled c.args.entry.now) c.store_leaving.result c.in-Ok.ensures.later c.in-Ok-exec_entry.ensures.ready (c.in-Ok-traced.ensures.outcome c.as_slice.result.now c.args.entry.now c.in-Ok-exec_entry.ensures.ready c.in-Ok-exec_entry.ensures.code) c.store_leaving.ensures.reported c.store_leaving.ensures.fails)
 
 pub returns-in-Ok-exec_entry-clause-outcome : goal.returns-in-Ok-exec_entry-clause-outcome
 returns-in-Ok-exec_entry-clause-outcome g c = source_ends (W.Trace c.args.file.now c.args.entry.now c.args.out.now (room_of c.args.room)) (Compiled c.args.entry.now) c.args.file.now (g.F.Folder.files c.args.folder.now) (g.S.Source.left c.args.input.now) ⊥ _ _ _ c.in-Ok.source.items c.as_slice.result.now _ (λ r. absurd r) (λ r. r) c.in-Ok.ensures.found refl refl c.as_slice.ensures.value (input_ends (W.Trace c.args.file.now c.args.entry.now c.args.out.now (room_of c.args.room)) (Compiled c.args.entry.now) c.as_slice.result.now (g.S.Source.left c.args.input.now) ⊥ _ (λ input. TracesTo c.as_slice.result.now c.args.entry.now input (room_of c.args.room)) _ c.in-Ok-exec_entry.ensures.ready tt (λ input d m. m) (c.in-Err-traced.ensures.outcome c.as_slice.result.now c.args.entry.now c.in-Ok-exec_entry.ensures.ready c.in-Ok-exec_entry.ensures.code))

@@ -11,17 +11,17 @@ steps-preserved-in-Went g c =
     let w = stored (g.C.Cells.cells c.advance.new.cells) (g.C.Cells.released c.advance.new.cells) (g.C.Cells.pushed c.advance.new.cells) in
     let v = c.args.verified.now in
     let b = c.args.bounds in
-    let told = c.advance.ensures in
+    let reported = c.advance.ensures in
     let inv = c.steps.invariant in
     record {
-      placed = told.placed;
+      placed = reported.placed;
       roomy = c.in-Went.ensures.roomy (λ e. cc);
-      waiting = told.waiting;
-      spare = told.spare ∙ inv.spare;
+      waiting = reported.waiting;
+      spare = reported.spare ∙ inv.spare;
       some = inv.some;
       fewer = inv.fewer;
-      high = high_raised c.steps.here c.advance.new.cursor (told.raised inv.high);
-      along = λ o a. turned_on o v b c.steps.words c.advance.new.words c.steps.here c.advance.new.cursor c.steps.beside c.advance.new.beside s w c.steps.calls c.advance.result c.in-Went.is (turned_task o v b c.steps.words c.advance.new.words c.steps.here c.advance.new.cursor c.steps.beside c.advance.new.beside s w c.steps.calls c.advance.result (inv.along o a) told.placed.room told.waiting inv.high told.raised told.small told.pushed told.more);
+      high = high_raised c.steps.here c.advance.new.cursor (reported.raised inv.high);
+      along = λ o a. turned_on o v b c.steps.words c.advance.new.words c.steps.here c.advance.new.cursor c.steps.beside c.advance.new.beside s w c.steps.calls c.advance.result c.in-Went.is (turned_task o v b c.steps.words c.advance.new.words c.steps.here c.advance.new.cursor c.steps.beside c.advance.new.beside s w c.steps.calls c.advance.result (inv.along o a) reported.placed.room reported.waiting inv.high reported.raised reported.small reported.pushed reported.more);
     }
 
 pub steps-preserved : goal.steps-preserved
@@ -30,17 +30,17 @@ steps-preserved g c =
     let w = stored (g.C.Cells.cells c.advance.new.cells) (g.C.Cells.released c.advance.new.cells) (g.C.Cells.pushed c.advance.new.cells) in
     let v = c.args.verified.now in
     let b = c.args.bounds in
-    let told = c.advance.ensures in
+    let reported = c.advance.ensures in
     let inv = c.steps.invariant in
     record {
-      placed = told.placed;
+      placed = reported.placed;
       roomy = search rules;
-      waiting = told.waiting;
-      spare = told.spare ∙ inv.spare;
+      waiting = reported.waiting;
+      spare = reported.spare ∙ inv.spare;
       some = (let n = c.if-calls-eq0.false in omega (arith, n));
       fewer = (let f = inv.fewer in omega (arith, f));
-      high = high_raised c.steps.here c.advance.new.cursor (told.raised inv.high);
-      along = λ o a. turned_in o v b c.steps.words c.advance.new.words c.steps.here c.advance.new.cursor c.steps.beside c.advance.new.beside s w c.steps.calls c.advance.result c.in-Entered.is inv.some (turned_task o v b c.steps.words c.advance.new.words c.steps.here c.advance.new.cursor c.steps.beside c.advance.new.beside s w c.steps.calls c.advance.result (inv.along o a) told.placed.room told.waiting inv.high told.raised told.small told.pushed told.more);
+      high = high_raised c.steps.here c.advance.new.cursor (reported.raised inv.high);
+      along = λ o a. turned_in o v b c.steps.words c.advance.new.words c.steps.here c.advance.new.cursor c.steps.beside c.advance.new.beside s w c.steps.calls c.advance.result c.in-Entered.is inv.some (turned_task o v b c.steps.words c.advance.new.words c.steps.here c.advance.new.cursor c.steps.beside c.advance.new.beside s w c.steps.calls c.advance.result (inv.along o a) reported.placed.room reported.waiting inv.high reported.raised reported.small reported.pushed reported.more);
     }
 
 pub returns-then-calls-eq0-clause-along : goal.returns-then-calls-eq0-clause-along
@@ -49,9 +49,9 @@ returns-then-calls-eq0-clause-along g c o a =
     let w = stored (g.C.Cells.cells c.advance.new.cells) (g.C.Cells.released c.advance.new.cells) (g.C.Cells.pushed c.advance.new.cells) in
     let v = c.args.verified.now in
     let b = c.args.bounds in
-    let told = c.advance.ensures in
+    let reported = c.advance.ensures in
     let inv = c.steps.invariant in
-    turned_in o v b c.steps.words c.advance.new.words c.steps.here c.advance.new.cursor c.steps.beside c.advance.new.beside s w c.steps.calls c.advance.result c.in-Entered.is inv.some (turned_task o v b c.steps.words c.advance.new.words c.steps.here c.advance.new.cursor c.steps.beside c.advance.new.beside s w c.steps.calls c.advance.result (inv.along o a) told.placed.room told.waiting inv.high told.raised told.small told.pushed told.more)
+    turned_in o v b c.steps.words c.advance.new.words c.steps.here c.advance.new.cursor c.steps.beside c.advance.new.beside s w c.steps.calls c.advance.result c.in-Entered.is inv.some (turned_task o v b c.steps.words c.advance.new.words c.steps.here c.advance.new.cursor c.steps.beside c.advance.new.beside s w c.steps.calls c.advance.result (inv.along o a) reported.placed.room reported.waiting inv.high reported.raised reported.small reported.pushed reported.more)
 
 pub returns-then-here-stop-clause-along : goal.returns-then-here-stop-clause-along
 returns-then-here-stop-clause-along g c o a =
@@ -59,9 +59,9 @@ returns-then-here-stop-clause-along g c o a =
     let w = stored (g.C.Cells.cells c.advance.new.cells) (g.C.Cells.released c.advance.new.cells) (g.C.Cells.pushed c.advance.new.cells) in
     let v = c.args.verified.now in
     let b = c.args.bounds in
-    let told = c.advance.ensures in
+    let reported = c.advance.ensures in
     let inv = c.steps.invariant in
-    turned_in o v b c.steps.words c.advance.new.words c.steps.here c.advance.new.cursor c.steps.beside c.advance.new.beside s w c.steps.calls c.advance.result c.in-Entered.is inv.some (turned_task o v b c.steps.words c.advance.new.words c.steps.here c.advance.new.cursor c.steps.beside c.advance.new.beside s w c.steps.calls c.advance.result (inv.along o a) told.placed.room told.waiting inv.high told.raised told.small told.pushed told.more)
+    turned_in o v b c.steps.words c.advance.new.words c.steps.here c.advance.new.cursor c.steps.beside c.advance.new.beside s w c.steps.calls c.advance.result c.in-Entered.is inv.some (turned_task o v b c.steps.words c.advance.new.words c.steps.here c.advance.new.cursor c.steps.beside c.advance.new.beside s w c.steps.calls c.advance.result (inv.along o a) reported.placed.room reported.waiting inv.high reported.raised reported.small reported.pushed reported.more)
 
 pub returns-in_default : goal.returns-in_default
 returns-in_default g c =
@@ -69,15 +69,15 @@ returns-in_default g c =
     let w = stored (g.C.Cells.cells c.advance.new.cells) (g.C.Cells.released c.advance.new.cells) (g.C.Cells.pushed c.advance.new.cells) in
     let v = c.args.verified.now in
     let b = c.args.bounds in
-    let told = c.advance.ensures in
+    let reported = c.advance.ensures in
     let inv = c.steps.invariant in
     record {
-      placed = told.placed;
-      waiting = told.waiting;
-      spare = told.spare ∙ inv.spare;
-      high = high_raised c.steps.here c.advance.new.cursor (told.raised inv.high);
+      placed = reported.placed;
+      waiting = reported.waiting;
+      spare = reported.spare ∙ inv.spare;
+      high = high_raised c.steps.here c.advance.new.cursor (reported.raised inv.high);
       short = search rules;
       spent = search rules;
       over = search rules;
-      along = λ o a. turned_out o v b c.steps.words c.advance.new.words c.steps.here c.advance.new.cursor c.steps.beside c.advance.new.beside s w c.steps.calls c.advance.result c.in_default.not-Went c.in_default.not-Entered inv.some (turned_task o v b c.steps.words c.advance.new.words c.steps.here c.advance.new.cursor c.steps.beside c.advance.new.beside s w c.steps.calls c.advance.result (inv.along o a) told.placed.room told.waiting inv.high told.raised told.small told.pushed told.more);
+      along = λ o a. turned_out o v b c.steps.words c.advance.new.words c.steps.here c.advance.new.cursor c.steps.beside c.advance.new.beside s w c.steps.calls c.advance.result c.in_default.not-Went c.in_default.not-Entered inv.some (turned_task o v b c.steps.words c.advance.new.words c.steps.here c.advance.new.cursor c.steps.beside c.advance.new.beside s w c.steps.calls c.advance.result (inv.along o a) reported.placed.room reported.waiting inv.high reported.raised reported.small reported.pushed reported.more);
     }

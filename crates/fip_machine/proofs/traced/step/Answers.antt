@@ -1,14 +1,14 @@
--- The recorder begins a step, and is told of it.
+-- The recorder begins a step, and is reported of it.
 use Rattle.std.proofs.Common.{◌≡◌, ◌∙◌, ℕ, suc, [], None, sym, ap, subst}
 use Rattle.std.proofs.lemmas.List.{append-nil}
 use Rattle.cell_store.specs.Made.{Stored}
-use Rattle.cell_trace.specs.Taped.{IsTape, WasTold}
+use Rattle.cell_trace.specs.Taped.{IsTape, WasReported}
 use Rattle.machine_cells.specs.machine_semantics.Codes.{plain}
 use Rattle.machine_cells.specs.machine_semantics.Steps.{next}
 use Rattle.machine_step.specs.code_verify.Checked.{Checked}
 use Rattle.machine_cells.specs.Small.{IsSmall}
 use Rattle.machine_step.specs.Coming.{Comes, KnowsAt}
-use Rattle.machine_step.specs.Telling.{IsKnown, next_tells}
+use Rattle.machine_step.specs.Telling.{IsKnown, next_reports}
 use Rattle.fip_machine.specs.Along.{state_in}
 use Rattle.fip_machine.specs.Taped.{HasTape}
 use Rattle.fip_machine.proofs.Alongs.{stepped_with}
@@ -23,9 +23,9 @@ returns-clause-came c o limit left a =
     let w = c.step.new.cells in
     let same : m.store ≡ r.store = c.next_step.ensures.same in
     let X : ℕ → Type 0 = HasTape o limit w.tape in
-    let told : (KnowsAt t.code o.kinds t.running.function t.running.at) → IsKnown (next o.kinds (plain t.code.code) (state_in o t m.store)) → WasTold m.tape (next_tells o.kinds (plain t.code.code) (state_in o t m.store)) w.tape = λ known goes. c.step.ensures.told o.kinds o.lent known a.along.going (subst (λ (s : Stored). IsSmall s.cells) (sym same) a.along.small) (ap (λ (s : Stored). s.pushed) same ∙ a.along.empty) goes m [] (λ cs es n l h. subst (λ fs. IsTape cs fs n l m.tape) (sym (append-nil es)) h) in
+    let reported : (KnowsAt t.code o.kinds t.running.function t.running.at) → IsKnown (next o.kinds (plain t.code.code) (state_in o t m.store)) → WasReported m.tape (next_reports o.kinds (plain t.code.code) (state_in o t m.store)) w.tape = λ known goes. c.step.ensures.reported o.kinds o.lent known a.along.going (subst (λ (s : Stored). IsSmall s.cells) (sym same) a.along.small) (ap (λ (s : Stored). s.pushed) same ∙ a.along.empty) goes m [] (λ cs es n l h. subst (λ fs. IsTape cs fs n l m.tape) (sym (append-nil es)) h) in
     let said : KnowsAt t.code o.kinds t.running.function t.running.at → X (suc a.along.steps) = λ known.
-    tape_next o limit a.along.steps left (state_in o t r.store) r.tape m.tape w.tape a.along.run c.next_step.ensures.counted (subst (λ (v : Checked). IsKnown (next o.kinds (plain v.code) (state_in o t r.store)) → WasTold m.tape (next_tells o.kinds (plain v.code) (state_in o t r.store)) w.tape) a.along.code (subst (λ (s : Stored). IsKnown (next o.kinds (plain t.code.code) (state_in o t s)) → WasTold m.tape (next_tells o.kinds (plain t.code.code) (state_in o t s)) w.tape) same (told known))) a.beside in
+    tape_next o limit a.along.steps left (state_in o t r.store) r.tape m.tape w.tape a.along.run c.next_step.ensures.counted (subst (λ (v : Checked). IsKnown (next o.kinds (plain v.code) (state_in o t r.store)) → WasReported m.tape (next_reports o.kinds (plain v.code) (state_in o t r.store)) w.tape) a.along.code (subst (λ (s : Stored). IsKnown (next o.kinds (plain t.code.code) (state_in o t s)) → WasReported m.tape (next_reports o.kinds (plain t.code.code) (state_in o t s)) w.tape) same (reported known))) a.beside in
     stepped_with X o t r.store left c.step.result c.step.new.self w.store a.along c.step.ensures.code
     (λ small. c.step.ensures.small (subst (λ (s : Stored). IsSmall s.cells) (sym same) small))
     (λ empty. c.step.ensures.pushed (ap (λ (s : Stored). s.pushed) same ∙ empty))

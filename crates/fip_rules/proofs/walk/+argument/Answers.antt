@@ -1,7 +1,7 @@
 use Rattle.std.proofs.Common.{rules, arith, drop, ◌+◌}
 use Rattle.std.proofs.lemmas.Grind.{common_steps}
 use Rattle.fip_trees.specs.TreeView.{argument, arguments}
-use Rattle.fip_rules.proofs.Laws.{go_skip}
+use Rattle.fip_rules.proofs.Theorems.{go_skip}
 use Rattle.fip_rules.proofs.Steps.{own_all_step}
 use Rattle.fip_rules.proofs.Views.{own_literal}
 use Rattle.fip_rules.proofs.walk.+argument.Goals as goal

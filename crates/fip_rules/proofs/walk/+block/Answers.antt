@@ -8,7 +8,7 @@ use Rattle.fip_rules.specs.Shape as S
 use Rattle.fip_rules.specs.Shapes.{taking, binders, shape, shape_block}
 use Rattle.fip_rules.specs.Stands.{names}
 use Rattle.fip_rules.specs.Views.{world_of}
-use Rattle.fip_rules.proofs.Laws.{left_go}
+use Rattle.fip_rules.proofs.Theorems.{left_go}
 use Rattle.fip_rules.proofs.Steps.{bound_step, clause_step, kept_scope, block_step, block_end}
 use Rattle.fip_rules.proofs.Views.{none_left, block_first, match_one, match_more}
 use Rattle.fip_rules.proofs.walk.+block.Goals as goal

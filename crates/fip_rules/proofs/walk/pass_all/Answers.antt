@@ -2,7 +2,7 @@ use Rattle.std.proofs.Common.{rules, arith, drop, ◌+◌}
 use Rattle.std.proofs.lemmas.Grind.{common_steps}
 use Rattle.fip_trees.specs.TreeView.{argument, arguments}
 use Rattle.fip_rules.specs.Views.{world_of}
-use Rattle.fip_rules.proofs.Laws.{go_skip}
+use Rattle.fip_rules.proofs.Theorems.{go_skip}
 use Rattle.fip_rules.proofs.Steps.{pass_all_next}
 use Rattle.fip_rules.proofs.walk.pass_all.Goals as goal
 

@@ -3,7 +3,7 @@ use Rattle.session_lines.specs.command_outcome.Texts.{line_end}
 use Rattle.session_lines.specs.session_semantics.Lines.{lines_of}
 use Rattle.session_lines.specs.session_semantics.Talk.{at_first}
 use Rattle.session_values.specs.Readable.{IsLine}
-use Rattle.fip_session.proofs.Talking.{Follows, begins, goes_on, all_told, none_left}
+use Rattle.fip_session.proofs.Talking.{Follows, begins, goes_on, all_reported, none_left}
 use Rattle.fip_session.proofs.commands.session_reply.Goals as goal
 
 pub loop-at-init : goal.loop-at-init
@@ -31,5 +31,5 @@ returns c = record {
       let out = c.loop-at.out.items in
       let past = c.loop-at-test.false in
       let over : lines_of (drop c.loop-at.at c.args.input.now) ≡ [] = ap lines_of (none_left c.args.input.now c.loop-at.at (omega (arith, past))) in
-      all_told o lines out c.loop-at.session (subst (Follows o lines out c.loop-at.session) over (c.loop-at.invariant o served types words calls frames short));
+      all_reported o lines out c.loop-at.session (subst (Follows o lines out c.loop-at.session) over (c.loop-at.invariant o served types words calls frames short));
 }

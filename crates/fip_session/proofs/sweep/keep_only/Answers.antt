@@ -1,5 +1,5 @@
 use Rattle.std.proofs.Common.{◌≡◌, ◌≢◌, ◌<◌, ◌∙◌, ℕ, None, Some, IfSome, IfNone, refl, sym, ap, subst}
-use Rattle.cell_store.specs.Cells.{Cells, cell_at, IsBehind}
+use Rattle.cell_store.specs.Cells.{Cells, cell_at, IsAfter}
 use Rattle.fip_language.specs.Store.{count}
 use Rattle.fip_machine.specs.machine_cells.Small.{store_of}
 use Rattle.store_trees.specs.Added.{places_of}
@@ -14,7 +14,7 @@ loop-at-smaller c =
     let p = c.in-Some.place in
     let o = c.after-at-in-Some.result in
     let there : cell_at cs p ≢ None = subst (λ n. IfSome n (λ q. cell_at cs q ≢ None)) c.in-Some.is c.loop-at.invariant.there in
-    let less = less_left cs p o there c.after-at-in-Some.ensures.behind in
+    let less = less_left cs p o there c.after-at-in-Some.ensures.following in
     subst (λ n. left_behind c.release_unmarked.new.cells.cells o < left_behind cs n) (sym c.in-Some.is) (subst (λ ds. left_behind ds o < left_behind cs (Some p)) (sym c.release_unmarked.ensures.cells) less)
 
 pub loop-at-preserved : goal.loop-at-preserved
@@ -37,6 +37,6 @@ loop-at-preserved c =
           (subst (λ ms. IsMarked list ms) (sym c.as_slice.ensures.value) c.in_ok-marks.ensures.marks)
           st
           (subst (λ n. Sweeping (λ q. count q (places_of list)) first (store_of old.cells old.released) n) c.in-Some.is (c.loop-at.invariant.swept st))
-          same c.release_unmarked.ensures.marked c.release_unmarked.ensures.unmarked c.after-at-in-Some.ensures.behind
-          (next_cell (Some p) o all (subst (λ (cs : Cells). IfSome o (λ q. (r : ℕ) → IsBehind (Some p) r → r < q → cell_at cs r ≡ None)) whole c.after-at-in-Some.ensures.first) (subst (λ (cs : Cells). IfNone o ((r : ℕ) → IsBehind (Some p) r → cell_at cs r ≡ None)) whole c.after-at-in-Some.ensures.none));
+          same c.release_unmarked.ensures.marked c.release_unmarked.ensures.unmarked c.after-at-in-Some.ensures.following
+          (next_cell (Some p) o all (subst (λ (cs : Cells). IfSome o (λ q. (r : ℕ) → IsAfter (Some p) r → r < q → cell_at cs r ≡ None)) whole c.after-at-in-Some.ensures.first) (subst (λ (cs : Cells). IfNone o ((r : ℕ) → IsAfter (Some p) r → cell_at cs r ≡ None)) whole c.after-at-in-Some.ensures.none));
     }

@@ -18,5 +18,5 @@ loop-i-preserved g c = record {
       let next = push_next c.args.types.now cell.fields (g.C.Cells.pushed c.args.cells.now) (g.C.Cells.pushed c.loop-i.cells) c.loop-i.i k (number (g.C.Cells.cells c.args.cells.now)) (omega arith) lt same (c.loop-i.invariant.pushed cell is same room) room in
       let at : cell_at (g.C.Cells.cells c.loop-i.cells) c.args.place ≡ Some cell = ap (λ cs. cell_at cs c.args.place) c.loop-i.invariant.cells ∙ is in
       c.push_field.ensures.pushed cell at lt (subst (λ cs. length (g.C.Cells.pushed c.loop-i.cells) + length (field_entry c.args.types.now cell.fields k) ≤ number cs) (sym c.loop-i.invariant.cells) next.0) ∙ next.1;
-  told = λ first ts told. c.push_field.ensures.told first ts (c.loop-i.invariant.told first ts told);
+  reported = λ first ts reported. c.push_field.ensures.reported first ts (c.loop-i.invariant.reported first ts reported);
 }

@@ -2,7 +2,7 @@
 use Rattle.std.proofs.Common.{◌≡◌, ◌+◌, ◌≤◌, List, ◌++◌, Some, drop, length}
 use Rattle.fip_language.specs.Store.{Cell}
 use Rattle.cell_store.specs.Cells.{cell_at, number}
-use Rattle.cell_store.specs.Told.{Told}
+use Rattle.cell_store.specs.Reported.{Reported}
 use Rattle.machine_cells.specs.Pending.{entries}
 use Rattle.machine_cells.proofs.release.push_fields.Given as goal
 
@@ -14,5 +14,5 @@ invariant-loop-i g l = record {
   pushed : (c : Cell) → cell_at (g.C.Cells.cells l.initial.cells) l.place ≡ Some c → length l.types ≡ length c.fields →
       length (g.C.Cells.pushed l.initial.cells) + length (entries l.types c.fields) ≤ number (g.C.Cells.cells l.initial.cells) →
       g.C.Cells.pushed l.cells ≡ g.C.Cells.pushed l.initial.cells ++ entries (drop l.i l.types) (drop l.i c.fields);
-  told : (first : g.row.C.Denot) (ts : List Told) → g.C.Cells.was_told first ts l.initial.cells → g.C.Cells.was_told first ts l.cells;
+  reported : (first : g.row.C.Denot) (ts : List Reported) → g.C.Cells.was_reported first ts l.initial.cells → g.C.Cells.was_reported first ts l.cells;
 }

@@ -1,7 +1,7 @@
 use Rattle.std.proofs.Common.{◌≡◌, ◌≢◌, ◌/◌, ◌∙◌, [], ◌∷◌, ◌++◌, None, Some, true, false, sym, ap, subst, arith}
 use Rattle.std.specs.Prelude.{slice_get, slice_set}
 use Rattle.cell_store.specs.Cells.{cell_at}
-use Rattle.cell_store.specs.Told.{Released}
+use Rattle.cell_store.specs.Reported.{Released}
 use Rattle.machine_cells.specs.Counting.{CountsReleased}
 use Rattle.machine_cells.proofs.Counts.{counts_release}
 use Rattle.machine_cells.specs.Small.{store_of}
@@ -31,8 +31,8 @@ returns-in_default-clause-released g c small s is =
     let place = c.place_of.ensures (omega (arith, within, small)) in
     absurd (c.in_default.not-Some c.place_of.result (c.live_cell_at.ensures.found (subst (λ q. cell_at cs q ≢ None) (sym place) there) (subst (λ q. slice_get rs q ≡ Some false) (sym place) up.live)))
 
-pub returns-in-Some-clause-told : goal.returns-in-Some-clause-told
-returns-in-Some-clause-told g c small s is first ts told =
+pub returns-in-Some-clause-reported : goal.returns-in-Some-clause-reported
+returns-in-Some-clause-reported g c small s is first ts reported =
     let cs = g.C.Cells.cells c.args.cells.now in
     let rs = g.C.Cells.released c.args.cells.now in
     let p = c.args.word / 2 in
@@ -40,10 +40,10 @@ returns-in-Some-clause-told g c small s is first ts told =
     let there = is_there (cell_at cs p) up.cell (same_cell cs p ∙ up.at) in
     let within = place_within cs p there in
     let place = c.place_of.ensures (omega (arith, within, small)) in
-    subst (λ q. g.C.Cells.was_told first (ts ++ Released q ∷ []) c.release.new.self) (c.in-Some.ensures.same ∙ place) (c.release.ensures.told first ts told)
+    subst (λ q. g.C.Cells.was_reported first (ts ++ Released q ∷ []) c.release.new.self) (c.in-Some.ensures.same ∙ place) (c.release.ensures.reported first ts reported)
 
-pub returns-in_default-clause-told : goal.returns-in_default-clause-told
-returns-in_default-clause-told g c small s is first ts told =
+pub returns-in_default-clause-reported : goal.returns-in_default-clause-reported
+returns-in_default-clause-reported g c small s is first ts reported =
     let cs = g.C.Cells.cells c.args.cells.now in
     let rs = g.C.Cells.released c.args.cells.now in
     let p = c.args.word / 2 in

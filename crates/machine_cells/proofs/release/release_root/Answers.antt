@@ -5,7 +5,7 @@ use Rattle.std.proofs.lemmas.Option.{same_Some}
 use Rattle.fip_language.specs.Table.{constructors}
 use Rattle.fip_language.specs.Store.{Cell, words_of, places_of_all}
 use Rattle.cell_store.specs.Cells.{cell_at, number}
-use Rattle.cell_store.specs.Told.{Released}
+use Rattle.cell_store.specs.Reported.{Released}
 use Rattle.machine_cells.specs.Counting.{CountsReleased}
 use Rattle.machine_cells.proofs.Counts.{counts_release}
 use Rattle.machine_cells.specs.Small.{store_of}
@@ -52,8 +52,8 @@ returns-in-Some-clause-released g c small first last p ps h =
     let over : Held tb first (store_of (g.C.Cells.cells c.push_fields.new.cells) (g.C.Cells.released c.push_fields.new.cells)) last (pushed ++ entries r.shape.fields (words_of n.parts)) ps = subst (λ (qs : List ℕ). Held tb first (store_of (g.C.Cells.cells c.push_fields.new.cells) (g.C.Cells.released c.push_fields.new.cells)) last (pushed ++ entries r.shape.fields (words_of n.parts)) qs) h.4 (subst (λ s. Held tb first s last (pushed ++ entries r.shape.fields (words_of n.parts)) (places_of_all n.parts ++ all_places h.1)) (sym store) on.0) in
     subst (λ (qs : List ℕ). Held tb first (store_of (g.C.Cells.cells c.push_fields.new.cells) (g.C.Cells.released c.push_fields.new.cells)) last qs ps) (sym stack) over
 
-pub returns-in-Some-clause-told : goal.returns-in-Some-clause-told
-returns-in-Some-clause-told g c small first last p ps h origin ts told =
+pub returns-in-Some-clause-reported : goal.returns-in-Some-clause-reported
+returns-in-Some-clause-reported g c small first last p ps h origin ts reported =
     let cs = g.C.Cells.cells c.args.cells.now in
     let rs = g.C.Cells.released c.args.cells.now in
     let pushed = g.C.Cells.pushed c.args.cells.now in
@@ -63,7 +63,7 @@ returns-in-Some-clause-told g c small first last p ps h origin ts told =
     let r = root_of c.args.types.now first (store_of cs rs) last pushed e n h.1 h.5 in
     let within = place_within cs n.place (is_there (cell_at cs n.place) (record { tag = n.tag; fields = words_of n.parts }) r.cell) in
     let place : n.place ≡ c.in-Some.place = let same = c.in-Some.ensures.same in omega (arith, one, within, small, same) in
-    subst (λ q. g.C.Cells.was_told origin (ts ++ Released q ∷ []) c.push_fields.new.cells) (sym place ∙ h.3) (c.push_fields.ensures.told origin (ts ++ Released c.in-Some.place ∷ []) (c.release.ensures.told origin ts told))
+    subst (λ q. g.C.Cells.was_reported origin (ts ++ Released q ∷ []) c.push_fields.new.cells) (sym place ∙ h.3) (c.push_fields.ensures.reported origin (ts ++ Released c.in-Some.place ∷ []) (c.release.ensures.reported origin ts reported))
 
 pub returns-in_default-clause-released : goal.returns-in_default-clause-released
 returns-in_default-clause-released g c small first last p ps h =
@@ -78,8 +78,8 @@ returns-in_default-clause-released g c small first last p ps h =
     let place : n.place ≡ e % 4294967296 = omega (arith, one, within, small) in
     absurd (c.in_default.not-Some (e % 4294967296) (c.live_cell_at.ensures.found (subst (λ q. cell_at cs q ≢ None) place there) (subst (λ q. slice_get rs q ≡ Some false) place r.live)))
 
-pub returns-in_default-clause-told : goal.returns-in_default-clause-told
-returns-in_default-clause-told g c small first last p ps h origin ts told =
+pub returns-in_default-clause-reported : goal.returns-in_default-clause-reported
+returns-in_default-clause-reported g c small first last p ps h origin ts reported =
     let cs = g.C.Cells.cells c.args.cells.now in
     let rs = g.C.Cells.released c.args.cells.now in
     let e = c.args.entry in

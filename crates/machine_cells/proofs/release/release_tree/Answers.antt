@@ -1,7 +1,7 @@
 use Rattle.std.proofs.Common.{◌≡◌, ◌∙◌, List, [], ◌∷◌, ◌++◌, map, ℕ, ap, sym, subst}
 use Rattle.std.proofs.lemmas.List.{append_assoc, append-nil, map-append}
 use Rattle.fip_language.specs.Store.{places}
-use Rattle.cell_store.specs.Told.{Released}
+use Rattle.cell_store.specs.Reported.{Released}
 use Rattle.machine_cells.specs.Small.{IsSmall, store_of}
 use Rattle.machine_cells.specs.Counting.{CountsReleased}
 use Rattle.machine_cells.proofs.Counts.{counts_on}
@@ -18,7 +18,7 @@ loop-next-init g c = record {
       let s = store_of (g.C.Cells.cells c.args.cells.now) (g.C.Cells.released c.args.cells.now) in
       let z = first_held c.args.types.now s last c.args.ty c.args.word c.in-Some.root x (tree_read c.args.types.now s c.args.ty c.args.word x tree) goes (sym c.entry_of.ensures ∙ c.in-Some.is) in
       let but = subst (λ (ps : List ℕ). HeldBut c.args.types.now s s last ps c.in-Some.root z.0 z.1) (sym empty) z.3 in
-      (z.0 ∷ [], z.1, z.2, c.release_root.ensures.released small s last z.0 z.1 but, λ first ts told. c.release_root.ensures.told small s last z.0 z.1 but first ts told);
+      (z.0 ∷ [], z.1, z.2, c.release_root.ensures.released small s last z.0 z.1 but, λ first ts reported. c.release_root.ensures.reported small s last z.0 z.1 but first ts reported);
 }
 
 pub loop-next-preserved : goal.loop-next-preserved
@@ -45,10 +45,10 @@ loop-next-preserved g c = record {
         top.1,
         order,
         c.release_root-in-Some-pop.ensures.released few s last top.0 top.1 but,
-        λ first ts told.
-            let more = c.release_root-in-Some-pop.ensures.told few s last top.0 top.1 but first (ts ++ map (λ p. Released p) done) (c.pop.ensures.told first (ts ++ map (λ p. Released p) done) (held.4 first ts told)) in
+        λ first ts reported.
+            let more = c.release_root-in-Some-pop.ensures.reported few s last top.0 top.1 but first (ts ++ map (λ p. Released p) done) (c.pop.ensures.reported first (ts ++ map (λ p. Released p) done) (held.4 first ts reported)) in
             let all = append_assoc ts (map (λ p. Released p) done) (Released top.0 ∷ []) ∙ ap (λ us. ts ++ us) (sym (map-append (λ p. Released p) done (top.0 ∷ []))) in
-            subst (λ us. g.C.Cells.was_told first us c.release_root-in-Some-pop.new.cells) all more,
+            subst (λ us. g.C.Cells.was_reported first us c.release_root-in-Some-pop.new.cells) all more,
       );
 }
 
@@ -60,14 +60,14 @@ returns-in_default-pop-clause-released g c small empty x last tree goes =
     let over = all_done c.args.types.now s now last (g.C.Cells.pushed c.loop-next.cells) held.1 c.in_default-pop.ensures.pushed.0 held.3 in
     (λ i. store_of (c.pop.ensures.cells i) (c.pop.ensures.released i)) ∙ over.0
 
-pub returns-in_default-pop-clause-told : goal.returns-in_default-pop-clause-told
-returns-in_default-pop-clause-told g c small empty x last tree goes first ts told =
+pub returns-in_default-pop-clause-reported : goal.returns-in_default-pop-clause-reported
+returns-in_default-pop-clause-reported g c small empty x last tree goes first ts reported =
     let s = store_of (g.C.Cells.cells c.args.cells.now) (g.C.Cells.released c.args.cells.now) in
     let now = store_of (g.C.Cells.cells c.loop-next.cells) (g.C.Cells.released c.loop-next.cells) in
     let held = c.loop-next.invariant.held small empty x last tree goes in
     let over = all_done c.args.types.now s now last (g.C.Cells.pushed c.loop-next.cells) held.1 c.in_default-pop.ensures.pushed.0 held.3 in
     let all : held.0 ≡ places x = sym (append-nil held.0) ∙ ap (λ ps. held.0 ++ ps) over.1 ∙ held.2 in
-    subst (λ ps. g.C.Cells.was_told first (ts ++ map (λ p. Released p) ps) c.pop.new.self) all (c.pop.ensures.told first (ts ++ map (λ p. Released p) held.0) (held.4 first ts told))
+    subst (λ ps. g.C.Cells.was_reported first (ts ++ map (λ p. Released p) ps) c.pop.new.self) all (c.pop.ensures.reported first (ts ++ map (λ p. Released p) held.0) (held.4 first ts reported))
 
 pub returns-in_default-pop-clause-counted : goal.returns-in_default-pop-clause-counted
 returns-in_default-pop-clause-counted g c = subst (λ cs. CountsReleased (g.C.Cells.cells c.args.cells.now) (g.C.Cells.released c.args.cells.now) c.args.freed.now cs (g.C.Cells.released c.pop.new.self) c.loop-next.freed) (sym c.pop.ensures.cells) (subst (λ rs. CountsReleased (g.C.Cells.cells c.args.cells.now) (g.C.Cells.released c.args.cells.now) c.args.freed.now (g.C.Cells.cells c.loop-next.cells) rs c.loop-next.freed) (sym c.pop.ensures.released) c.loop-next.invariant.counted)

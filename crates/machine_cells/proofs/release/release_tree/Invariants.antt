@@ -1,7 +1,7 @@
 -- The cells of the tree are those that were released and then those that are on the stack, which falls with each tree that is taken off it.
 use Rattle.std.proofs.Common.{◌≡◌, ℕ, List, [], ◌++◌, Some, map}
 use Rattle.fip_language.specs.Store.{Placed, places}
-use Rattle.cell_store.specs.Told.{Told, Released}
+use Rattle.cell_store.specs.Reported.{Reported, Released}
 use Rattle.machine_semantics.specs.Cells.{Store, Release, changed_by}
 use Rattle.machine_semantics.specs.Trees.{tree_of}
 use Rattle.machine_cells.specs.Counting.{CountsReleased}
@@ -19,7 +19,7 @@ invariant-loop-next g l = record {
       changed_by (map (λ p. Release p) (places x)) (store_of (g.C.Cells.cells l.fn.cells) (g.C.Cells.released l.fn.cells)) ≡ Some s →
       (done left : List ℕ) × (done ++ left ≡ places x)
       × Held l.types (store_of (g.C.Cells.cells l.fn.cells) (g.C.Cells.released l.fn.cells)) (store_of (g.C.Cells.cells l.cells) (g.C.Cells.released l.cells)) s (g.C.Cells.pushed l.cells) left
-      × ((first : g.row.C.Denot) (ts : List Told) → g.C.Cells.was_told first ts l.fn.cells → g.C.Cells.was_told first (ts ++ map (λ p. Released p) done) l.cells);
+      × ((first : g.row.C.Denot) (ts : List Reported) → g.C.Cells.was_reported first ts l.fn.cells → g.C.Cells.was_reported first (ts ++ map (λ p. Released p) done) l.cells);
 }
 
 abbrev pub decreases-loop-next : goal.decreases-loop-next

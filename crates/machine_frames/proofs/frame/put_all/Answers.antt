@@ -1,7 +1,7 @@
 use Rattle.std.proofs.Common.{◌+◌, ◌∙◌, List, [], ◌∷◌, ◌++◌, ℕ, Some, ap, subst, arith, get_or}
 use Rattle.std.specs.Prelude.{slice_set}
 use Rattle.std.proofs.lemmas.List.{length-set}
-use Rattle.cell_store.specs.Told.{Overwritten}
+use Rattle.cell_store.specs.Reported.{Overwritten}
 use Rattle.machine_frames.proofs.Laid.{read_more, all_read}
 use Rattle.machine_frames.proofs.frame.put_all.Goals as goal
 
@@ -17,7 +17,7 @@ returns-clause-cells g c =
     let set = c.overwrite.ensures.cells in
     set ∙ ap (λ (fs : List ℕ). slice_set (g.C.Cells.cells c.args.cells.now) c.args.place (Some (record { tag = c.args.tag; fields = fs }))) read
 
-pub returns-clause-told : goal.returns-clause-told
-returns-clause-told g c first ts told =
+pub returns-clause-reported : goal.returns-clause-reported
+returns-clause-reported g c first ts reported =
     let read = all_read c.args.base c.args.words.now c.args.registers.now c.loop-i.fields (omega arith) (λ j l. c.loop-i.invariant.read j (omega (arith, l))) in
-    subst (λ (fs : List ℕ). g.C.Cells.was_told first (ts ++ Overwritten c.args.place c.args.tag fs ∷ []) c.overwrite.new.self) read (c.overwrite.ensures.told first ts told)
+    subst (λ (fs : List ℕ). g.C.Cells.was_reported first (ts ++ Overwritten c.args.place c.args.tag fs ∷ []) c.overwrite.new.self) read (c.overwrite.ensures.reported first ts reported)

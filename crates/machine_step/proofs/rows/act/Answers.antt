@@ -15,12 +15,12 @@ use Rattle.machine_step.specs.declared.rows.Stepped.TheVariants as S
 use Rattle.machine_step.specs.Placed.{body_at}
 use Rattle.machine_step.specs.View.{state_of}
 use Rattle.machine_step.specs.Coming.{Comes}
-use Rattle.machine_step.proofs.RowNexts.{const_next, atom_next, move_next, test_int_next, jump_next, free_next, drop_next, free_told, drop_told}
+use Rattle.machine_step.proofs.RowNexts.{const_next, atom_next, move_next, test_int_next, jump_next, free_next, drop_next, free_reported, drop_reported}
 use Rattle.machine_step.proofs.Helps.{same_instr, int_word_is}
 use Rattle.machine_step.proofs.Goings.{alone, same_done}
 use Rattle.machine_step.proofs.Highs.{raised_same}
-use Rattle.machine_step.specs.Telling.{IsKnown, act_tells}
-use Rattle.machine_step.proofs.Tellings.{told_nothing}
+use Rattle.machine_step.specs.Telling.{IsKnown, act_reports}
+use Rattle.machine_step.proofs.Tellings.{reported_nothing}
 use Rattle.machine_step.proofs.rows.act.Goals as goal
 
 pub call-requires-clause-callee : goal.call-requires-clause-callee
@@ -302,128 +302,128 @@ returns-in-Free-clause-raised g c high = raised_same c.args.cursor.now c.go_on-i
 pub returns-in-Jump-clause-raised : goal.returns-in-Jump-clause-raised
 returns-in-Jump-clause-raised g c high = raised_same c.args.cursor.now c.go_to.new.cursor c.go_to.ensures.same high
 
-pub returns-in-Const-clause-told : goal.returns-in-Const-clause-told
-returns-in-Const-clause-told g c ks lent known once small empty goes first ts told =
+pub returns-in-Const-clause-reported : goal.returns-in-Const-clause-reported
+returns-in-Const-clause-reported g c ks lent known once small empty goes first ts reported =
     let v = c.args.verified.now in
     let b = c.args.bounds in
     let ws = c.args.words.now in
     let cursor = c.args.cursor.now in
     let s = store_of (g.C.Cells.cells c.args.cells.now) (g.C.Cells.released c.args.cells.now) in
     let old = state_of v b lent s ws cursor in
-    told_nothing (λ us. g.C.Cells.was_told first us c.args.cells.now) (plain v.code) ks old c.args.instr.now (I.Const c.in-Const.destination c.in-Const.value) ts c.in-Const.is refl told
+    reported_nothing (λ us. g.C.Cells.was_reported first us c.args.cells.now) (plain v.code) ks old c.args.instr.now (I.Const c.in-Const.destination c.in-Const.value) ts c.in-Const.is refl reported
 
-pub returns-in-Atom-clause-told : goal.returns-in-Atom-clause-told
-returns-in-Atom-clause-told g c ks lent known once small empty goes first ts told =
+pub returns-in-Atom-clause-reported : goal.returns-in-Atom-clause-reported
+returns-in-Atom-clause-reported g c ks lent known once small empty goes first ts reported =
     let v = c.args.verified.now in
     let b = c.args.bounds in
     let ws = c.args.words.now in
     let cursor = c.args.cursor.now in
     let s = store_of (g.C.Cells.cells c.args.cells.now) (g.C.Cells.released c.args.cells.now) in
     let old = state_of v b lent s ws cursor in
-    told_nothing (λ us. g.C.Cells.was_told first us c.args.cells.now) (plain v.code) ks old c.args.instr.now (I.Atom c.in-Atom.destination c.in-Atom.ty c.in-Atom.constructor) ts c.in-Atom.is refl told
+    reported_nothing (λ us. g.C.Cells.was_reported first us c.args.cells.now) (plain v.code) ks old c.args.instr.now (I.Atom c.in-Atom.destination c.in-Atom.ty c.in-Atom.constructor) ts c.in-Atom.is refl reported
 
-pub returns-in-Move-clause-told : goal.returns-in-Move-clause-told
-returns-in-Move-clause-told g c ks lent known once small empty goes first ts told =
+pub returns-in-Move-clause-reported : goal.returns-in-Move-clause-reported
+returns-in-Move-clause-reported g c ks lent known once small empty goes first ts reported =
     let v = c.args.verified.now in
     let b = c.args.bounds in
     let ws = c.args.words.now in
     let cursor = c.args.cursor.now in
     let s = store_of (g.C.Cells.cells c.args.cells.now) (g.C.Cells.released c.args.cells.now) in
     let old = state_of v b lent s ws cursor in
-    told_nothing (λ us. g.C.Cells.was_told first us c.args.cells.now) (plain v.code) ks old c.args.instr.now (I.Move c.in-Move.destination c.in-Move.source) ts c.in-Move.is refl told
+    reported_nothing (λ us. g.C.Cells.was_reported first us c.args.cells.now) (plain v.code) ks old c.args.instr.now (I.Move c.in-Move.destination c.in-Move.source) ts c.in-Move.is refl reported
 
-pub returns-in-Arith-clause-told : goal.returns-in-Arith-clause-told
-returns-in-Arith-clause-told g c ks lent known once small empty goes first ts told =
+pub returns-in-Arith-clause-reported : goal.returns-in-Arith-clause-reported
+returns-in-Arith-clause-reported g c ks lent known once small empty goes first ts reported =
     let v = c.args.verified.now in
     let b = c.args.bounds in
     let ws = c.args.words.now in
     let cursor = c.args.cursor.now in
     let s = store_of (g.C.Cells.cells c.args.cells.now) (g.C.Cells.released c.args.cells.now) in
     let old = state_of v b lent s ws cursor in
-    told_nothing (λ us. g.C.Cells.was_told first us c.args.cells.now) (plain v.code) ks old c.args.instr.now (I.Arith c.in-Arith.destination c.in-Arith.operator c.in-Arith.left c.in-Arith.right c.in-Arith.line c.in-Arith.col) ts c.in-Arith.is refl told
+    reported_nothing (λ us. g.C.Cells.was_reported first us c.args.cells.now) (plain v.code) ks old c.args.instr.now (I.Arith c.in-Arith.destination c.in-Arith.operator c.in-Arith.left c.in-Arith.right c.in-Arith.line c.in-Arith.col) ts c.in-Arith.is refl reported
 
-pub returns-in-TestInt-clause-told : goal.returns-in-TestInt-clause-told
-returns-in-TestInt-clause-told g c ks lent known once small empty goes first ts told =
+pub returns-in-TestInt-clause-reported : goal.returns-in-TestInt-clause-reported
+returns-in-TestInt-clause-reported g c ks lent known once small empty goes first ts reported =
     let v = c.args.verified.now in
     let b = c.args.bounds in
     let ws = c.args.words.now in
     let cursor = c.args.cursor.now in
     let s = store_of (g.C.Cells.cells c.args.cells.now) (g.C.Cells.released c.args.cells.now) in
     let old = state_of v b lent s ws cursor in
-    told_nothing (λ us. g.C.Cells.was_told first us c.args.cells.now) (plain v.code) ks old c.args.instr.now (I.TestInt c.in-TestInt.register c.in-TestInt.value c.in-TestInt.target) ts c.in-TestInt.is refl told
+    reported_nothing (λ us. g.C.Cells.was_reported first us c.args.cells.now) (plain v.code) ks old c.args.instr.now (I.TestInt c.in-TestInt.register c.in-TestInt.value c.in-TestInt.target) ts c.in-TestInt.is refl reported
 
-pub returns-in-Peek-clause-told : goal.returns-in-Peek-clause-told
-returns-in-Peek-clause-told g c ks lent known once small empty goes first ts told =
+pub returns-in-Peek-clause-reported : goal.returns-in-Peek-clause-reported
+returns-in-Peek-clause-reported g c ks lent known once small empty goes first ts reported =
     let v = c.args.verified.now in
     let b = c.args.bounds in
     let ws = c.args.words.now in
     let cursor = c.args.cursor.now in
     let s = store_of (g.C.Cells.cells c.args.cells.now) (g.C.Cells.released c.args.cells.now) in
     let old = state_of v b lent s ws cursor in
-    told_nothing (λ us. g.C.Cells.was_told first us c.args.cells.now) (plain v.code) ks old c.args.instr.now (I.Peek c.in-Peek.destination c.in-Peek.register c.in-Peek.field) ts c.in-Peek.is refl told
+    reported_nothing (λ us. g.C.Cells.was_reported first us c.args.cells.now) (plain v.code) ks old c.args.instr.now (I.Peek c.in-Peek.destination c.in-Peek.register c.in-Peek.field) ts c.in-Peek.is refl reported
 
-pub returns-in-Take-clause-told : goal.returns-in-Take-clause-told
-returns-in-Take-clause-told g c ks lent known once small empty goes first ts told =
+pub returns-in-Take-clause-reported : goal.returns-in-Take-clause-reported
+returns-in-Take-clause-reported g c ks lent known once small empty goes first ts reported =
     let v = c.args.verified.now in
     let b = c.args.bounds in
     let ws = c.args.words.now in
     let cursor = c.args.cursor.now in
     let s = store_of (g.C.Cells.cells c.args.cells.now) (g.C.Cells.released c.args.cells.now) in
     let old = state_of v b lent s ws cursor in
-    told_nothing (λ us. g.C.Cells.was_told first us c.args.cells.now) (plain v.code) ks old c.args.instr.now (I.Take c.in-Take.register c.in-Take.fields) ts c.in-Take.is refl told
+    reported_nothing (λ us. g.C.Cells.was_reported first us c.args.cells.now) (plain v.code) ks old c.args.instr.now (I.Take c.in-Take.register c.in-Take.fields) ts c.in-Take.is refl reported
 
-pub returns-in-Call-clause-told : goal.returns-in-Call-clause-told
-returns-in-Call-clause-told g c ks lent known once small empty goes first ts told =
+pub returns-in-Call-clause-reported : goal.returns-in-Call-clause-reported
+returns-in-Call-clause-reported g c ks lent known once small empty goes first ts reported =
     let v = c.args.verified.now in
     let b = c.args.bounds in
     let ws = c.args.words.now in
     let cursor = c.args.cursor.now in
     let s = store_of (g.C.Cells.cells c.args.cells.now) (g.C.Cells.released c.args.cells.now) in
     let old = state_of v b lent s ws cursor in
-    told_nothing (λ us. g.C.Cells.was_told first us c.args.cells.now) (plain v.code) ks old c.args.instr.now (I.Call c.in-Call.function c.in-Call.arguments c.in-Call.destinations) ts c.in-Call.is refl told
+    reported_nothing (λ us. g.C.Cells.was_reported first us c.args.cells.now) (plain v.code) ks old c.args.instr.now (I.Call c.in-Call.function c.in-Call.arguments c.in-Call.destinations) ts c.in-Call.is refl reported
 
-pub returns-in-Tail-clause-told : goal.returns-in-Tail-clause-told
-returns-in-Tail-clause-told g c ks lent known once small empty goes first ts told =
+pub returns-in-Tail-clause-reported : goal.returns-in-Tail-clause-reported
+returns-in-Tail-clause-reported g c ks lent known once small empty goes first ts reported =
     let v = c.args.verified.now in
     let b = c.args.bounds in
     let ws = c.args.words.now in
     let cursor = c.args.cursor.now in
     let s = store_of (g.C.Cells.cells c.args.cells.now) (g.C.Cells.released c.args.cells.now) in
     let old = state_of v b lent s ws cursor in
-    told_nothing (λ us. g.C.Cells.was_told first us c.args.cells.now) (plain v.code) ks old c.args.instr.now (I.Tail c.in-Tail.function c.in-Tail.arguments) ts c.in-Tail.is refl told
+    reported_nothing (λ us. g.C.Cells.was_reported first us c.args.cells.now) (plain v.code) ks old c.args.instr.now (I.Tail c.in-Tail.function c.in-Tail.arguments) ts c.in-Tail.is refl reported
 
-pub returns-in-Ret-clause-told : goal.returns-in-Ret-clause-told
-returns-in-Ret-clause-told g c ks lent known once small empty goes first ts told =
+pub returns-in-Ret-clause-reported : goal.returns-in-Ret-clause-reported
+returns-in-Ret-clause-reported g c ks lent known once small empty goes first ts reported =
     let v = c.args.verified.now in
     let b = c.args.bounds in
     let ws = c.args.words.now in
     let cursor = c.args.cursor.now in
     let s = store_of (g.C.Cells.cells c.args.cells.now) (g.C.Cells.released c.args.cells.now) in
     let old = state_of v b lent s ws cursor in
-    told_nothing (λ us. g.C.Cells.was_told first us c.args.cells.now) (plain v.code) ks old c.args.instr.now (I.Ret c.in-Ret.results) ts c.in-Ret.is refl told
+    reported_nothing (λ us. g.C.Cells.was_reported first us c.args.cells.now) (plain v.code) ks old c.args.instr.now (I.Ret c.in-Ret.results) ts c.in-Ret.is refl reported
 
-pub returns-in-Jump-clause-told : goal.returns-in-Jump-clause-told
-returns-in-Jump-clause-told g c ks lent known once small empty goes first ts told =
+pub returns-in-Jump-clause-reported : goal.returns-in-Jump-clause-reported
+returns-in-Jump-clause-reported g c ks lent known once small empty goes first ts reported =
     let v = c.args.verified.now in
     let b = c.args.bounds in
     let ws = c.args.words.now in
     let cursor = c.args.cursor.now in
     let s = store_of (g.C.Cells.cells c.args.cells.now) (g.C.Cells.released c.args.cells.now) in
     let old = state_of v b lent s ws cursor in
-    told_nothing (λ us. g.C.Cells.was_told first us c.args.cells.now) (plain v.code) ks old c.args.instr.now (I.Jump c.in-Jump.target) ts c.in-Jump.is refl told
+    reported_nothing (λ us. g.C.Cells.was_reported first us c.args.cells.now) (plain v.code) ks old c.args.instr.now (I.Jump c.in-Jump.target) ts c.in-Jump.is refl reported
 
-pub returns-in-Test-clause-told : goal.returns-in-Test-clause-told
-returns-in-Test-clause-told g c ks lent known once small empty goes first ts told =
+pub returns-in-Test-clause-reported : goal.returns-in-Test-clause-reported
+returns-in-Test-clause-reported g c ks lent known once small empty goes first ts reported =
     let v = c.args.verified.now in
     let b = c.args.bounds in
     let ws = c.args.words.now in
     let cursor = c.args.cursor.now in
     let s = store_of (g.C.Cells.cells c.args.cells.now) (g.C.Cells.released c.args.cells.now) in
     let old = state_of v b lent s ws cursor in
-    told_nothing (λ us. g.C.Cells.was_told first us c.test.new.cells) (plain v.code) ks old c.args.instr.now (I.Test c.in-Test.register c.in-Test.constructor c.in-Test.target) ts c.in-Test.is refl (subst (g.C.Cells.was_told first ts) (sym (c.test.ensures.once once)) told)
+    reported_nothing (λ us. g.C.Cells.was_reported first us c.test.new.cells) (plain v.code) ks old c.args.instr.now (I.Test c.in-Test.register c.in-Test.constructor c.in-Test.target) ts c.in-Test.is refl (subst (g.C.Cells.was_reported first ts) (sym (c.test.ensures.once once)) reported)
 
-pub returns-in-Put-clause-told : goal.returns-in-Put-clause-told
-returns-in-Put-clause-told g c ks lent known once small empty goes first ts told =
+pub returns-in-Put-clause-reported : goal.returns-in-Put-clause-reported
+returns-in-Put-clause-reported g c ks lent known once small empty goes first ts reported =
     let v = c.args.verified.now in
     let b = c.args.bounds in
     let ws = c.args.words.now in
@@ -432,10 +432,10 @@ returns-in-Put-clause-told g c ks lent known once small empty goes first ts told
     let old = state_of v b lent s ws cursor in
     let rs = c.as_slice-in-Put.result.now in
     let same : c.args.instr.now ≡ I.Put c.in-Put.register c.in-Put.ty c.in-Put.constructor rs = c.in-Put.is ∙ ap (I.Put c.in-Put.register c.in-Put.ty c.in-Put.constructor) (sym c.as_slice-in-Put.ensures.same) in
-    subst (λ x. g.C.Cells.was_told first (ts ++ act_tells (plain v.code) ks old x) c.put_cell.new.cells) (sym same) (c.put_cell.ensures.told ks lent c.in-Put.ty small (subst (λ x. IsKnown (act (plain v.code) ks old x)) same goes) first ts told)
+    subst (λ x. g.C.Cells.was_reported first (ts ++ act_reports (plain v.code) ks old x) c.put_cell.new.cells) (sym same) (c.put_cell.ensures.reported ks lent c.in-Put.ty small (subst (λ x. IsKnown (act (plain v.code) ks old x)) same goes) first ts reported)
 
-pub returns-in-Drop-clause-told : goal.returns-in-Drop-clause-told
-returns-in-Drop-clause-told g c ks lent known once small empty goes first ts told =
+pub returns-in-Drop-clause-reported : goal.returns-in-Drop-clause-reported
+returns-in-Drop-clause-reported g c ks lent known once small empty goes first ts reported =
     let v = c.args.verified.now in
     let b = c.args.bounds in
     let ws = c.args.words.now in
@@ -445,11 +445,11 @@ returns-in-Drop-clause-told g c ks lent known once small empty goes first ts tol
     let room = c.requires.placed.room in
     let row = subst (Row (body_at v cursor) cursor.at (IsSafe (body_at v cursor))) c.in-Drop.is c.requires.row in
     let r = c.in-Drop.register in
-    let z = drop_told v b ks lent s ws cursor S.Went old [] r row.0 room (subst (λ x. IsKnown (act (plain v.code) ks old x)) c.in-Drop.is goes) in
-    subst (λ us. g.C.Cells.was_told first (ts ++ us) c.drop_tree.new.cells) (sym (ap (act_tells (plain v.code) ks old) c.in-Drop.is ∙ z.6)) (c.drop_tree.ensures.told z.0 (known r z.0 c.in-Drop.is z.3) small empty z.1 z.2 z.4 z.5 first ts told)
+    let z = drop_reported v b ks lent s ws cursor S.Went old [] r row.0 room (subst (λ x. IsKnown (act (plain v.code) ks old x)) c.in-Drop.is goes) in
+    subst (λ us. g.C.Cells.was_reported first (ts ++ us) c.drop_tree.new.cells) (sym (ap (act_reports (plain v.code) ks old) c.in-Drop.is ∙ z.6)) (c.drop_tree.ensures.reported z.0 (known r z.0 c.in-Drop.is z.3) small empty z.1 z.2 z.4 z.5 first ts reported)
 
-pub returns-in-Free-clause-told : goal.returns-in-Free-clause-told
-returns-in-Free-clause-told g c ks lent known once small empty goes first ts told =
+pub returns-in-Free-clause-reported : goal.returns-in-Free-clause-reported
+returns-in-Free-clause-reported g c ks lent known once small empty goes first ts reported =
     let v = c.args.verified.now in
     let b = c.args.bounds in
     let ws = c.args.words.now in
@@ -459,8 +459,8 @@ returns-in-Free-clause-told g c ks lent known once small empty goes first ts tol
     let room = c.requires.placed.room in
     let row = subst (Row (body_at v cursor) cursor.at (IsSafe (body_at v cursor))) c.in-Free.is c.requires.row in
     let r = c.in-Free.register in
-    let z = free_told v b ks lent s ws cursor S.Went old [] r row.0 room (subst (λ x. IsKnown (act (plain v.code) ks old x)) c.in-Free.is goes) in
-    subst (λ us. g.C.Cells.was_told first (ts ++ us) c.release_cell.new.cells) (sym (ap (act_tells (plain v.code) ks old) c.in-Free.is ∙ z.2)) (c.release_cell.ensures.told small z.0 z.1 first ts told)
+    let z = free_reported v b ks lent s ws cursor S.Went old [] r row.0 room (subst (λ x. IsKnown (act (plain v.code) ks old x)) c.in-Free.is goes) in
+    subst (λ us. g.C.Cells.was_reported first (ts ++ us) c.release_cell.new.cells) (sym (ap (act_reports (plain v.code) ks old) c.in-Free.is ∙ z.2)) (c.release_cell.ensures.reported small z.0 z.1 first ts reported)
 
 pub returns-in-Test-clause-counted : goal.returns-in-Test-clause-counted
 returns-in-Test-clause-counted g c once =

@@ -4,8 +4,8 @@ use Rattle.machine_frames.specs.machine_semantics.States.{State}
 use Rattle.cell_code.specs.declared.code.Instr.{Instr}
 use Rattle.machine_frames.specs.machine_semantics.Steps.{act, act_at, changes_at, instr_of, next}
 use Rattle.machine_frames.specs.machine_semantics.Traces.{done_changes}
-use Rattle.machine_cells.specs.Telling.{as_told}
-use Rattle.machine_step.specs.Telling.{IsKnown, act_tells, next_tells}
+use Rattle.machine_cells.specs.Telling.{as_reported}
+use Rattle.machine_step.specs.Telling.{IsKnown, act_reports, next_reports}
 use Rattle.machine_cells.specs.Small.{store_of}
 use Rattle.machine_step.specs.View.{state_of}
 use Rattle.machine_step.specs.Coming.{Comes}
@@ -26,8 +26,8 @@ returns-clause-next g c kinds known once small empty lent =
     let at = instr_is v b (length ws) cursor x c.requires.placed c.next_of-instr.ensures.is in
     let ks = kinds cursor.function cursor.at in
     let m = c.act.ensures.next kinds ks (λ r t e owned. known r t (at ∙ ap Some e) owned) small empty lent in
-    let told = next_is v b (length ws) kinds lent s ws cursor x c.act.result m.0.mid given c.requires.placed c.next_of-instr.ensures.is m.0.comes in
-    subst (λ (t : State). Comes old (next kinds (plain v.code) old) c.act.result t given) (sym (m.1 once)) told
+    let reported = next_is v b (length ws) kinds lent s ws cursor x c.act.result m.0.mid given c.requires.placed c.next_of-instr.ensures.is m.0.comes in
+    subst (λ (t : State). Comes old (next kinds (plain v.code) old) c.act.result t given) (sym (m.1 once)) reported
 
 pub returns-clause-more : goal.returns-clause-more
 returns-clause-more g c kinds known small empty lent =
@@ -48,8 +48,8 @@ returns-clause-more g c kinds known small empty lent =
       last = m.0.last;
     }
 
-pub returns-clause-told : goal.returns-clause-told
-returns-clause-told g c kinds lent known once small empty goes first ts told =
+pub returns-clause-reported : goal.returns-clause-reported
+returns-clause-reported g c kinds lent known once small empty goes first ts reported =
     let v = c.args.verified.now in
     let b = c.args.bounds in
     let ws = c.args.words.now in
@@ -60,5 +60,5 @@ returns-clause-told g c kinds lent known once small empty goes first ts told =
     let at = instr_is v b (length ws) cursor x c.requires.placed c.next_of-instr.ensures.is in
     let ks = kinds cursor.function cursor.at in
     let acts : act_at (plain v.code) ks old (instr_of (plain v.code) old) ≡ act (plain v.code) ks old x = ap (act_at (plain v.code) ks old) (at ∙ refl) in
-    let tells : next_tells kinds (plain v.code) old ≡ act_tells (plain v.code) ks old x = ap (λ (o : Option Instr). map as_told (done_changes (changes_at (plain v.code) ks old o) (act_at (plain v.code) ks old o))) at in
-    subst (λ us. g.C.Cells.was_told first (ts ++ us) c.act.new.cells) (sym tells) (c.act.ensures.told ks lent (λ r t e owned. known r t (at ∙ ap Some e) owned) once small empty (subst IsKnown acts goes) first ts told)
+    let reports : next_reports kinds (plain v.code) old ≡ act_reports (plain v.code) ks old x = ap (λ (o : Option Instr). map as_reported (done_changes (changes_at (plain v.code) ks old o) (act_at (plain v.code) ks old o))) at in
+    subst (λ us. g.C.Cells.was_reported first (ts ++ us) c.act.new.cells) (sym reports) (c.act.ensures.reported ks lent (λ r t e owned. known r t (at ∙ ap Some e) owned) once small empty (subst IsKnown acts goes) first ts reported)

@@ -14,11 +14,11 @@ returns-in-Some-clause-released g c t known small empty x s tree goes =
 pub returns-in_default-clause-released : goal.returns-in_default-clause-released
 returns-in_default-clause-released g c t known small empty x s tree goes = absurd (none-some t (sym c.in_default.is ∙ (c.drop_type.ensures.exact t).1 known))
 
-pub returns-in-Some-clause-told : goal.returns-in-Some-clause-told
-returns-in-Some-clause-told g c t known small empty x s tree goes first ts told =
+pub returns-in-Some-clause-reported : goal.returns-in-Some-clause-reported
+returns-in-Some-clause-reported g c t known small empty x s tree goes first ts reported =
     let now = store_of (g.C.Cells.cells c.args.cells.now) (g.C.Cells.released c.args.cells.now) in
     let type = same_place c.drop_type.result t c.in-Some.ty ((c.drop_type.ensures.exact t).1 known) c.in-Some.is in
-    c.release_tree.ensures.told small empty x s ((λ i. tree_of (c.code.ensures.same i).types now (sym type i) c.args.word) ∙ tree) goes first ts told
+    c.release_tree.ensures.reported small empty x s ((λ i. tree_of (c.code.ensures.same i).types now (sym type i) c.args.word) ∙ tree) goes first ts reported
 
-pub returns-in_default-clause-told : goal.returns-in_default-clause-told
-returns-in_default-clause-told g c t known small empty x s tree goes first ts told = absurd (none-some t (sym c.in_default.is ∙ (c.drop_type.ensures.exact t).1 known))
+pub returns-in_default-clause-reported : goal.returns-in_default-clause-reported
+returns-in_default-clause-reported g c t known small empty x s tree goes first ts reported = absurd (none-some t (sym c.in_default.is ∙ (c.drop_type.ensures.exact t).1 known))

@@ -23,23 +23,23 @@ pub returns-clause-placed : goal.returns-clause-placed
 returns-clause-placed c =
     let v = c.args.verified.now in
     let caller = c.caller_of-caller.result in
-    let told = c.caller_of-caller.ensures in
+    let reported = c.caller_of-caller.ensures in
     let g = caller.body.now in
-    let code = told.runnable.functions caller.function g told.is in
+    let code = reported.runnable.functions caller.function g reported.is in
     let instrs = c.as_slice-cursor.ensures.value in
     let body : List Instr → Body = λ is. record { functions = v.code.functions.items; stacks = v.stacks; function = caller.function; registers = g.registers; instrs = is } in
-    let next = safe_here (body g.instrs.items) (caller.at + 1) told.next in
+    let next = safe_here (body g.instrs.items) (caller.at + 1) reported.next in
     record {
-      is = (g, told.is, refl, sym instrs);
-      safe = subst (λ is. IsSafe (body is) (caller.at + 1)) (sym instrs) told.next;
+      is = (g, reported.is, refl, sym instrs);
+      safe = subst (λ is. IsSafe (body is) (caller.at + 1)) (sym instrs) reported.next;
       within = subst (λ (is : List Instr). caller.at + 1 < length is) (sym instrs) (slice_get_within g.instrs.items (caller.at + 1) next.0 next.1);
       few = subst (λ (is : List Instr). length is < 4294967296) (sym instrs) code.few;
       small = code.small;
-      largest = c.requires.most caller.function g told.is;
+      largest = c.requires.most caller.function g reported.is;
       own = code.own;
       frames = (let f = c.requires.placed.frames in omega (arith, f));
-      fits = told.fits;
-      room = (let b = told.base in let r = c.requires.placed.room in omega (arith, b, r));
+      fits = reported.fits;
+      room = (let b = reported.base in let r = c.requires.placed.room in omega (arith, b, r));
     }
 
 pub returns-clause-waiting : goal.returns-clause-waiting
@@ -64,15 +64,15 @@ returns-clause-next c ks s lent =
     let old = state_of v b lent s ws cursor in
     let fs = v.code.functions.items in
     let caller = c.caller_of-caller.result in
-    let told = c.caller_of-caller.ensures in
+    let reported = c.caller_of-caller.ensures in
     let g = caller.body.now in
     let n = g.registers in
     let rs = c.args.results.now in
     let room = c.requires.placed.room in
     let past = c.if-cursor-eq0.false in
     let some : 0 < cursor.frames = omega (arith, past) in
-    let start = told.base in
-    let own : registers_of fs (get_or ws (cursor.base - 2) 0) ≡ n = ap (registers_of fs) (sym told.function) ∙ registers_is fs caller.function g told.is in
+    let start = reported.base in
+    let own : registers_of fs (get_or ws (cursor.base - 2) 0) ≡ n = ap (registers_of fs) (sym reported.function) ∙ registers_is fs caller.function g reported.is in
     let wait = waiting_is v ws cursor caller.base n some start (omega (arith, room)) own in
     let vs = words_from cursor.base ws rs in
     let w : Frame = record { function = get_or ws (cursor.base - 2) 0; at = get_or ws (cursor.base - 1) 0; words = frame_at caller.base n ws } in
@@ -80,11 +80,11 @@ returns-clause-next c ks s lent =
     let long = c.give.auto.words in
     let below = kept caller.base ws us (omega (arith, room, start)) (omega (arith, room, start, long)) c.give.ensures.keeps in
     resumed_is (plain v.code) old old.waiting w (waiting_in fs (cursor.frames - 1) (take caller.base ws)) (read_all (words_of ws cursor) rs) vs S.Went (state_of v b lent s us after) (take c.args.beside.now.given c.args.beside.now.results) wait (frame_read cursor.base cursor.registers ws rs c.requires.results room) refl (λ f ss ds xs is wrote.
-    let at : slice_get g.instrs.items caller.at ≡ Some (I.Call f ss ds) = (λ i. slice_get g.instrs.items (told.at i)) ∙ sym (ap (λ o. instr_in o w.at) (plain_at fs w.function g ((λ i. slice_get fs (sym told.function i)) ∙ told.is))) ∙ is in
+    let at : slice_get g.instrs.items caller.at ≡ Some (I.Call f ss ds) = (λ i. slice_get g.instrs.items (reported.at i)) ∙ sym (ap (λ o. instr_in o w.at) (plain_at fs w.function g ((λ i. slice_get fs (sym reported.function i)) ∙ reported.is))) ∙ is in
     let are = c.destinations_of.ensures.are f ss ds at in
     let size : length ds ≡ length vs = written_long w.words ds vs xs wrote in
     let number = words_long cursor.base ws rs in
     let put : us ≡ put_words caller.base ws ds vs = c.give.ensures.given (ap length are ∙ size ∙ number) ∙ ap (λ es. put_words caller.base ws es vs) are in
-    let registers = told.below f ss ds at in
+    let registers = reported.below f ss ds at in
     let words : words_of us after ≡ xs = ap (frame_at caller.base n) put ∙ same_Some (frame_at caller.base n (put_words caller.base ws ds vs)) xs (sym (frame_write caller.base n ws ds vs registers (omega (arith, room, start)) size) ∙ wrote) in
-    resumed_to v b lent s ws us cursor after w.function w.at caller.base xs c.requires.placed.frames some below told.function (ap (λ i. i + 1) told.at) refl refl words)
+    resumed_to v b lent s ws us cursor after w.function w.at caller.base xs c.requires.placed.frames some below reported.function (ap (λ i. i + 1) reported.at) refl refl words)

@@ -10,9 +10,9 @@ use Rattle.machine_cells.proofs.Counts.{counts_none, counts_write}
 use Rattle.machine_frames.proofs.Laid.{words_long}
 use Rattle.machine_cells.proofs.Pendings.{same_cell, is_there}
 use Rattle.machine_step.specs.View.{state_of}
-use Rattle.cell_store.specs.Told.{Overwritten}
+use Rattle.cell_store.specs.Reported.{Overwritten}
 use Rattle.machine_step.specs.declared.rows.Stepped.TheVariants as S
-use Rattle.machine_step.proofs.RowNexts.{put_next, put_told}
+use Rattle.machine_step.proofs.RowNexts.{put_next, put_reported}
 use Rattle.machine_step.proofs.Helps.{same_place}
 use Rattle.machine_step.proofs.rows.put_cell.Goals.{in-Some, in_default}
 use Rattle.machine_step.proofs.rows.put_cell.Goals as goal
@@ -41,8 +41,8 @@ returns-clause-next g c ks given ty small lent =
       | in_default w ↦ absurd (none-some (word / 2) (sym w.in_default.is ∙ found))
     ]) c.go_on.ensures.went (c.go_on.ensures.state lent n)
 
-pub returns-clause-told : goal.returns-clause-told
-returns-clause-told g c ks lent ty small goes first ts told =
+pub returns-clause-reported : goal.returns-clause-reported
+returns-clause-reported g c ks lent ty small goes first ts reported =
     let v = c.args.verified.now in
     let b = c.args.bounds in
     let ws = c.args.words.now in
@@ -52,15 +52,15 @@ returns-clause-told g c ks lent ty small goes first ts told =
     let old = state_of v b lent s ws cursor in
     let word = get_or ws (cursor.base + c.args.register) 0 in
     let after = c.match-sized_cell_of.cells in
-    let z = put_told v b ks lent s ws cursor S.Went old [] c.args.register ty c.args.constructor c.args.fields.now c.requires.register c.requires.placed.room c.requires.fields goes in
+    let z = put_reported v b ks lent s ws cursor S.Went old [] c.args.register ty c.args.constructor c.args.fields.now c.requires.register c.requires.placed.room c.requires.fields goes in
     let there = same_cell cs (word / 2) ∙ z.1 in
     let found = c.sized_cell_of.ensures.found small (is_there (cell_at cs (word / 2)) z.0 there) (ap size_in there ∙ z.2) in
-    subst (λ us. g.C.Cells.was_told first (ts ++ us) after) (sym z.3) (elim c.match-sized_cell_of.branch [
+    subst (λ us. g.C.Cells.was_reported first (ts ++ us) after) (sym z.3) (elim c.match-sized_cell_of.branch [
       | in-Some w ↦ (
           let place = same_place c.sized_cell_of.result w.in-Some.place (word / 2) w.in-Some.is found in
-          let one = w.put.ensures.told first ts told in
-          let at = subst (λ p. g.C.Cells.was_told first (ts ++ Overwritten p c.args.constructor (words_from cursor.base ws c.args.fields.now) ∷ []) w.put.new.cells) place one in
-          subst (g.C.Cells.was_told first (ts ++ Overwritten (word / 2) c.args.constructor (words_from cursor.base ws c.args.fields.now) ∷ [])) (sym w.cells-is) at)
+          let one = w.put.ensures.reported first ts reported in
+          let at = subst (λ p. g.C.Cells.was_reported first (ts ++ Overwritten p c.args.constructor (words_from cursor.base ws c.args.fields.now) ∷ []) w.put.new.cells) place one in
+          subst (g.C.Cells.was_reported first (ts ++ Overwritten (word / 2) c.args.constructor (words_from cursor.base ws c.args.fields.now) ∷ [])) (sym w.cells-is) at)
       | in_default w ↦ absurd (none-some (word / 2) (sym w.in_default.is ∙ found))
     ])
 

@@ -17,4 +17,4 @@ pub returns-in_ok-push-in-Some-clause-below : goal.returns-in_ok-push-in-Some-cl
 returns-in_ok-push-in-Some-clause-below c =
     let q = c.in-Some.pending in
     let es = steps.pushed _ c.args.steps.now.items _ _ c.in_ok-push-in-Some.ensures.items (action_binary q.operator q.place) in
-    ap below es ∙ ap (λ z. view.behind_pending z (below (view.left c.args.steps.now.items))) (sym c.in-Some.is)
+    ap below es ∙ ap (λ z. view.after_pending z (below (view.left c.args.steps.now.items))) (sym c.in-Some.is)

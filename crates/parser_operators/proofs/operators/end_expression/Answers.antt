@@ -20,7 +20,7 @@ outside b w o e _ = refl
 abbrev popped : Body → List Opener → Opener → List Expression → machine.Body
 popped b os o es =
     let u = view.body_with b es in
-    record u { partial = record u.partial { openers = view.openers os (view.behind_waiting (view.waits_outside o) es); waiting = machine.none_waits } }
+    record u { partial = record u.partial { openers = view.openers os (view.after_waiting (view.waits_outside o) es); waiting = machine.none_waits } }
 
 pub returns-in-Some : goal.returns-in-Some
 returns-in-Some c =
@@ -28,7 +28,7 @@ returns-in-Some c =
     let s = c.args.sign in
     let o = c.in-Some.opener in
     let os = reverse c.pop.new.self.items in
-    let es = view.behind_waiting b.partial.waiting (below (view.operands b)) in
+    let es = view.after_waiting b.partial.waiting (below (view.operands b)) in
     let v = machine.all_applied (view.waiting b.partial.waiting (below (view.operands b))) (view.operand b) in
     let left = view.left c.apply_all.new.steps.items in
     record {

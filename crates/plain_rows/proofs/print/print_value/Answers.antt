@@ -11,17 +11,17 @@ printing-init c =
     let a = c.args in
     let tb = a.table.now in
     let e = ap last_first c.in_ok-push.ensures.items ∙ last_push _ _ ∙ ap (λ (ts : List Task). T.Whole a.ty a.value ∷ ts) (ap last_first c.new-tasks.ensures.items ∙ last_empty) in
-    λ v behind h s.
-    let text = printed tb a.ty v behind in
-    (text, subst (λ (ts : List Task). Prints tb a.store.now behind ts text) (sym e) (v, h, s, behind, refl, refl), refl)
+    λ v following h s.
+    let text = printed tb a.ty v following in
+    (text, subst (λ (ts : List Task). Prints tb a.store.now following ts text) (sym e) (v, h, s, following, refl, refl), refl)
 
 pub returns-in-None : goal.returns-in-None
 returns-in-None c = record {
-  prints = λ v behind h s. printing_ends c.args.table.now c.args.store.now behind (last_first c.printing.tasks.items) c.printing.out.items _ (none_left c.printing.tasks.items (let z = c.in-None.ensures.cases in omega (arith, z.0))) (c.printing.invariant v behind h s);
+  prints = λ v following h s. printing_ends c.args.table.now c.args.store.now following (last_first c.printing.tasks.items) c.printing.out.items _ (none_left c.printing.tasks.items (let z = c.in-None.ensures.cases in omega (arith, z.0))) (c.printing.invariant v following h s);
 }
 
 pub printing-preserved : goal.printing-preserved
-printing-preserved c = λ v behind h s.
+printing-preserved c = λ v following h s.
     let tb = c.args.table.now in
-    c.in_ok-print_task-in-Some.ensures.prints behind (c.args.out.now.items ++ printed tb c.args.ty v behind)
-    (subst (λ (ts : List Task). Printing tb c.args.store.now behind ts c.printing.out.items (c.args.out.now.items ++ printed tb c.args.ty v behind)) (ap last_first c.in-Some.ensures.items ∙ last_push _ _) (c.printing.invariant v behind h s))
+    c.in_ok-print_task-in-Some.ensures.prints following (c.args.out.now.items ++ printed tb c.args.ty v following)
+    (subst (λ (ts : List Task). Printing tb c.args.store.now following ts c.printing.out.items (c.args.out.now.items ++ printed tb c.args.ty v following)) (ap last_first c.in-Some.ensures.items ∙ last_push _ _) (c.printing.invariant v following h s))

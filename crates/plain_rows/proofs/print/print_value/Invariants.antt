@@ -7,7 +7,7 @@ use Rattle.plain_rows.specs.Printing.{last_first, Printing}
 use Rattle.plain_rows.proofs.print.print_value.Given as goal
 
 abbrev pub invariant-printing : goal.invariant-printing
-invariant-printing l = (v : Tree) (behind : List ℕ) → HasType l.table l.fn.ty v → Stands l.store l.fn.value v → Printing l.table l.store behind (last_first l.tasks.items) l.out.items (l.fn.out.items ++ printed l.table l.fn.ty v behind)
+invariant-printing l = (v : Tree) (following : List ℕ) → HasType l.table l.fn.ty v → Stands l.store l.fn.value v → Printing l.table l.store following (last_first l.tasks.items) l.out.items (l.fn.out.items ++ printed l.table l.fn.ty v following)
 
 -- a task that puts further ones prints a byte, and a text is shorter than 2^64
 abbrev pub decreases-printing : goal.decreases-printing

@@ -13,7 +13,7 @@ returns-in-None-clause-missing c =
     let tail = drop (c.loop-number.number-index + 1) c.args.own.now in
     let next = drop_one c.args.own.now c.loop-number.number-index c.loop-number-test.true in (
       has_at c.args.own.now c.loop-number.number-index n c.loop-number-test.true refl,
-      sym (c.loop-number.invariant.same n (ap (λ z. has z n) next ∙ own_first n tail)) ∙ c.behind.ensures.none c.in-None.is,
+      sym (c.loop-number.invariant.same n (ap (λ z. has z n) next ∙ own_first n tail)) ∙ c.following.ensures.none c.in-None.is,
     )
 
 pub loop-number-preserved : goal.loop-number-preserved

@@ -10,7 +10,7 @@ returns-in-None c = record {
 
 pub returns-in-Some : goal.returns-in-Some
 returns-in-Some c = record {
-  is = begin_some c.args.low c.args.count c.in-Some.last.now _ c.is_behind.result c.args.others.now c.requires.rise
+  is = begin_some c.args.low c.args.count c.in-Some.last.now _ c.is_after.result c.args.others.now c.requires.rise
       (let h = c.if-count-eq0.false in omega arith) c.in-Some.ensures.lookup.3.0 c.in-Some.ensures.lookup.1
-      c.is_behind.ensures.yes c.is_behind.ensures.no;
+      c.is_after.ensures.yes c.is_after.ensures.no;
 }

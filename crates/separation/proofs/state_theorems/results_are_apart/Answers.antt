@@ -2,4 +2,4 @@ use Rattle.separation.proofs.Running.{run_gives}
 use Rattle.separation.proofs.state_theorems.results_are_apart.Goals as goal
 
 pub returns : goal.returns
-returns c = record { law = run_gives }
+returns c = record { theorem = run_gives }

@@ -1,5 +1,5 @@
-use Rattle.session_correctness.proofs.Laws.{holds_results}
+use Rattle.session_correctness.proofs.StoreFacts.{holds_results}
 use Rattle.session_correctness.proofs.theorems.a_call_leaves_its_results.Goals as goal
 
 pub returns : goal.returns
-returns c = record { law = holds_results }
+returns c = record { theorem = holds_results }

@@ -1,5 +1,5 @@
-use Rattle.session_correctness.proofs.Laws.{holds_others}
+use Rattle.session_correctness.proofs.StoreFacts.{holds_others}
 use Rattle.session_correctness.proofs.theorems.a_call_without_a_value_leaves_what_is_held.Goals as goal
 
 pub returns : goal.returns
-returns c = record { law = holds_others }
+returns c = record { theorem = holds_others }

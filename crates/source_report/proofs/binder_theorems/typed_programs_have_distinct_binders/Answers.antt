@@ -2,4 +2,4 @@ use Rattle.source_report.proofs.Distinct.{typed_distinct}
 use Rattle.source_report.proofs.binder_theorems.typed_programs_have_distinct_binders.Goals as goal
 
 pub returns : goal.returns
-returns c = record { law = typed_distinct }
+returns c = record { theorem = typed_distinct }

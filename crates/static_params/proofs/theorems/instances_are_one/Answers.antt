@@ -1,4 +1,4 @@
-use Rattle.static_params.proofs.AnswerLaws.{instances_one, not_many}
+use Rattle.static_params.proofs.AnswerTheorems.{instances_one, not_many}
 use Rattle.static_params.proofs.theorems.instances_are_one.Goals as goal
 
 pub returns-clause-one : goal.returns-clause-one

@@ -1,4 +1,4 @@
-use Rattle.static_params.proofs.AnswerLaws.{programs_one, accepted_or_refused}
+use Rattle.static_params.proofs.AnswerTheorems.{programs_one, accepted_or_refused}
 use Rattle.static_params.proofs.theorems.programs_are_one.Goals as goal
 
 pub returns-clause-one : goal.returns-clause-one

@@ -1,4 +1,4 @@
-use Rattle.static_params.proofs.AnswerLaws.{numbers_one, not_many_types}
+use Rattle.static_params.proofs.AnswerTheorems.{numbers_one, not_many_types}
 use Rattle.static_params.proofs.theorems.types_are_one.Goals as goal
 
 pub returns-clause-one : goal.returns-clause-one

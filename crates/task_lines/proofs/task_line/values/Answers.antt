@@ -6,7 +6,7 @@ use Rattle.value_text.specs.Loaded.{types_of}
 use Rattle.session_lines.proofs.Tokens.{sign_close}
 use Rattle.task_lines.proofs.Arguments.{IsReadTo, reading_starts, reading_on, reading_ends, never_closed, never_next}
 use Rattle.task_lines.proofs.Next.{left_is}
-use Rattle.task_lines.specs.Reading.{Behind}
+use Rattle.task_lines.specs.Reading.{After}
 use Rattle.task_lines.proofs.Values.{IsReadNext, moved_to, one_param, as_many, type_at, closes_here, never_ends, never_signed, given_left, given_here}
 use Rattle.task_lines.proofs.task_line.values.Goals.{else-sign-via-then-sign+else-is_at_end, else-sign-via-else-sign}
 use Rattle.task_lines.proofs.task_line.values.Goals as goal
@@ -34,7 +34,7 @@ returns-in-None-clause-none c = λ at line params same vs h.
     let ty : ℕ = (get_or c.args.params.now c.loop-i.i no_param).ty in
     let is : get_or types c.loop-i.i 0 ≡ ty = type_at c.args.params.now c.loop-i.i no_param (omega (arith, lt)) in
     let none = c.next_value.ensures.none here line (one_param tb types c.loop-i.i ty less is params) (c.in_ok-place.was ∙ ap (λ o. Ok o) c.in-None.is) in
-    never_next tb bytes types old.at c.loop-i.i c.loop-i.scanner.at ty c.loop-i.places.items c.args.counts.now c.loop-i.counts less is r (λ ks us b. none ks us (subst (λ cs. Behind c.loop-i.i tb (ty ∷ ks) cs us) (sym (left_is bytes c.loop-i.scanner here)) b)) vs (given_here tb types bytes old vs at h)
+    never_next tb bytes types old.at c.loop-i.i c.loop-i.scanner.at ty c.loop-i.places.items c.args.counts.now c.loop-i.counts less is r (λ ks us b. none ks us (subst (λ cs. After c.loop-i.i tb (ty ∷ ks) cs us) (sym (left_is bytes c.loop-i.scanner here)) b)) vs (given_here tb types bytes old vs at h)
 
 pub loop-i-preserved : goal.loop-i-preserved
 loop-i-preserved c = record {

@@ -3,7 +3,7 @@ use Rattle.task_semantics.proofs.schedule_theorems.an_example_begins_together.Go
 
 pub returns : goal.returns
 returns c = record {
-  law = begin;
+  theorem = begin;
   together = λ before waits kinds. begins before waits kinds;
   loaded = λ before waits kinds. loaded before waits kinds;
 }

@@ -25,7 +25,7 @@ loop-low-preserved-then-at-place-2 c =
     let less = c.if-at-place-2.true in record {
       within = within;
       before = λ rising k e is below. let le = cells_in_order list k m e d rising is there (omega (arith, below)) in omega (arith, le, less);
-      behind = c.loop-low.invariant.behind;
+      following = c.loop-low.invariant.following;
     }
 
 pub loop-low-preserved : goal.loop-low-preserved
@@ -41,5 +41,5 @@ loop-low-preserved c =
     let more = c.if-at-place-2.false in record {
       within = omega (arith, lt);
       before = c.loop-low.invariant.before;
-      behind = λ rising k e is above. let le = cells_in_order list m k d e rising there is above in omega (arith, le, other, more);
+      following = λ rising k e is above. let le = cells_in_order list m k d e rising there is above in omega (arith, le, other, more);
     }

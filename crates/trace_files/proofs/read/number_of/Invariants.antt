@@ -11,5 +11,5 @@ abbrev pub invariant-loop-low : goal.invariant-loop-low
 invariant-loop-low l = record {
   within : l.high ≤ length l.cells;
   before : AreRising 0 (map plain_cell l.cells) → (k : ℕ) (c : LoadedCell) → slice_get l.cells k ≡ Some c → k < l.low → c.place < l.place;
-  behind : AreRising 0 (map plain_cell l.cells) → (k : ℕ) (c : LoadedCell) → slice_get l.cells k ≡ Some c → l.high ≤ k → l.place < c.place;
+  following : AreRising 0 (map plain_cell l.cells) → (k : ℕ) (c : LoadedCell) → slice_get l.cells k ≡ Some c → l.high ≤ k → l.place < c.place;
 }

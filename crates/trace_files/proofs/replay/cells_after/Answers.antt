@@ -1,4 +1,4 @@
-use Rattle.trace_files.proofs.Told.{after_is}
+use Rattle.trace_files.proofs.Reported.{after_is}
 use Rattle.trace_files.proofs.replay.cells_after.Goals as goal
 
 pub returns : goal.returns

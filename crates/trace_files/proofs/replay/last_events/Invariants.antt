@@ -8,5 +8,5 @@ use Rattle.trace_files.proofs.replay.last_events.Given as goal
 abbrev pub invariant-loop-number : goal.invariant-loop-number
 invariant-loop-number l = record {
   all : length l.last.items ≡ length l.cells;
-  told : AreRising 0 (map plain_cell l.cells) → (k : ℕ) (c : LoadedCell) (o : Option ℕ) → slice_get l.cells k ≡ Some c → slice_get l.last.items k ≡ Some o → numbered (map plain_event l.events) o ≡ latest c.place l.step (take l.number (map plain_event l.events)) None;
+  reported : AreRising 0 (map plain_cell l.cells) → (k : ℕ) (c : LoadedCell) (o : Option ℕ) → slice_get l.cells k ≡ Some c → slice_get l.last.items k ≡ Some o → numbered (map plain_event l.events) o ≡ latest c.place l.step (take l.number (map plain_event l.events)) None;
 }

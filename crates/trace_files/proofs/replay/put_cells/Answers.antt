@@ -2,7 +2,7 @@ use Rattle.std.proofs.Common.{◌∙◌, Some, map, ap, sym, arith, length, ◌<
 use Rattle.std.proofs.lemmas.Option.{slice_get-get_or}
 use Rattle.trace_files.specs.Plain.{plain_cell, plain_event}
 use Rattle.trace_files.proofs.Live.{to_map}
-use Rattle.trace_files.proofs.Told.{lines_more}
+use Rattle.trace_files.proofs.Reported.{lines_more}
 use Rattle.trace_files.proofs.replay.put_cells.Goals as goal
 
 pub loop-number-preserved : goal.loop-number-preserved

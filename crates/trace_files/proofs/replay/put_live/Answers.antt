@@ -1,5 +1,5 @@
 use Rattle.std.proofs.Common.{codes}
-use Rattle.trace_files.proofs.Told.{live_put}
+use Rattle.trace_files.proofs.Reported.{live_put}
 use Rattle.trace_files.proofs.replay.put_live.Goals as goal
 
 pub returns : goal.returns

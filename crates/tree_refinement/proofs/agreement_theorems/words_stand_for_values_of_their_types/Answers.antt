@@ -2,4 +2,4 @@ use Rattle.tree_refinement.proofs.Values.{words_types}
 use Rattle.tree_refinement.proofs.agreement_theorems.words_stand_for_values_of_their_types.Goals as goal
 
 pub returns : goal.returns
-returns c = record { law = words_types }
+returns c = record { theorem = words_types }

@@ -127,12 +127,12 @@ check_block-returns-clause-faults t c =
 
 pub check_expression-returns-in_ok-check_clauses-in-Match-clause-tree : goal.check_expression-returns-in_ok-check_clauses-in-Match-clause-tree
 check_expression-returns-in_ok-check_clauses-in-Match-clause-tree t c =
-    let m = match_tree c.args.walk.now.tables.now c.args.scope.now c.check_clause.new.scope c.args.results.expected c.args.results.types.now (is_destructive c.in-Match.kind) (is_destructive c.in-Match.kind) c.in-Match.ty c.slot.result c.in-Match.place c.in-Match.place (argument c.in-Match.scrutinee) (argument c.check_argument.new.argument) (clause c.in-Match.first.value) (clause c.check_clause.new.clause) (clauses c.in-Match.others.items) (clauses c.check_clauses.new.clauses) c.in_ok-found-in-Match.found c.in_ok-types-in-Match.types.items c.types_behind-behind.result.now refl refl (search rules) (search rules) (search rules) (search rules) (search rules) (search rules) (search rules) (search rules) (search rules) in
+    let m = match_tree c.args.walk.now.tables.now c.args.scope.now c.check_clause.new.scope c.args.results.expected c.args.results.types.now (is_destructive c.in-Match.kind) (is_destructive c.in-Match.kind) c.in-Match.ty c.slot.result c.in-Match.place c.in-Match.place (argument c.in-Match.scrutinee) (argument c.check_argument.new.argument) (clause c.in-Match.first.value) (clause c.check_clause.new.clause) (clauses c.in-Match.others.items) (clauses c.check_clauses.new.clauses) c.in_ok-found-in-Match.found c.in_ok-types-in-Match.types.items c.types_after-following.result.now refl refl (search rules) (search rules) (search rules) (search rules) (search rules) (search rules) (search rules) (search rules) (search rules) in
     expression_match _ _ _ _ _ _
     ∙ untouched (is_destructive c.in-Match.kind) _ c.slot.result c.in-Match.place _ (argument c.check_argument.new.argument) (clause c.check_clause.new.clause) (clauses c.check_clauses.new.clauses) _ (ap is_destructive c.in-Match.kind-is) c.in-Match.place-is (ap clauses (take_front c.check_clauses.new.clauses _ _ (ap (λ (v : Vec Clause Global). v.len) c.in-Match.others-is ∙ (search rules))))
     ∙ m ∙ sym (ap (fill c.args.walk.now.tables.now c.args.scope.now c.args.results.expected c.args.results.types.now) (ap expression c.in-Match.is ∙ (expression_match c.in-Match.kind c.in-Match.ty c.in-Match.place c.in-Match.scrutinee c.in-Match.first c.in-Match.others)))
 
 pub check_expression-returns-in_ok-check_clauses-in-Match-clause-faults : goal.check_expression-returns-in_ok-check_clauses-in-Match-clause-faults
 check_expression-returns-in_ok-check_clauses-in-Match-clause-faults t c =
-    match_noted c.args.walk.now.tables.now c.args.walk.now.instance c.args.scope.now c.check_clause.new.scope c.args.results.expected c.args.results.types.now (is_destructive c.in-Match.kind) c.in-Match.ty c.in-Match.place (argument c.in-Match.scrutinee) (clause c.in-Match.first.value) (clauses c.in-Match.others.items) c.in_ok-found-in-Match.found c.in_ok-types-in-Match.types.items c.types_behind-behind.result.now c.args.least.now c.check_argument.new.least c.check_clause.new.least c.check_clauses.new.least (search rules) (search rules) (search rules) (search rules) (search rules) (search rules) (search rules)
+    match_noted c.args.walk.now.tables.now c.args.walk.now.instance c.args.scope.now c.check_clause.new.scope c.args.results.expected c.args.results.types.now (is_destructive c.in-Match.kind) c.in-Match.ty c.in-Match.place (argument c.in-Match.scrutinee) (clause c.in-Match.first.value) (clauses c.in-Match.others.items) c.in_ok-found-in-Match.found c.in_ok-types-in-Match.types.items c.types_after-following.result.now c.args.least.now c.check_argument.new.least c.check_clause.new.least c.check_clauses.new.least (search rules) (search rules) (search rules) (search rules) (search rules) (search rules) (search rules)
     ∙ sym (ap (λ e. after c.args.least.now (faults c.args.walk.now.tables.now c.args.walk.now.instance c.args.scope.now c.args.results.expected c.args.results.types.now e)) (ap expression c.in-Match.is ∙ (expression_match c.in-Match.kind c.in-Match.ty c.in-Match.place c.in-Match.scrutinee c.in-Match.first c.in-Match.others)))

@@ -30,7 +30,7 @@ returns-in-Ok-false c = λ sound types.
     let l' = c.advance.new.loader in
     let first = c.args.loader.now in
     let here = c.values.invariant.going sound types in
-    let gone = gone_on tb bytes (outline old) old.at (outline new) new.at ws l ws' l' (whole types_in) first (Ok c.in-Ok-false.field-0) sound (λ s r. lines_go s r.behind) (λ q. (c.in-Ok-false.ensures.place q).1) here (c.in-Ok-false.ensures.advances sound (here.reading).known) in
+    let gone = gone_on tb bytes (outline old) old.at (outline new) new.at ws l ws' l' (whole types_in) first (Ok c.in-Ok-false.field-0) sound (λ s r. lines_go s r.following) (λ q. (c.in-Ok-false.ensures.place q).1) here (c.in-Ok-false.ensures.advances sound (here.reading).known) in
     is_over tb (whole types_in) bytes first (outline new) new.at ws' l' c.in-Ok-false.field-0 c.in-Ok-false.field-0-test gone
 
 pub returns-in-Err : goal.returns-in-Err
@@ -46,7 +46,7 @@ returns-in-Err c = λ sound types.
     let l' = c.advance.new.loader in
     let first = c.args.loader.now in
     let here = c.values.invariant.going sound types in
-    let gone = gone_on tb bytes (outline old) old.at (outline new) new.at ws l ws' l' (whole types_in) first (Err c.in-Err.e) sound (λ s r. lines_go s r.behind) (λ q. cc) here (c.in-Err.ensures.advances sound (here.reading).known) in
+    let gone = gone_on tb bytes (outline old) old.at (outline new) new.at ws l ws' l' (whole types_in) first (Err c.in-Err.e) sound (λ s r. lines_go s r.following) (λ q. cc) here (c.in-Err.ensures.advances sound (here.reading).known) in
     gone
 
 pub values-preserved : goal.values-preserved
@@ -66,7 +66,7 @@ values-preserved c =
           let l' = c.advance.new.loader in
           let first = c.args.loader.now in
           let here = c.values.invariant.going sound types in
-          let gone = gone_on tb bytes (outline old) old.at (outline new) new.at ws l ws' l' (whole types_in) first (Ok c.in-Ok-true.field-0) sound (λ s r. lines_go s r.behind) (λ q. (c.in-Ok-true.ensures.place q).1) here (c.in-Ok-true.ensures.advances sound (here.reading).known) in
+          let gone = gone_on tb bytes (outline old) old.at (outline new) new.at ws l ws' l' (whole types_in) first (Ok c.in-Ok-true.field-0) sound (λ s r. lines_go s r.following) (λ q. (c.in-Ok-true.ensures.place q).1) here (c.in-Ok-true.ensures.advances sound (here.reading).known) in
           let end = c.build_ends.new.cursor in
           let ws'' = c.build_ends.new.words.items in
           let l'' = c.build_ends.new.loader in
@@ -87,7 +87,7 @@ returns-in-Ok-false-build_ends c = λ sound types.
     let l' = c.advance.new.loader in
     let first = c.args.loader.now in
     let here = c.values.invariant.going sound types in
-    let gone = gone_on tb bytes (outline old) old.at (outline new) new.at ws l ws' l' (whole types_in) first (Ok c.in-Ok-true.field-0) sound (λ s r. lines_go s r.behind) (λ q. (c.in-Ok-true.ensures.place q).1) here (c.in-Ok-true.ensures.advances sound (here.reading).known) in
+    let gone = gone_on tb bytes (outline old) old.at (outline new) new.at ws l ws' l' (whole types_in) first (Ok c.in-Ok-true.field-0) sound (λ s r. lines_go s r.following) (λ q. (c.in-Ok-true.ensures.place q).1) here (c.in-Ok-true.ensures.advances sound (here.reading).known) in
     let end = c.build_ends.new.cursor in
     let ws'' = c.build_ends.new.words.items in
     let l'' = c.build_ends.new.loader in
@@ -107,7 +107,7 @@ returns-in-Err-build_ends c = λ sound types.
     let l' = c.advance.new.loader in
     let first = c.args.loader.now in
     let here = c.values.invariant.going sound types in
-    let gone = gone_on tb bytes (outline old) old.at (outline new) new.at ws l ws' l' (whole types_in) first (Ok c.in-Ok-true.field-0) sound (λ s r. lines_go s r.behind) (λ q. (c.in-Ok-true.ensures.place q).1) here (c.in-Ok-true.ensures.advances sound (here.reading).known) in
+    let gone = gone_on tb bytes (outline old) old.at (outline new) new.at ws l ws' l' (whole types_in) first (Ok c.in-Ok-true.field-0) sound (λ s r. lines_go s r.following) (λ q. (c.in-Ok-true.ensures.place q).1) here (c.in-Ok-true.ensures.advances sound (here.reading).known) in
     let end = c.build_ends.new.cursor in
     let ws'' = c.build_ends.new.words.items in
     let l'' = c.build_ends.new.loader in

@@ -25,7 +25,7 @@ loop-event-preserved c =
       counting = λ sound types short.
           let i = c.loop-event.invariant.counting sound types short in
           let known = (i.reading).known in
-          counting_on tb (whole (types_of c.args.params.now)) bytes (outline old) (outline new) old.at new.at c.loop-event.counts c.add_closed.new.self e i (lines_go i.spot (i.reading).behind) (λ s g q. subst (λ (o : Option Event). Stepped tb bytes s old.at (Ok o) (outline new) new.at) c.in-Ok-Some.field-0-is (c.in-Ok-Some.ensures.reads sound known s g q)) (c.in-Ok-Some.ensures.known sound known) p.1 p.2
+          counting_on tb (whole (types_of c.args.params.now)) bytes (outline old) (outline new) old.at new.at c.loop-event.counts c.add_closed.new.self e i (lines_go i.spot (i.reading).following) (λ s g q. subst (λ (o : Option Event). Stepped tb bytes s old.at (Ok o) (outline new) new.at) c.in-Ok-Some.field-0-is (c.in-Ok-Some.ensures.reads sound known s g q)) (c.in-Ok-Some.ensures.known sound known) p.1 p.2
           (c.add_closed.ensures (λ k le. let f = counting_few tb (whole (types_of c.args.params.now)) bytes (outline old) old.at c.loop-event.counts i k le in omega (arith, f, p.0, p.2, short)));
     }
 
@@ -37,4 +37,4 @@ returns-in-Ok-None c = λ sound types short.
     let new = c.step.new.cursor in
     let i = c.loop-event.invariant.counting sound types short in
     let known = (i.reading).known in
-    counting_ends tb (whole (types_of c.args.params.now)) bytes (outline old) (outline new) old.at new.at c.loop-event.counts i (lines_go i.spot (i.reading).behind) (λ s g q. subst (λ (o : Option Event). Stepped tb bytes s old.at (Ok o) (outline new) new.at) c.in-Ok-None.field-0-is (c.in-Ok-None.ensures.reads sound known s g q))
+    counting_ends tb (whole (types_of c.args.params.now)) bytes (outline old) (outline new) old.at new.at c.loop-event.counts i (lines_go i.spot (i.reading).following) (λ s g q. subst (λ (o : Option Event). Stepped tb bytes s old.at (Ok o) (outline new) new.at) c.in-Ok-None.field-0-is (c.in-Ok-None.ensures.reads sound known s g q))

@@ -6,5 +6,5 @@ use Rattle.value_text.proofs.print.add.Goals as goal
 
 pub returns-in-Some-clause-added : goal.returns-in-Some-clause-added
 returns-in-Some-clause-added c =
-    let next : Row = record { types = c.args.types; place = c.args.place; behind = c.in-Some.behind } in
+    let next : Row = record { types = c.args.types; place = c.args.place; following = c.in-Some.following } in
     set_first c.args.rows.now.items c.in-Some.top next c.in-Some.ensures.0 ∙ ap (λ (ts : List Task). fields_of c.args.types.now c.args.place ∷ ts) (sym c.in-Some.ensures.1)

@@ -9,6 +9,6 @@ invariant-waiting g l = record {
   steps : vec_len l.rows + 3 * vec_len l.initial.out ≤ vec_len l.initial.rows + 3 * vec_len l.out;
 }
 
--- a row that puts a further one behind itself prints a byte, and a text is shorter than 2^64
+-- a row that puts a further one after itself prints a byte, and a text is shorter than 2^64
 abbrev pub decreases-waiting : goal.decreases-waiting
 decreases-waiting g l = vec_len l.rows + 3 * (2 ^ 64 - vec_len l.out)

@@ -13,7 +13,7 @@ pub returns-then-bytes-start-ne45-clause-reads : goal.returns-then-bytes-start-n
 returns-then-bytes-start-ne45-clause-reads c =
     let start = c.skip_blanks-start.result in
     let lt : start < length c.args.bytes.now = let h = c.if-start-bytes.false in omega (arith, h) in
-    λ tb around. c.skip_blanks-start.ensures.skips tb (Want 0 around) refl ∙ first_stops tb c.args.bytes.now false around start lt (let h = c.if-digit.false in let k = c.digit.ensures in cc) (λ n. c.skip_blanks-start.ensures.behind lt) (λ n. ne_eqb _ _ c.if-bytes-start-ne45.true)
+    λ tb around. c.skip_blanks-start.ensures.skips tb (Want 0 around) refl ∙ first_stops tb c.args.bytes.now false around start lt (let h = c.if-digit.false in let k = c.digit.ensures in cc) (λ n. c.skip_blanks-start.ensures.following lt) (λ n. ne_eqb _ _ c.if-bytes-start-ne45.true)
 
 pub returns-clause-reads : goal.returns-clause-reads
 returns-clause-reads c = λ tb around. carried tb c.args.bytes.now around (Want 0 around) (Signed around) c.args.at (c.skip_blanks-start.result + 1) c.digits-2.result

@@ -15,4 +15,4 @@ returns-in-Some-clause-reads c = λ sound.
     let e = c.in-Some.ensures in
     let named = subst (λ (ss : List Shape). IsNamed ss text c.in-Some.found.0) c.constructors_of.ensures.same e.named in
     let from : start ≤ end = let w = e.within.0 in omega (arith, w) in
-    name_found tb sound bytes c.args.at start end text from e.within.1 refl (name_bytes tb sound c.args.ty c.in-Some.found.0 text c.requires.data named) e.behind (s.skips tb) s.behind c.args.ty c.in-Some.found.0 c.requires.data named
+    name_found tb sound bytes c.args.at start end text from e.within.1 refl (name_bytes tb sound c.args.ty c.in-Some.found.0 text c.requires.data named) e.following (s.skips tb) s.following c.args.ty c.in-Some.found.0 c.requires.data named

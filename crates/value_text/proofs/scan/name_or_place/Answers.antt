@@ -10,7 +10,7 @@ returns-in-Some-clause-reads c = λ sound.
     let s = c.skip_blanks-start.ensures in
     let text = take (c.name_end-end.result - c.skip_blanks-start.result) (drop c.skip_blanks-start.result bytes) in
     let e = c.name_end-end.ensures in
-    name_found tb sound bytes c.args.at c.skip_blanks-start.result c.name_end-end.result text e.from e.within refl e.name e.behind (s.skips tb) s.behind c.args.ty c.in-Some.c (let h = c.requires.data in omega (arith, h)) c.in-Some.ensures.found
+    name_found tb sound bytes c.args.at c.skip_blanks-start.result c.name_end-end.result text e.from e.within refl e.name e.following (s.skips tb) s.following c.args.ty c.in-Some.c (let h = c.requires.data in omega (arith, h)) c.in-Some.ensures.found
 
 pub returns-in-None-clause-reads : goal.returns-in-None-clause-reads
 returns-in-None-clause-reads c = λ sound.
@@ -19,4 +19,4 @@ returns-in-None-clause-reads c = λ sound.
     let s = c.skip_blanks-start.ensures in
     let text = take (c.name_end-end.result - c.skip_blanks-start.result) (drop c.skip_blanks-start.result bytes) in
     let e = c.name_end-end.ensures in
-    name_lost tb sound bytes c.args.at c.skip_blanks-start.result c.name_end-end.result text e.from e.within refl e.name e.behind (s.skips tb) s.behind c.args.ty c.longest_front.result (let h = c.requires.data in omega (arith, h)) c.in-None.ensures.none (subst (λ ss. IsLongest text ss c.longest_front.result) c.constructors_of.ensures.same c.longest_front.ensures)
+    name_lost tb sound bytes c.args.at c.skip_blanks-start.result c.name_end-end.result text e.from e.within refl e.name e.following (s.skips tb) s.following c.args.ty c.longest_front.result (let h = c.requires.data in omega (arith, h)) c.in-None.ensures.none (subst (λ ss. IsLongest text ss c.longest_front.result) c.constructors_of.ensures.same c.longest_front.ensures)

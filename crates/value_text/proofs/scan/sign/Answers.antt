@@ -16,4 +16,4 @@ returns-then-bytes-i-clause-reads c = λ tb s. c.skip_all_blanks-i.ensures.skips
 pub returns-else-bytes-i-clause-reads : goal.returns-else-bytes-i-clause-reads
 returns-else-bytes-i-clause-reads c =
     let lt : c.skip_all_blanks-i.result < length c.args.bytes.now = let h = c.if-i-bytes.false in omega (arith, h) in
-    λ tb s. c.skip_all_blanks-i.ensures.skips tb (Await (character c.args.byte) s) refl ∙ sign_stops tb c.args.bytes.now c.args.byte s c.skip_all_blanks-i.result lt c.requires.sign c.if-bytes-i.false (c.skip_all_blanks-i.ensures.behind lt)
+    λ tb s. c.skip_all_blanks-i.ensures.skips tb (Await (character c.args.byte) s) refl ∙ sign_stops tb c.args.bytes.now c.args.byte s c.skip_all_blanks-i.result lt c.requires.sign c.if-bytes-i.false (c.skip_all_blanks-i.ensures.following lt)

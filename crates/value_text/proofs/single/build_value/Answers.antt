@@ -42,7 +42,7 @@ returns-in-Ok-false c = λ given flags.
     let go = open_goes (outline old) here.spot r.outline (not_whole c.is_whole.result c.is_whole.ensures c.loop-cursor-test.true) in
     let a = subst (λ b. Advanced c.args.table.now c.args.bytes.now (outline old) old.at (outline new) new.at c.loop-cursor.words.items c.loop-cursor.loader c.advance.new.words.items c.advance.new.loader (Ok b)) c.in-Ok-false.field-0-test (c.in-Ok-false.ensures.advances given.sound r.known) in
     let m = a.0 here.spot go r.outline in
-    absurd (never_last here.spot m.0 0 r.behind m.1)
+    absurd (never_last here.spot m.0 0 r.following m.1)
 
 pub returns-in-Err : goal.returns-in-Err
 returns-in-Err c = λ given flags.

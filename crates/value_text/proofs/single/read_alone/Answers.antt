@@ -51,7 +51,7 @@ returns-in-Ok-None-clause-reads c = λ given.
     let r = i.reading in
     let go = open_goes (outline old) i.spot r.outline (not_whole c.is_whole.result c.is_whole.ensures c.loop-cursor-test.true) in
     let m = subst (λ (o : Option Event). Stepped c.args.table.now c.args.bytes.now i.spot old.at (Ok o) (outline new) new.at) c.in-Ok-None.field-0-is (c.in-Ok-None.ensures.reads given.sound r.known i.spot go r.outline) in
-    absurd (never_last i.spot m.0 0 r.behind m.1)
+    absurd (never_last i.spot m.0 0 r.following m.1)
 
 pub returns-in-Err-clause-reads : goal.returns-in-Err-clause-reads
 returns-in-Err-clause-reads c = λ given.

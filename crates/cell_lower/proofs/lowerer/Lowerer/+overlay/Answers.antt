@@ -6,10 +6,10 @@ use Rattle.match_knowledge.specs.View.{known, knowns}
 use Rattle.lower_frame.specs.lowering_relation.Spots as S
 use Rattle.lower_frame.specs.lowering_relation.Reading.{contains}
 use Rattle.lower_frame.specs.Positions.{spot_of, spot_at, past}
-use Rattle.cell_lower.specs.Overlays.{overlaid_all, field_overlaid, part_told}
+use Rattle.cell_lower.specs.Overlays.{overlaid_all, field_overlaid, part_reported}
 use Rattle.cell_lower.specs.Writing.{setting}
 use Rattle.cell_lower.proofs.Folding.{item, field_there, register_is}
-use Rattle.cell_lower.proofs.Overlaying.{missing, overlay_skips, overlay_next, field_missing, field_none, field_skipped, field_told}
+use Rattle.cell_lower.proofs.Overlaying.{missing, overlay_skips, overlay_next, field_missing, field_none, field_skipped, field_reported}
 use Rattle.cell_lower.proofs.lowerer.Lowerer.+overlay.Goals as goal
 use Rattle.cell_lower.proofs.lowerer.Lowerer.+overlay.Goals.{overlay_all-in-None, overlay_all-in-Some+in_ok-overlay_field-in-Some}
 
@@ -39,13 +39,13 @@ overlay_field-returns-in-None t c = record {
 
 pub overlay_field-returns-in_ok-overlay_fields-in-Some : goal.overlay_field-returns-in_ok-overlay_fields-in-Some
 overlay_field-returns-in_ok-overlay_fields-in-Some t c = record {
-  kinds = field_told (setting c.args.self.now.context.now) c.args.overlay.root c.args.overlay.read.now c.args.ty (known c.args.part.now) (S.register (spot_of c.args.spot.now)) c.args.field (spot_at (S.fields (spot_of c.args.spot.now)) c.args.field) (spot_of c.in-Some.child.now) c.args.kinds.now.items c.set_kind.new.kinds.items c.overlay_fields.new.kinds.items
+  kinds = field_reported (setting c.args.self.now.context.now) c.args.overlay.root c.args.overlay.read.now c.args.ty (known c.args.part.now) (S.register (spot_of c.args.spot.now)) c.args.field (spot_at (S.fields (spot_of c.args.spot.now)) c.args.field) (spot_of c.in-Some.child.now) c.args.kinds.now.items c.set_kind.new.kinds.items c.overlay_fields.new.kinds.items
       (field_there c.args.spot.now c.args.field c.in-Some.child.now (ap (λ z. slice_get z c.args.field) (sym c.deref.ensures.value) ∙ item c.deref.result.now c.args.field c.in-Some.child.now c.in-Some.ensures.lookup.3.0 c.in-Some.ensures.lookup.1))
       (ap (λ z. contains z c.args.overlay.read.now) (sym (register_is c.in-Some.child.now)) ∙ sym c.contains.ensures ∙ c.if-contains.true)
       (c.set_kind.ensures.set ∙ ap (λ z. slice_set c.args.kinds.now.items z c.in_ok-kind-in-Some.kind) (register_is c.in-Some.child.now)
       ∙ ap (slice_set c.args.kinds.now.items (S.register (spot_of c.in-Some.child.now))) (c.in_ok-kind-in-Some.ensures.kind
-      ∙ ap (λ z. part_told (setting c.args.self.now.context.now) c.args.overlay.root c.args.ty (known c.args.part.now) z c.in_ok-map_err-in-Some.field-0) (register_is c.args.spot.now)
-      ∙ ap (part_told (setting c.args.self.now.context.now) c.args.overlay.root c.args.ty (known c.args.part.now) (S.register (spot_of c.args.spot.now))) (search rules)))
+      ∙ ap (λ z. part_reported (setting c.args.self.now.context.now) c.args.overlay.root c.args.ty (known c.args.part.now) z c.in_ok-map_err-in-Some.field-0) (register_is c.args.spot.now)
+      ∙ ap (part_reported (setting c.args.self.now.context.now) c.args.overlay.root c.args.ty (known c.args.part.now) (S.register (spot_of c.args.spot.now))) (search rules)))
       c.in_ok-overlay_fields-in-Some.ensures.kinds;
 }
 

@@ -3,7 +3,7 @@ use Rattle.std.specs.Borrow.{Bor}
 use Rattle.match_knowledge.specs.View.{known}
 use Rattle.cell_lower.specs.declared.lowerer.Context.{Context}
 use Rattle.lower_frame.specs.Positions.{spot_of}
-use Rattle.cell_lower.specs.Overlays.{failed_told}
+use Rattle.cell_lower.specs.Overlays.{failed_reported}
 use Rattle.cell_lower.specs.Scenes.{side_of, sides_of, Advances, PlacesSide}
 use Rattle.cell_lower.specs.Writing.{setting}
 use Rattle.cell_lower.proofs.Choosing.{Goes, goes_next, follows_to, places_long}
@@ -11,7 +11,7 @@ use Rattle.cell_lower.proofs.lowerer.Lowerer.follow.Goals as goal
 
 pub returns-in-Some-clause-follows : goal.returns-in-Some-clause-follows
 returns-in-Some-clause-follows c =
-    follows_to c.args.self.now.context.now.program.now.types (failed_told (setting c.args.self.now.context.now) c.args.self.now.frame.held c.args.choice.now.ty (spot_of c.args.choice.now.root) (known c.args.from.known) c.args.from.read.items) c.args.choice.now c.args.self.now.buffer c.put_side.new.self.buffer c.advance.new.self.buffer (side_of c.args.from) (known c.args.from.known) (known c.advance.new.known) c.args.from.read.items c.advance.new.read.items (sides_of c.args.sides.now.items) (sides_of c.advance.new.sides.items) c.in-Some.clause c.in_ok-clause.field-0 (subst (λ z. PlacesSide c.args.self.now.buffer c.args.from.label (failed_told (setting c.args.self.now.context.now) c.args.self.now.frame.held c.args.choice.now.ty (spot_of c.args.choice.now.root) (known c.args.from.known) z) c.put_side.new.self.buffer) c.as_slice.ensures.value c.in_ok-put_side.ensures.placed) c.in-Some.is refl refl
+    follows_to c.args.self.now.context.now.program.now.types (failed_reported (setting c.args.self.now.context.now) c.args.self.now.frame.held c.args.choice.now.ty (spot_of c.args.choice.now.root) (known c.args.from.known) c.args.from.read.items) c.args.choice.now c.args.self.now.buffer c.put_side.new.self.buffer c.advance.new.self.buffer (side_of c.args.from) (known c.args.from.known) (known c.advance.new.known) c.args.from.read.items c.advance.new.read.items (sides_of c.args.sides.now.items) (sides_of c.advance.new.sides.items) c.in-Some.clause c.in_ok-clause.field-0 (subst (λ z. PlacesSide c.args.self.now.buffer c.args.from.label (failed_reported (setting c.args.self.now.context.now) c.args.self.now.frame.held c.args.choice.now.ty (spot_of c.args.choice.now.root) (known c.args.from.known) z) c.put_side.new.self.buffer) c.as_slice.ensures.value c.in_ok-put_side.ensures.placed) c.in-Some.is refl refl
     ((subst (λ (x : Bor Context). Goes x.now.program.now.types c.args.choice.now c.put_side.new.self.buffer (known c.args.from.known) c.args.from.read.items (sides_of c.args.sides.now.items) c.steps.self.buffer (known c.steps.known) c.steps.read.items (sides_of c.steps.sides.items)) c.in_ok-put_side.ensures.context c.steps.invariant.goes).by c.advance.new.self.buffer (known c.advance.new.known) c.advance.new.read.items (sides_of c.advance.new.sides.items) c.in_ok-clause.field-0
     (subst (λ (x : Bor Context). Advances x.now.program.now.types c.args.choice.now c.steps.self.buffer (known c.steps.known) c.steps.read.items (sides_of c.steps.sides.items) c.advance.new.self.buffer (known c.advance.new.known) c.advance.new.read.items (sides_of c.advance.new.sides.items) c.in_ok-clause.field-0) (c.steps.invariant.context ∙ c.in_ok-put_side.ensures.context) c.in_ok-clause.ensures.advances))
 

@@ -7,7 +7,7 @@ use Rattle.derivation_trees.specs.declared.derivation.RuleName.TheVariants as R
 use Rattle.derivation_trees.specs.declared.derivation.Credit as D
 use Rattle.derivation_trees.specs.Trees.{Trees, Branch}
 use Rattle.derivation_check.specs.Owned.{Under, Splits}
-use Rattle.derivation_check.specs.Places.{at, parts, behind}
+use Rattle.derivation_check.specs.Places.{at, parts, following}
 use Rattle.derivation_check.specs.ScopeView.{frames, scope_of}
 use Rattle.derivation_check.specs.Calculus.{DerivesValues}
 use Rattle.derivation_check.proofs.Rows.{owned_first}
@@ -16,14 +16,14 @@ use Rattle.derivation_check.proofs.values.Walk.+argument.Goals as goal
 
 pub arguments-returns-then-not-argument-clause-complete : goal.arguments-returns-then-not-argument-clause-complete
 arguments-returns-then-not-argument-clause-complete t c h =
-    let f = values_first (world (program c.args.self.now.program.now) c.args.self.now.kind) (scope_of (frames c.args.scope.now)).variables c.args.next c.args.self.now.nodes.now c.loop-argument.place (behind c.args.self.now.nodes.now c.loop-argument.place) c.loop-argument.left c.loop-argument.argument-index c.args.arguments.now c.argument-item.result (let z = c.if-left-eq0.false in omega arith) refl c.loop-argument-test.true c.argument-item.is (c.loop-argument.invariant.down h) in
+    let f = values_first (world (program c.args.self.now.program.now) c.args.self.now.kind) (scope_of (frames c.args.scope.now)).variables c.args.next c.args.self.now.nodes.now c.loop-argument.place (following c.args.self.now.nodes.now c.loop-argument.place) c.loop-argument.left c.loop-argument.argument-index c.args.arguments.now c.argument-item.result (let z = c.if-left-eq0.false in omega arith) refl c.loop-argument-test.true c.argument-item.is (c.loop-argument.invariant.down h) in
     let g = c.argument.ensures.complete f.0 in let u = c.if-not-argument.true in cc
 
 pub arguments-loop-argument-preserved : goal.arguments-loop-argument-preserved
 arguments-loop-argument-preserved t c = record {
-  owned = (owned_first c.args.self.now.nodes.now c.args.next c.loop-argument.place c.behind-place.result c.loop-argument.left (let z = c.if-left-eq0.false in omega arith) (c.behind-place.ensures.row (c.loop-argument.left - 1)) c.loop-argument.invariant.owned).1;
-  up = λ h. c.loop-argument.invariant.up (values_more (world (program c.args.self.now.program.now) c.args.self.now.kind) (scope_of (frames c.args.scope.now)).variables c.args.next c.args.self.now.nodes.now c.loop-argument.place c.behind-place.result c.loop-argument.left c.loop-argument.argument-index c.args.arguments.now c.argument-item.result (let z = c.if-left-eq0.false in omega arith) (c.behind-place.ensures.row (c.loop-argument.left - 1)) c.loop-argument-test.true c.argument-item.is (c.argument.ensures.sound c.if-not-argument.false) h);
-  down = λ h. (values_first (world (program c.args.self.now.program.now) c.args.self.now.kind) (scope_of (frames c.args.scope.now)).variables c.args.next c.args.self.now.nodes.now c.loop-argument.place c.behind-place.result c.loop-argument.left c.loop-argument.argument-index c.args.arguments.now c.argument-item.result (let z = c.if-left-eq0.false in omega arith) (c.behind-place.ensures.row (c.loop-argument.left - 1)) c.loop-argument-test.true c.argument-item.is (c.loop-argument.invariant.down h)).1;
+  owned = (owned_first c.args.self.now.nodes.now c.args.next c.loop-argument.place c.following-place.result c.loop-argument.left (let z = c.if-left-eq0.false in omega arith) (c.following-place.ensures.row (c.loop-argument.left - 1)) c.loop-argument.invariant.owned).1;
+  up = λ h. c.loop-argument.invariant.up (values_more (world (program c.args.self.now.program.now) c.args.self.now.kind) (scope_of (frames c.args.scope.now)).variables c.args.next c.args.self.now.nodes.now c.loop-argument.place c.following-place.result c.loop-argument.left c.loop-argument.argument-index c.args.arguments.now c.argument-item.result (let z = c.if-left-eq0.false in omega arith) (c.following-place.ensures.row (c.loop-argument.left - 1)) c.loop-argument-test.true c.argument-item.is (c.argument.ensures.sound c.if-not-argument.false) h);
+  down = λ h. (values_first (world (program c.args.self.now.program.now) c.args.self.now.kind) (scope_of (frames c.args.scope.now)).variables c.args.next c.args.self.now.nodes.now c.loop-argument.place c.following-place.result c.loop-argument.left c.loop-argument.argument-index c.args.arguments.now c.argument-item.result (let z = c.if-left-eq0.false in omega arith) (c.following-place.ensures.row (c.loop-argument.left - 1)) c.loop-argument-test.true c.argument-item.is (c.loop-argument.invariant.down h)).1;
 }
 
 pub arguments-returns-clause-complete : goal.arguments-returns-clause-complete

@@ -18,7 +18,7 @@ loop-argument-preserved c = record {
   place = ap (λ k. k + 1) c.loop-argument.invariant.place;
   inside = let l = c.in-Some.ensures.inside in omega arith;
   owned = c.in-Some-passed.ensures.owned;
-  up = λ h. c.loop-argument.invariant.up (passed_up (world (program c.args.self.now.program.now) c.args.self.now.kind) (scope_of (frames c.args.scope.now)) c.args.next c.loop-argument.argument-index c.loop-argument.place c.args.params.now c.in-Some.param c.args.arguments.now c.argument-item.result (parts c.args.self.now.nodes.now c.loop-argument.rest.place c.loop-argument.rest.left) (parts c.args.self.now.nodes.now c.in-Some-passed.behind.place c.in-Some-passed.behind.left) c.loop-argument.invariant.place c.in-Some.ensures.some c.loop-argument-test.true c.argument-item.is c.in-Some-passed.ensures.sound h);
+  up = λ h. c.loop-argument.invariant.up (passed_up (world (program c.args.self.now.program.now) c.args.self.now.kind) (scope_of (frames c.args.scope.now)) c.args.next c.loop-argument.argument-index c.loop-argument.place c.args.params.now c.in-Some.param c.args.arguments.now c.argument-item.result (parts c.args.self.now.nodes.now c.loop-argument.rest.place c.loop-argument.rest.left) (parts c.args.self.now.nodes.now c.in-Some-passed.following.place c.in-Some-passed.following.left) c.loop-argument.invariant.place c.in-Some.ensures.some c.loop-argument-test.true c.argument-item.is c.in-Some-passed.ensures.sound h);
   down = λ h. c.in-Some-passed.ensures.complete (drop (c.loop-argument.argument-index + 1) c.args.params.now) (arguments (drop (c.loop-argument.argument-index + 1) c.args.arguments.now)) (passed_down (world (program c.args.self.now.program.now) c.args.self.now.kind) (scope_of (frames c.args.scope.now)) c.args.next c.loop-argument.argument-index c.loop-argument.place c.args.params.now c.in-Some.param c.args.arguments.now c.argument-item.result (parts c.args.self.now.nodes.now c.loop-argument.rest.place c.loop-argument.rest.left) c.loop-argument.invariant.place c.in-Some.ensures.some c.loop-argument-test.true c.argument-item.is (c.loop-argument.invariant.down h));
 }
 

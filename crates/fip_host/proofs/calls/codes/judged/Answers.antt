@@ -4,7 +4,7 @@ use Rattle.fip_host.proofs.calls.codes.judged.Goals as goal
 pub returns-then-hand_out-clause-is : goal.returns-then-hand_out-clause-is
 returns-then-hand_out-clause-is c =
     let s = c.in-Ok.ensures.sound in
-    verdict_sound c.args.bytes.now c.told.result c.told.ensures.status (record { code = c.in-Ok.verified.code; spelled = s.spelled; sound = s.sound })
+    verdict_sound c.args.bytes.now c.reported.result c.reported.ensures.status (record { code = c.in-Ok.verified.code; spelled = s.spelled; sound = s.sound })
 
 pub returns-then-hand_out-clause-machine : goal.returns-then-hand_out-clause-machine
 returns-then-hand_out-clause-machine c _ = record {

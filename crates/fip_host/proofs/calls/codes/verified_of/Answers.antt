@@ -12,10 +12,10 @@ use Rattle.fip_host.proofs.calls.codes.verified_of.Goals as goal
 pub returns-in-Err-Unsound-clause-verdict : goal.returns-in-Err-Unsound-clause-verdict
 returns-in-Err-Unsound-clause-verdict c v e =
     let w = c.in-Err-Unsound in
-    let t = c.told.ensures in
-    let same : c.told.result ≡ v = cc in
+    let t = c.reported.ensures in
+    let same : c.reported.result ≡ v = cc in
     let least : IsLeast (plain c.in-Ok.code) w.function w.at w.rule = w.ensures.least w.function w.at w.rule (cc) in
-    subst (IsVerdict c.args.bytes.now) same (verdict_unsound c.args.bytes.now c.told.result c.in-Ok.code w.function w.at w.rule t.status t.function t.at (t.rule ∙ c.rule_number.ensures.is) c.in-Ok.ensures.text least)
+    subst (IsVerdict c.args.bytes.now) same (verdict_unsound c.args.bytes.now c.reported.result c.in-Ok.code w.function w.at w.rule t.status t.function t.at (t.rule ∙ c.rule_number.ensures.is) c.in-Ok.ensures.text least)
 
 pub returns-in-Ok-verify-clause-table : goal.returns-in-Ok-verify-clause-table
 returns-in-Ok-verify-clause-table c =

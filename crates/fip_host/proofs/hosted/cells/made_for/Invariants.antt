@@ -1,4 +1,4 @@
--- A word stands behind the others for each credit so far.
+-- A word stands after the others for each credit so far.
 use Rattle.fip_host.specs.Telling.{HasMore}
 use Rattle.fip_host.proofs.hosted.cells.made_for.Given as goal
 

@@ -1,4 +1,4 @@
--- The words of the arguments so far stand behind the others.
+-- The words of the arguments so far stand after the others.
 use Rattle.std.proofs.Common.{◌≡◌, ◌++◌, map, take}
 use Rattle.fip_host.specs.Telling.{argument_word}
 use Rattle.fip_host.proofs.hosted.values.add_words.Given as goal

@@ -2,7 +2,7 @@
 use Rattle.std.proofs.Common.{◌∙◌, Ok, Err, ap, sym, subst}
 use Rattle.cell_trace.specs.Traced.{IsTraced}
 use Rattle.cell_trace.specs.declared.error.TraceError.TheVariants as F
-use Rattle.fip_machine.proofs.Wholes.{has_come, has_told, saw, recorded_ran, has_traced, error_is}
+use Rattle.fip_machine.proofs.Wholes.{has_come, has_reported, saw, recorded_ran, has_traced, error_is}
 use Rattle.fip_machine.proofs.machine.Machine.run_traced.Goals as goal
 
 pub returns-in_ok-trace-in-Value-clause-run : goal.returns-in_ok-trace-in-Value-clause-run
@@ -16,7 +16,7 @@ returns-in_ok-trace-in-Value-clause-gauge c =
     let w = c.run_recorded-ended.new.recorder.store in
     let first = saw c.args.gauge.now c.see.new.self r.cells r.released t.frames t.words c.frames.result c.words.result c.held.result c.see.ensures.lowest c.see.ensures.highest c.see.ensures.frames c.see.ensures.words c.see.ensures.seen c.held.ensures.counts c.frames.ensures.frames c.words.ensures.words in
     let last = saw c.see.new.self c.see-2.new.self w.cells w.released u.most_frames u.most_words c.highest-highest.result.frames c.highest-highest.result.words c.held-2.result c.see-2.ensures.lowest c.see-2.ensures.highest c.see-2.ensures.frames c.see-2.ensures.words c.see-2.ensures.seen c.held-2.ensures.counts c.highest-highest.ensures.frames c.highest-highest.ensures.words in
-    has_told c.args.self c.into_parts-stack.result.0 c.into_parts-stack.result.1 c.in_ok-recorder.recorder.store c.args.calls c.run_recorded-ended.result c.run_recorded-ended.new.stack c.run_recorded-ended.new.recorder.store c.args.gauge.now c.see.new.self c.see-2.new.self c.into_parts-stack.ensures.stack c.into_parts-stack.ensures.store c.into_parts-stack.ensures.pushed c.in_ok-recorder.ensures.same c.frames.ensures.measured (recorded_ran c.into_parts-stack.result.0 c.into_parts-stack.result.1 c.in_ok-recorder.recorder c.run_recorded-ended.new.recorder c.args.calls c.args.limit c.run_recorded-ended.result c.run_recorded-ended.new.stack c.in_ok-recorder.ensures.same c.in_ok-recorder.ensures.loaded c.run_recorded-ended.ensures.run) first last
+    has_reported c.args.self c.into_parts-stack.result.0 c.into_parts-stack.result.1 c.in_ok-recorder.recorder.store c.args.calls c.run_recorded-ended.result c.run_recorded-ended.new.stack c.run_recorded-ended.new.recorder.store c.args.gauge.now c.see.new.self c.see-2.new.self c.into_parts-stack.ensures.stack c.into_parts-stack.ensures.store c.into_parts-stack.ensures.pushed c.in_ok-recorder.ensures.same c.frames.ensures.measured (recorded_ran c.into_parts-stack.result.0 c.into_parts-stack.result.1 c.in_ok-recorder.recorder c.run_recorded-ended.new.recorder c.args.calls c.args.limit c.run_recorded-ended.result c.run_recorded-ended.new.stack c.in_ok-recorder.ensures.same c.in_ok-recorder.ensures.loaded c.run_recorded-ended.ensures.run) first last
 
 pub returns-in_default-clause-run : goal.returns-in_default-clause-run
 returns-in_default-clause-run c = has_come c.args.self c.into_parts-stack.result.0 c.into_parts-stack.result.1 c.in_ok-recorder.recorder.store c.args.calls c.run_recorded-ended.result c.run_recorded-ended.new.stack c.run_recorded-ended.new.recorder.store c.finish-cells.result.0 c.of-machine.result c.into_parts-stack.ensures.stack c.into_parts-stack.ensures.store c.into_parts-stack.ensures.pushed c.in_ok-recorder.ensures.same c.frames.ensures.measured (recorded_ran c.into_parts-stack.result.0 c.into_parts-stack.result.1 c.in_ok-recorder.recorder c.run_recorded-ended.new.recorder c.args.calls c.args.limit c.run_recorded-ended.result c.run_recorded-ended.new.stack c.in_ok-recorder.ensures.same c.in_ok-recorder.ensures.loaded c.run_recorded-ended.ensures.run) c.finish-cells.ensures.same c.of-machine.ensures.stack c.of-machine.ensures.store
@@ -29,7 +29,7 @@ returns-in_default-clause-gauge c =
     let w = c.run_recorded-ended.new.recorder.store in
     let first = saw c.args.gauge.now c.see.new.self r.cells r.released t.frames t.words c.frames.result c.words.result c.held.result c.see.ensures.lowest c.see.ensures.highest c.see.ensures.frames c.see.ensures.words c.see.ensures.seen c.held.ensures.counts c.frames.ensures.frames c.words.ensures.words in
     let last = saw c.see.new.self c.see-2.new.self w.cells w.released u.most_frames u.most_words c.highest-highest.result.frames c.highest-highest.result.words c.held-2.result c.see-2.ensures.lowest c.see-2.ensures.highest c.see-2.ensures.frames c.see-2.ensures.words c.see-2.ensures.seen c.held-2.ensures.counts c.highest-highest.ensures.frames c.highest-highest.ensures.words in
-    has_told c.args.self c.into_parts-stack.result.0 c.into_parts-stack.result.1 c.in_ok-recorder.recorder.store c.args.calls c.run_recorded-ended.result c.run_recorded-ended.new.stack c.run_recorded-ended.new.recorder.store c.args.gauge.now c.see.new.self c.see-2.new.self c.into_parts-stack.ensures.stack c.into_parts-stack.ensures.store c.into_parts-stack.ensures.pushed c.in_ok-recorder.ensures.same c.frames.ensures.measured (recorded_ran c.into_parts-stack.result.0 c.into_parts-stack.result.1 c.in_ok-recorder.recorder c.run_recorded-ended.new.recorder c.args.calls c.args.limit c.run_recorded-ended.result c.run_recorded-ended.new.stack c.in_ok-recorder.ensures.same c.in_ok-recorder.ensures.loaded c.run_recorded-ended.ensures.run) first last
+    has_reported c.args.self c.into_parts-stack.result.0 c.into_parts-stack.result.1 c.in_ok-recorder.recorder.store c.args.calls c.run_recorded-ended.result c.run_recorded-ended.new.stack c.run_recorded-ended.new.recorder.store c.args.gauge.now c.see.new.self c.see-2.new.self c.into_parts-stack.ensures.stack c.into_parts-stack.ensures.store c.into_parts-stack.ensures.pushed c.in_ok-recorder.ensures.same c.frames.ensures.measured (recorded_ran c.into_parts-stack.result.0 c.into_parts-stack.result.1 c.in_ok-recorder.recorder c.run_recorded-ended.new.recorder c.args.calls c.args.limit c.run_recorded-ended.result c.run_recorded-ended.new.stack c.in_ok-recorder.ensures.same c.in_ok-recorder.ensures.loaded c.run_recorded-ended.ensures.run) first last
 
 pub returns-in_ok-trace-in-Value-clause-traced : goal.returns-in_ok-trace-in-Value-clause-traced
 returns-in_ok-trace-in-Value-clause-traced c = has_traced c.args.self c.into_parts-stack.result.0 c.into_parts-stack.result.1 c.in_ok-recorder.recorder c.run_recorded-ended.new.recorder c.args.calls c.args.limit c.run_recorded-ended.result c.run_recorded-ended.new.stack (Ok c.in_ok-trace-in-Value.field-0) c.into_parts-stack.ensures.stack c.into_parts-stack.ensures.store c.into_parts-stack.ensures.pushed c.in_ok-recorder.ensures.same c.frames.ensures.measured c.in_ok-recorder.ensures.loaded c.run_recorded-ended.ensures.run (λ cs es n l t. subst (IsTraced cs es n l) c.in_ok-trace-in-Value.was (c.finish-cells.ensures.traced cs es n l t)) c.in-Value.is

@@ -27,27 +27,27 @@ loop-left-preserved g c =
     let us = c.burst-pause.new.words in
     let after = c.burst-pause.new.cursor in
     let beside = c.burst-pause.new.beside in
-    let told = c.burst-pause.ensures in
+    let reported = c.burst-pause.ensures in
     let all = with_items c.make_room.new.words us in
     let items : all.items ≡ us = with_items_is c.make_room.new.words us (search rules) in
     let s = stored (g.C.Cells.cells c.loop-left.cells) (g.C.Cells.released c.loop-left.cells) (g.C.Cells.pushed c.loop-left.cells) in
     let w = stored (g.C.Cells.cells c.burst-pause.new.cells) (g.C.Cells.released c.burst-pause.new.cells) (g.C.Cells.pushed c.burst-pause.new.cells) in
     record {
       task = record {
-        placed = subst (λ (xs : List ℕ). IsPlaced v b (length xs) after) (sym items) told.placed;
-        waiting = subst (λ (xs : List ℕ). Waiting v b xs after.frames after.base) (sym items) told.waiting;
+        placed = subst (λ (xs : List ℕ). IsPlaced v b (length xs) after) (sym items) reported.placed;
+        waiting = subst (λ (xs : List ℕ). Waiting v b xs after.frames after.base) (sym items) reported.waiting;
         most = inv.task.most;
         small = inv.task.small;
-        beside = subst (λ n. b.largest ≤ n) (sym told.spare) inv.task.beside;
+        beside = subst (λ n. b.largest ≤ n) (sym reported.spare) inv.task.beside;
         taken = (let t = inv.task.taken in let m = c.make_room.ensures.taken in omega (arith, t, m));
-        high = told.high;
+        high = reported.high;
         over = inv.task.over;
       };
       going = inv.going;
       code = inv.code;
       along = λ o a.
           let before : IsAlong o (task_of v b c.as_mut_slice.result.now i.cursor i.beside) s c.loop-left.left = subst (λ (t : Stand). IsAlong o t s c.loop-left.left) (sym (task_same v b i.words.items c.make_room.new.words.items i.cursor i.beside inv.task.placed.room c.make_room.ensures.more c.make_room.ensures.keeps) ∙ sym (λ j. task_of v b (c.as_mut_slice.ensures.value j) i.cursor i.beside)) (inv.along o a) in
-          subst (λ (xs : List ℕ). IsAlong o (task_of v b xs after beside) w c.burst-pause.new.left) (sym items) (paused_along o c.burst-pause.result (task_of v b us after beside) w c.burst-pause.new.left c.in_default.not-Over (told.along o before));
+          subst (λ (xs : List ℕ). IsAlong o (task_of v b xs after beside) w c.burst-pause.new.left) (sym items) (paused_along o c.burst-pause.result (task_of v b us after beside) w c.burst-pause.new.left c.in_default.not-Over (reported.along o before));
     }
 
 pub returns-in-Over : goal.returns-in-Over

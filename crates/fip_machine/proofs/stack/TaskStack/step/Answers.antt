@@ -8,7 +8,7 @@ use Rattle.machine_cells.specs.Small.{store_of}
 use Rattle.machine_cells.specs.Counting.{CountsReleased}
 use Rattle.machine_step.specs.View.{state_of}
 use Rattle.machine_step.specs.Coming.{Comes, KnowsAt}
-use Rattle.machine_step.specs.Telling.{IsKnown, next_tells}
+use Rattle.machine_step.specs.Telling.{IsKnown, next_reports}
 use Rattle.machine_step.proofs.Highs.{high_raised}
 use Rattle.fip_machine.specs.Tasks.{Stand, IsMeasured, state_with}
 use Rattle.fip_machine.proofs.Measured.{measured_of}
@@ -41,9 +41,9 @@ returns-clause-next g c kinds known going small empty lent =
     let old = state_of v b lent s ws cursor in
     let mid = c.as_mut_slice.result.now in
     let knows : KnowsAt v kinds cursor.function cursor.at = subst (λ (w : Stand). KnowsAt w.code kinds w.running.function w.running.at) (sym c.self.view_is) known in
-    let told = c.advance-stepped.ensures.next kinds knows refl small empty lent in
+    let reported = c.advance-stepped.ensures.next kinds knows refl small empty lent in
     let same : state_of v b lent s mid cursor ≡ old = ap (λ xs. state_of v b lent s xs cursor) c.as_mut_slice.ensures.value ∙ room_same v b lent s ws c.make_room.new.words.items cursor c.self.invariant.placed.room c.make_room.ensures.more c.make_room.ensures.keeps in
-    let first = subst (λ (st : State). Comes st (next kinds (plain v.code) st) r (state_of v b lent t us after) given) same told in
+    let first = subst (λ (st : State). Comes st (next kinds (plain v.code) st) r (state_of v b lent t us after) given) same reported in
     let items : (with_items c.make_room.new.words us).items ≡ us = with_items_is c.make_room.new.words us (search rules) in
     let second = subst (λ (xs : List ℕ). Comes old (next kinds (plain v.code) old) r (state_of v b lent t xs after) given) (sym items) first in
     subst (λ (w : Stand). Comes (state_with w lent s) (next kinds (plain w.code.code) (state_with w lent s)) r (state_of v b lent t (with_items c.make_room.new.words us).items after) given) c.self.view_is second
@@ -67,8 +67,8 @@ returns-clause-measured g c =
     let m = measured_of i.verified.now i.bounds all.items after c.advance-stepped.new.beside room waiting (high_raised i.cursor after (c.advance-stepped.ensures.raised c.self.invariant.high)) in
     record { frames = m.frames; words = m.words; most_frames = m.most_frames; most_words = m.most_words }
 
-pub returns-clause-told : goal.returns-clause-told
-returns-clause-told g c kinds lent known going small empty goes first ts told =
+pub returns-clause-reported : goal.returns-clause-reported
+returns-clause-reported g c kinds lent known going small empty goes first ts reported =
     let i = c.self.inside in
     let v = i.verified.now in
     let b = i.bounds in
@@ -80,9 +80,9 @@ returns-clause-told g c kinds lent known going small empty goes first ts told =
     let knows : KnowsAt v kinds cursor.function cursor.at = subst (λ (w : Stand). KnowsAt w.code kinds w.running.function w.running.at) (sym c.self.view_is) known in
     let next_is : IsKnown (next kinds (plain v.code) old) = subst (λ (w : Stand). IsKnown (next kinds (plain w.code.code) (state_with w lent s))) (sym c.self.view_is) goes in
     let same : state_of v b lent s mid cursor ≡ old = ap (λ xs. state_of v b lent s xs cursor) c.as_mut_slice.ensures.value ∙ room_same v b lent s ws c.make_room.new.words.items cursor c.self.invariant.placed.room c.make_room.ensures.more c.make_room.ensures.keeps in
-    let done = c.advance-stepped.ensures.told kinds lent knows refl small empty (subst (λ (st : State). IsKnown (next kinds (plain v.code) st)) (sym same) next_is) first ts told in
-    let here = subst (λ (st : State). g.C.Cells.was_told first (ts ++ next_tells kinds (plain v.code) st) c.advance-stepped.new.cells) same done in
-    subst (λ (w : Stand). g.C.Cells.was_told first (ts ++ next_tells kinds (plain w.code.code) (state_with w lent s)) c.advance-stepped.new.cells) c.self.view_is here
+    let done = c.advance-stepped.ensures.reported kinds lent knows refl small empty (subst (λ (st : State). IsKnown (next kinds (plain v.code) st)) (sym same) next_is) first ts reported in
+    let here = subst (λ (st : State). g.C.Cells.was_reported first (ts ++ next_reports kinds (plain v.code) st) c.advance-stepped.new.cells) same done in
+    subst (λ (w : Stand). g.C.Cells.was_reported first (ts ++ next_reports kinds (plain w.code.code) (state_with w lent s)) c.advance-stepped.new.cells) c.self.view_is here
 
 pub returns-in-Some-clause-counted : goal.returns-in-Some-clause-counted
 returns-in-Some-clause-counted g c k low high few = refl

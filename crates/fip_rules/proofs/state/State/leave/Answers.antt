@@ -1,6 +1,6 @@
 use Rattle.std.proofs.Common.{rules, ap, ◌∙◌, length, ◌-◌}
 use Rattle.fip_rules.specs.Stands.{left_to}
-use Rattle.fip_rules.proofs.Laws.{left_twice}
+use Rattle.fip_rules.proofs.Theorems.{left_twice}
 use Rattle.fip_rules.proofs.state.State.leave.Goals as goal
 
 pub loop-self-preserved : goal.loop-self-preserved

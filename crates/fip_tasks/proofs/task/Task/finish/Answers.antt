@@ -1,4 +1,4 @@
--- The turns to the next call, behind those before.
+-- The turns to the next call, after those before.
 use Rattle.fip_tasks.specs.Landing.{standing}
 use Rattle.fip_tasks.proofs.Landings.{goes_far}
 use Rattle.fip_tasks.proofs.task.Task.finish.Goals as goal

@@ -11,7 +11,7 @@ pub returns : goal.returns
 returns c =
     let t = standing c.args.self.now in
     record {
-      tells = record {
+      reports = record {
         lowest = λ k low high.
             let j : k - 1 < MOST_FIELDS = omega (arith, low, high) in
             let e : k - 1 + 1 ≡ k = omega (arith, low) in

@@ -1,4 +1,4 @@
--- One turn more, behind those that were no calls.
+-- One turn more, after those that were no calls.
 use Rattle.std.proofs.Common.{◌∙◌}
 use Rattle.fip_tasks.specs.Landing.{standing}
 use Rattle.fip_tasks.proofs.Landings.{goes_on}

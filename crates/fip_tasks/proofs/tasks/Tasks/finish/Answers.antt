@@ -25,8 +25,8 @@ returns-clause-followed c v kinds first schedule followed can =
     let there : c.args.k < length ts = within ts c.args.k (subst (λ (t : Turns). c.args.k < length t.tasks) (sym c.self.view_is) c.requires.there) in
     turns_followed v kinds first schedule ts before c.finish.new.cells c.args.k c.index_mut.result.now c.finish.new.self h can (read_at ts c.args.k c.index_mut.result.now there c.index_mut.ensures.value) c.finish.ensures.goes
 
-pub returns-clause-told : goal.returns-clause-told
-returns-clause-told c a is =
+pub returns-clause-reported : goal.returns-clause-reported
+returns-clause-reported c a is =
     ap (λ (t : Standing). t.ended) (sym (is_set c.self.inside.tasks.items c.args.k c.finish.new.self a (within c.self.inside.tasks.items c.args.k (subst (λ (t : Turns). c.args.k < length t.tasks) (sym c.self.view_is) c.requires.there)) is)) ∙ c.finish.ensures.ended
 
 pub returns-clause-counted : goal.returns-clause-counted

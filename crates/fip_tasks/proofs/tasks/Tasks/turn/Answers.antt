@@ -25,9 +25,9 @@ returns-clause-followed c v kinds first schedule followed can =
     let there : c.args.k < length ts = within ts c.args.k (subst (λ (t : Turns). c.args.k < length t.tasks) (sym c.self.view_is) c.requires.there) in
     turn_followed v kinds first schedule ts before c.turn.new.cells c.args.k c.index_mut.result.now c.turn.new.self h can (read_at ts c.args.k c.index_mut.result.now there c.index_mut.ensures.value) c.turn.ensures.lands
 
-pub returns-clause-told : goal.returns-clause-told
-returns-clause-told c a is =
-    c.turn.ensures.told ∙ ap (λ (t : Standing). turned_by t.ended) (is_set c.self.inside.tasks.items c.args.k c.turn.new.self a (within c.self.inside.tasks.items c.args.k (subst (λ (t : Turns). c.args.k < length t.tasks) (sym c.self.view_is) c.requires.there)) is)
+pub returns-clause-reported : goal.returns-clause-reported
+returns-clause-reported c a is =
+    c.turn.ensures.reported ∙ ap (λ (t : Standing). turned_by t.ended) (is_set c.self.inside.tasks.items c.args.k c.turn.new.self a (within c.self.inside.tasks.items c.args.k (subst (λ (t : Turns). c.args.k < length t.tasks) (sym c.self.view_is) c.requires.there)) is)
 
 pub returns-clause-counted : goal.returns-clause-counted
 returns-clause-counted c a b old new =

@@ -35,13 +35,13 @@ missing_at-returns-in_ok-parts-in-Some-clause-missing t c =
 
 pub missing_fields-loop-j-preserved : goal.missing_fields-loop-j-preserved
 missing_fields-loop-j-preserved t c =
-    let frame : Frame = record { head = c.args.head; before = c.in_ok-before.before; behind = c.in_ok-behind.behind } in
+    let frame : Frame = record { head = c.args.head; before = c.in_ok-before.before; following = c.in_ok-following.following } in
     let kept = c.loop-j.invariant.kept in
     let before = c.in_ok-before.ensures ∙ ap (λ z. all_known (parts z)) c.deref.ensures.value in
     record {
       kept = popped c.args.at.now.items c.loop-j.at.items c.push.new.self.items c.missing_at.new.at.items c.pop.new.self.items c.missing_at.new.at.len frame kept c.in_ok-push.ensures.items c.in_ok-part.ensures.kept (let k = c.missing_at.new.at.ok in omega (arith, k)) c.pop.ensures.rest;
       count = ap length c.in_ok-push-2.ensures.items ∙ count_more c.loop-j.parts.items c.in_ok-part.part ∙ ap (λ z. z + 1) c.loop-j.invariant.count;
-      found = field_found c.args.self.now.types.now (rows c.args.self.now.rows.now) c.args.at.now.items c.loop-j.at.items c.push.new.self.items frame c.args.head c.args.fields.now (lent_rows c.args.here.now) c.in_ok-below.below.items c.deref-in-loop-j.result.now c.loop-j.parts.items c.push-in-loop-j.new.self.items c.in_ok-part.part c.loop-j.j _ kept c.in_ok-push.ensures.items c.in_ok-push-2.ensures.items c.loop-j.invariant.count (search rules) (search rules) refl before (c.in_ok-behind.ensures ∙ ap open_fields c.behind.ensures) c.in_ok-below.ensures c.deref-in-loop-j.ensures.value c.in_ok-part.ensures.missing c.loop-j.invariant.found;
+      found = field_found c.args.self.now.types.now (rows c.args.self.now.rows.now) c.args.at.now.items c.loop-j.at.items c.push.new.self.items frame c.args.head c.args.fields.now (lent_rows c.args.here.now) c.in_ok-below.below.items c.deref-in-loop-j.result.now c.loop-j.parts.items c.push-in-loop-j.new.self.items c.in_ok-part.part c.loop-j.j _ kept c.in_ok-push.ensures.items c.in_ok-push-2.ensures.items c.loop-j.invariant.count (search rules) (search rules) refl before (c.in_ok-following.ensures ∙ ap open_fields c.following.ensures) c.in_ok-below.ensures c.deref-in-loop-j.ensures.value c.in_ok-part.ensures.missing c.loop-j.invariant.found;
     }
 
 pub missing_fields-returns-clause-missing : goal.missing_fields-returns-clause-missing

@@ -34,7 +34,7 @@ returns-clause-leads c = λ p a i n h.
     let z : e.calls ≡ suc c.in-Some.left = grind (arith, common_steps) in
     let found = slice_get-get_or e.instances.now g d c.in-Some-get.ensures.lookup.3.0 ∙ ap Some (sym c.in-Some-get.ensures.lookup.1) in
     let en = c.in_ok-enter.ensures in
-    call_leads p e c.enter.new.self g c.in-Some.left c.in-Some-frames_of.free (instance_of d) d.body a z c.in-Some-frames_of.ensures.some (instance_there instance_of e.instances.now p.instances g d i found) refl en.waiting en.calls en.frames en.tail en.given en.behind en.keeps en.covers h
+    call_leads p e c.enter.new.self g c.in-Some.left c.in-Some-frames_of.free (instance_of d) d.body a z c.in-Some-frames_of.ensures.some (instance_there instance_of e.instances.now p.instances g d i found) refl en.waiting en.calls en.frames en.tail en.given en.following en.keeps en.covers h
 
 pub returns-clause-less : goal.returns-clause-less
 returns-clause-less c =

@@ -5,7 +5,7 @@ use Rattle.std.proofs.lemmas.Option.{slice_get_read}
 use Rattle.fip_tasks.specs.Turns.{CanStart}
 use Rattle.fip_tasks.specs.declared.task.Start.{Start}
 use Rattle.task_lines.specs.declared.task_line.TaskLine.{TaskLine}
-use Rattle.task_lines.proofs.Starting.{AreStarting, starting, starting_on, ready, left_at, none_behind}
+use Rattle.task_lines.proofs.Starting.{AreStarting, starting, starting_on, ready, left_at, none_after}
 use Rattle.task_lines.proofs.list.TaskList.starts.Goals as goal
 
 pub loop-line-init : goal.loop-line-init
@@ -34,4 +34,4 @@ pub returns-clause-ready : goal.returns-clause-ready
 returns-clause-ready c = λ ok empty cs lines.
     let ts : List TaskLine = c.args.self.now.lines.items in
     let end : length ts ≤ c.loop-line.line-index = subst (λ (xs : List TaskLine). length xs ≤ c.loop-line.line-index) c.as_slice-line-items.ensures.value c.loop-line-test.false in
-    ready c.args.verified.now.code c.args.limits cs c.args.loader c.loop-line.loader (drop c.loop-line.line-index ts) c.loop-line.starts.items empty (none_behind ts c.loop-line.line-index end) c.left-left.ensures.flags c.left-left.ensures.sized c.left-left.ensures.of_cells (c.loop-line.invariant.starting ok cs lines)
+    ready c.args.verified.now.code c.args.limits cs c.args.loader c.loop-line.loader (drop c.loop-line.line-index ts) c.loop-line.starts.items empty (none_after ts c.loop-line.line-index end) c.left-left.ensures.flags c.left-left.ensures.sized c.left-left.ensures.of_cells (c.loop-line.invariant.starting ok cs lines)

@@ -1,6 +1,0 @@
-use Rattle.session_lines.proofs.Writing.{AreDigits}
-use Rattle.session_lines.proofs.scan.behind_digits.Given as goal
-
--- what stood before is digits
-abbrev pub invariant-loop-i : goal.invariant-loop-i
-invariant-loop-i l = AreDigits l.bytes l.at l.i

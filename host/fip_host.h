@@ -179,41 +179,42 @@ size_t fip_functions(FipMachine *machine);
  * same, found, first, none. */
 uint32_t fip_find(FipMachine *machine, const char *name, size_t name_size, size_t *number);
 
-/* What a function has. Status 12: there is none of this number. The machine stays as it is. Proved: same, tells,
- * none. */
+/* What a function has. Status 12: there is none of this number. The machine stays as it is. Proved: same,
+ * reports, none. */
 uint32_t fip_function(FipMachine *machine, size_t number, FipFunction *function);
 
 /* The name of a function: how many bytes it has; as much of it as fits is written to `out`. Status 12: there is
- * none of this number. The machine stays as it is. Proved: same, tells, none. */
+ * none of this number. The machine stays as it is. Proved: same, reports, none. */
 uint32_t fip_name(FipMachine *machine, size_t number, char *out, size_t out_size, size_t *length);
 
-/* A parameter of a function, from 0. Status 12: there is none. The machine stays as it is. Proved: same, tells,
- * none. */
+/* A parameter of a function, from 0. Status 12: there is none. The machine stays as it is. Proved: same,
+ * reports, none. */
 uint32_t fip_parameter(FipMachine *machine, size_t number, size_t i, FipParameter *parameter);
 
 /* The type of a result of a function, from 0. Status 12: there is none. The machine stays as it is. Proved:
- * same, tells, none. */
+ * same, reports, none. */
 uint32_t fip_result_type(FipMachine *machine, size_t number, size_t i, uint32_t *type_number);
 
 /* The size of the cell of a credit of a function, from 0. Status 12: there is none. The machine stays as it is.
- * Proved: same, tells, none. */
+ * Proved: same, reports, none. */
 uint32_t fip_credit(FipMachine *machine, size_t number, size_t i, uint8_t *size);
 
 /* The number of data types of the code; they count from 1. The machine stays as it is. Proved: number, same. */
 size_t fip_types(FipMachine *machine);
 
 /* A constructor of a type, from 0: how many fields it has, and how many bytes its name; as much of the name as
- * fits is written to `out`. Status 12: there is none. The machine stays as it is. Proved: same, tells, none. */
+ * fits is written to `out`. Status 12: there is none. The machine stays as it is. Proved: same, reports, none. */
 uint32_t fip_constructor(FipMachine *machine, uint32_t type_number, size_t i, size_t *fields, char *out,
                          size_t out_size, size_t *length);
 
 /* The type of a field of a constructor, each from 0. Status 12: there is none. The machine stays as it is.
- * Proved: same, tells, none. */
+ * Proved: same, reports, none. */
 uint32_t fip_field_type(FipMachine *machine, uint32_t type_number, size_t i, size_t field, uint32_t *field_type);
 
-/* The bytes of memory that a store of so many words, with room for so many kept values, and a run of a function
- * with so many frames take at the most, by functions for memory that add at most 32 bytes to each block. Status
- * 12: there is no such function. The machine stays as it is. Proved: same, tells, none. */
+/* The bytes of memory that are reckoned for a store of so many words, with room for so many kept values, and for
+ * a run of a function with so many frames, by functions for memory that add at most 32 bytes to each block: a
+ * formula, which is enough as tests show. Status 12: there is no such function. The machine stays as it is.
+ * Proved: same, reports, none. */
 uint32_t fip_need(FipMachine *machine, size_t number, size_t words, size_t kept, uint64_t frames, FipNeed *need);
 
 /* The store and its cells */
@@ -230,15 +231,15 @@ uint32_t fip_store(FipMachine *machine, size_t words, size_t kept);
  * range, same. */
 uint32_t fip_cell(FipMachine *machine, uint32_t tag, const uint64_t *fields, size_t fields_count, uint64_t *word);
 
-/* The cell that a word names. Status 12: it names none. The machine stays as it is. Proved: same, tells, none. */
+/* The cell that a word names. Status 12: it names none. The machine stays as it is. Proved: same, reports, none. */
 uint32_t fip_cell_at(FipMachine *machine, uint64_t word, FipCell *cell);
 
 /* The word of a field, from 0, of the cell that a word names. Status 12: there is no such cell or field. The
- * machine stays as it is. Proved: same, tells, none. */
+ * machine stays as it is. Proved: same, reports, none. */
 uint32_t fip_field(FipMachine *machine, uint64_t word, size_t i, uint64_t *field);
 
-/* The word of the cell behind the one that a word names; of the first cell where the word names none, as 0 does.
- * Status 12: no further cell is there. The machine stays as it is. Proved: same, tells, none. */
+/* The word of the cell after the one that a word names; of the first cell where the word names none, as 0 does.
+ * Status 12: no further cell is there. The machine stays as it is. Proved: same, reports, none. */
 uint32_t fip_next(FipMachine *machine, uint64_t word, uint64_t *next);
 
 /* The number of cells of a size that aren't released. The machine stays as it is. Proved: same, is. */
@@ -267,8 +268,8 @@ uint32_t fip_start(FipMachine *machine, size_t number, const uint64_t *arguments
 uint32_t fip_start_text(FipMachine *machine, size_t number, const char *text, size_t text_size, uint64_t frames,
                         FipLoaded *loaded);
 
-/* Does one instruction of the run, and tells where it is then. It takes no memory. Once the run has ended, it
- * tells the same again and changes nothing. Proved: code, steps, idle, status, memory. */
+/* Does one instruction of the run, and reports where it is then. It takes no memory. Once the run has ended, it
+ * reports the same again and changes nothing. Proved: code, steps, idle, status, memory. */
 uint32_t fip_step(FipMachine *machine, FipEnd *end);
 
 /* Runs to the end, with so many calls: the entry takes one, and each Call and Tail one. It takes no memory.
@@ -284,7 +285,7 @@ uint32_t fip_end(FipMachine *machine, FipEnd *end);
 size_t fip_results(FipMachine *machine);
 
 /* The word of a result, from 0. Status 13: there are no results; 12: there is none of this number. The machine
- * stays as it is. Proved: same, tells, none, closed. */
+ * stays as it is. Proved: same, reports, none, closed. */
 uint32_t fip_result(FipMachine *machine, size_t i, uint64_t *word);
 
 /* Prints the results, a line each: how many bytes the text has; as much of it as fits is written to `out`. It
@@ -294,7 +295,7 @@ uint32_t fip_print_results(FipMachine *machine, char *out, size_t out_size, size
 
 /* The gauge of the run: the numbers of cells of a size, from 1 to 16, and the most of the stack, where the run
  * began and where calls of `fip_run` ended. Status 12: another size. The machine stays as it is. Proved: same,
- * tells, none. */
+ * reports, none. */
 uint32_t fip_gauge(FipMachine *machine, size_t size, FipGauge *gauge);
 
 /* Values that are kept from run to run, and their text */
@@ -304,7 +305,7 @@ uint32_t fip_gauge(FipMachine *machine, size_t size, FipGauge *gauge);
  * few numbers are free. Proved: code, task, store, taken, same. */
 uint32_t fip_keep(FipMachine *machine, size_t *numbers, size_t numbers_count, size_t *count);
 
-/* What is kept under a number. Status 12: nothing is. The machine stays as it is. Proved: same, tells, none. */
+/* What is kept under a number. Status 12: nothing is. The machine stays as it is. Proved: same, reports, none. */
 uint32_t fip_kept(FipMachine *machine, size_t number, FipKept *kept);
 
 /* Releases the cells of a kept value, whose number is free from then on. It takes no memory. Status 12: nothing

@@ -30,7 +30,6 @@ use Rattle.cell_lower.proofs.Sided.{widened_again, never_built}
 use Rattle.cell_lower.proofs.Arriving.{wide_credit as wide_credit_of}
 use Rattle.cell_lower.proofs.Going.{none_of_one as one_true}
 use Rattle.lower_frame.proofs.Meeting.{there_or as some_or_nothing}
-pub use Rattle.cell_lower.proofs.Leaving.{less_on}
 
 -- of a register
 
@@ -172,6 +171,15 @@ pub record Less (k l : Known) : Type 0 where
 
 pub less_same : (k : Known) → Less k k
 less_same k = record { held = λ r. inl refl; names = λ x r e. e; grows = omega arith; many = refl; accounts = λ a. a }
+
+pub less_on : (k l m : Known) → Less k l → Less l m → Less k m
+less_on k l m a b = record {
+  held = λ r. less_then (held_at k.held r) (held_at l.held r) (held_at m.held r) (a.held r) (b.held r);
+  names = λ x r e. a.names x r (b.names x r e);
+  grows = let x = a.grows in let y = b.grows in omega (arith, x, y);
+  many = b.many ∙ a.many;
+  accounts = λ x. b.accounts (a.accounts x);
+}
 
 pub reaching_accounted : (k : Known) (n : ℕ) → k.next ≤ n → Accounted k → Accounted (reaching k n)
 reaching_accounted k n le a = record { fresh = λ r h more e. a.fresh r h (omega (arith, le, more)) e; credits = a.credits; sizes = a.sizes }

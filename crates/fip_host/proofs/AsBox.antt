@@ -12,7 +12,7 @@ use Rattle.fip_host.specs.contracts.handle.parts.Parts as Parts
 use Rattle.fip_host.specs.contracts.handle.Handle as Handle
 
 abbrev pub E : Bx
-E = record { row = Hosted.the_row; theorems = hosted.the_row_theorems; al = record { row = Heap.the_row; theorems = heap.the_row_theorems; g = ghosts; d = dict; drops = impl [] tnil dnil } }
+E = record { row = Hosted.the_row; laws = hosted.the_row_laws; al = record { row = Heap.the_row; laws = heap.the_row_laws; g = ghosts; d = dict; drops = impl [] tnil dnil } }
 
 abbrev pub FromParts : Slot 0
 FromParts = plain (λ _. Parts.the_row Hosted.the_row Heap.the_row ghosts)

@@ -54,7 +54,7 @@ pub fn typed_of(alloc: Global, source: &[u8]) -> Result<Typed, Failure>
 
 // How a source is reported that a phase gives nothing of: its report, with the line and the column of its offset.
 fn failure_of(source: &[u8], error: PhaseError) -> Failure
-    ensures as_reported { Says source.now error → IsRefusedBy (IsReport source.now) result }
+    ensures reported { Says source.now error → IsRefusedBy (IsReport source.now) result }
     ensures early { Says source.now error → IsUnmatched source.now error →
         IsRefusedBy (IsEarlyReport source.now) result }
     ensures stage { IsOfSource result }

@@ -10,7 +10,7 @@ use Rattle.command_source.proofs.Reported.{report_keeps}
 use Rattle.command_source.proofs.phases.lawful.Goals as goal
 
 pub returns-in-Err-clause-kept : goal.returns-in-Err-clause-kept
-returns-in-Err-clause-kept c = λ w. report_keeps c.args.source.now w c.failure_of.result (c.failure_of.ensures.as_reported c.in-Err.ensures.reported)
+returns-in-Err-clause-kept c = λ w. report_keeps c.args.source.now w c.failure_of.result (c.failure_of.ensures.reported c.in-Err.ensures.reported)
 
 pub returns-in-Ok-clause-code : goal.returns-in-Ok-clause-code
 returns-in-Ok-clause-code c = headed (program c.in-Ok.lowered.typed.program) c.in-Ok.lowered.code c.in-Ok.lowered.groups c.in-Ok.ensures.groups c.in-Ok.ensures.types c.in-Ok.ensures.functions c.in-Ok.ensures.lowered c.in-Ok.ensures.bounded

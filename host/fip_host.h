@@ -173,49 +173,51 @@ uint32_t fip_verify(const uint8_t *bytes, size_t bytes_size, FipMachine *machine
 void fip_free(FipMachine machine);
 
 /* The number of functions of the code. The machine stays as it is. Proved: number, same. */
-size_t fip_functions(FipMachine *machine);
+size_t fip_functions(const FipMachine *machine);
 
 /* The number of the first function of a name. Status 12: there is none. The machine stays as it is. Proved:
  * same, found, first, none. */
-uint32_t fip_find(FipMachine *machine, const char *name, size_t name_size, size_t *number);
+uint32_t fip_find(const FipMachine *machine, const char *name, size_t name_size, size_t *number);
 
 /* What a function has. Status 12: there is none of this number. The machine stays as it is. Proved: same,
  * reports, none. */
-uint32_t fip_function(FipMachine *machine, size_t number, FipFunction *function);
+uint32_t fip_function(const FipMachine *machine, size_t number, FipFunction *function);
 
 /* The name of a function: how many bytes it has; as much of it as fits is written to `out`. Status 12: there is
  * none of this number. The machine stays as it is. Proved: same, reports, none. */
-uint32_t fip_name(FipMachine *machine, size_t number, char *out, size_t out_size, size_t *length);
+uint32_t fip_name(const FipMachine *machine, size_t number, char *out, size_t out_size, size_t *length);
 
 /* A parameter of a function, from 0. Status 12: there is none. The machine stays as it is. Proved: same,
  * reports, none. */
-uint32_t fip_parameter(FipMachine *machine, size_t number, size_t i, FipParameter *parameter);
+uint32_t fip_parameter(const FipMachine *machine, size_t number, size_t i, FipParameter *parameter);
 
 /* The type of a result of a function, from 0. Status 12: there is none. The machine stays as it is. Proved:
  * same, reports, none. */
-uint32_t fip_result_type(FipMachine *machine, size_t number, size_t i, uint32_t *type_number);
+uint32_t fip_result_type(const FipMachine *machine, size_t number, size_t i, uint32_t *type_number);
 
 /* The size of the cell of a credit of a function, from 0. Status 12: there is none. The machine stays as it is.
  * Proved: same, reports, none. */
-uint32_t fip_credit(FipMachine *machine, size_t number, size_t i, uint8_t *size);
+uint32_t fip_credit(const FipMachine *machine, size_t number, size_t i, uint8_t *size);
 
 /* The number of data types of the code; they count from 1. The machine stays as it is. Proved: number, same. */
-size_t fip_types(FipMachine *machine);
+size_t fip_types(const FipMachine *machine);
 
 /* A constructor of a type, from 0: how many fields it has, and how many bytes its name; as much of the name as
  * fits is written to `out`. Status 12: there is none. The machine stays as it is. Proved: same, reports, none. */
-uint32_t fip_constructor(FipMachine *machine, uint32_t type_number, size_t i, size_t *fields, char *out,
+uint32_t fip_constructor(const FipMachine *machine, uint32_t type_number, size_t i, size_t *fields, char *out,
                          size_t out_size, size_t *length);
 
 /* The type of a field of a constructor, each from 0. Status 12: there is none. The machine stays as it is.
  * Proved: same, reports, none. */
-uint32_t fip_field_type(FipMachine *machine, uint32_t type_number, size_t i, size_t field, uint32_t *field_type);
+uint32_t fip_field_type(const FipMachine *machine, uint32_t type_number, size_t i, size_t field,
+                        uint32_t *field_type);
 
 /* The bytes of memory that are reckoned for a store of so many words, with room for so many kept values, and for
  * a run of a function with so many frames, by functions for memory that add at most 32 bytes to each block: a
  * formula, which is enough as tests show. Status 12: there is no such function. The machine stays as it is.
  * Proved: same, reports, none. */
-uint32_t fip_need(FipMachine *machine, size_t number, size_t words, size_t kept, uint64_t frames, FipNeed *need);
+uint32_t fip_need(const FipMachine *machine, size_t number, size_t words, size_t kept, uint64_t frames,
+                  FipNeed *need);
 
 /* The store and its cells */
 
@@ -232,18 +234,18 @@ uint32_t fip_store(FipMachine *machine, size_t words, size_t kept);
 uint32_t fip_cell(FipMachine *machine, uint32_t tag, const uint64_t *fields, size_t fields_count, uint64_t *word);
 
 /* The cell that a word names. Status 12: it names none. The machine stays as it is. Proved: same, reports, none. */
-uint32_t fip_cell_at(FipMachine *machine, uint64_t word, FipCell *cell);
+uint32_t fip_cell_at(const FipMachine *machine, uint64_t word, FipCell *cell);
 
 /* The word of a field, from 0, of the cell that a word names. Status 12: there is no such cell or field. The
  * machine stays as it is. Proved: same, reports, none. */
-uint32_t fip_field(FipMachine *machine, uint64_t word, size_t i, uint64_t *field);
+uint32_t fip_field(const FipMachine *machine, uint64_t word, size_t i, uint64_t *field);
 
 /* The word of the cell after the one that a word names; of the first cell where the word names none, as 0 does.
  * Status 12: no further cell is there. The machine stays as it is. Proved: same, reports, none. */
-uint32_t fip_next(FipMachine *machine, uint64_t word, uint64_t *next);
+uint32_t fip_next(const FipMachine *machine, uint64_t word, uint64_t *next);
 
 /* The number of cells of a size that aren't released. The machine stays as it is. Proved: same, is. */
-size_t fip_count(FipMachine *machine, size_t size);
+size_t fip_count(const FipMachine *machine, size_t size);
 
 /* Releases the cell that a word names: the next cell of its size takes its place. Status 12: the word names no
  * cell, or one that is released. That nothing else names it is the caller's affair. Proved: code, task, kept,
@@ -278,25 +280,25 @@ uint32_t fip_step(FipMachine *machine, FipEnd *end);
 uint32_t fip_run(FipMachine *machine, uint64_t calls, FipEnd *end);
 
 /* Tells where the run is. The machine stays as it is. Proved: same, is, status. */
-uint32_t fip_end(FipMachine *machine, FipEnd *end);
+uint32_t fip_end(const FipMachine *machine, FipEnd *end);
 
 /* The number of results of a run that ended with values; 0 where there are none, or they are kept. The machine
  * stays as it is. Proved: same, is. */
-size_t fip_results(FipMachine *machine);
+size_t fip_results(const FipMachine *machine);
 
 /* The word of a result, from 0. Status 13: there are no results; 12: there is none of this number. The machine
  * stays as it is. Proved: same, reports, none, closed. */
-uint32_t fip_result(FipMachine *machine, size_t i, uint64_t *word);
+uint32_t fip_result(const FipMachine *machine, size_t i, uint64_t *word);
 
 /* Prints the results, a line each: how many bytes the text has; as much of it as fits is written to `out`. It
  * takes memory for the text. Status 13: there are no results; 10: there is no memory. The machine stays as it
  * is. Proved: same. */
-uint32_t fip_print_results(FipMachine *machine, char *out, size_t out_size, size_t *length);
+uint32_t fip_print_results(const FipMachine *machine, char *out, size_t out_size, size_t *length);
 
 /* The gauge of the run: the numbers of cells of a size, from 1 to 16, and the most of the stack, where the run
  * began and where calls of `fip_run` ended. Status 12: another size. The machine stays as it is. Proved: same,
  * reports, none. */
-uint32_t fip_gauge(FipMachine *machine, size_t size, FipGauge *gauge);
+uint32_t fip_gauge(const FipMachine *machine, size_t size, FipGauge *gauge);
 
 /* Values that are kept from run to run, and their text */
 
@@ -306,7 +308,7 @@ uint32_t fip_gauge(FipMachine *machine, size_t size, FipGauge *gauge);
 uint32_t fip_keep(FipMachine *machine, size_t *numbers, size_t numbers_count, size_t *count);
 
 /* What is kept under a number. Status 12: nothing is. The machine stays as it is. Proved: same, reports, none. */
-uint32_t fip_kept(FipMachine *machine, size_t number, FipKept *kept);
+uint32_t fip_kept(const FipMachine *machine, size_t number, FipKept *kept);
 
 /* Releases the cells of a kept value, whose number is free from then on. It takes no memory. Status 12: nothing
  * is kept under the number. Proved: code, task, cells, free, some, none. */
@@ -323,7 +325,7 @@ uint32_t fip_start_kept(FipMachine *machine, size_t number, const FipArgument *a
 /* Prints the value of a type that a word stands for: how many bytes the text has; as much of it as fits is
  * written to `out`. It takes memory for the text. Status 10: there is no memory. The machine stays as it is.
  * Proved: same, text, none. */
-uint32_t fip_print(FipMachine *machine, uint32_t type_number, uint64_t word, char *out, size_t out_size,
+uint32_t fip_print(const FipMachine *machine, uint32_t type_number, uint64_t word, char *out, size_t out_size,
                    size_t *length);
 
 #ifdef __cplusplus

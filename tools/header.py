@@ -116,14 +116,14 @@ def structs(text, names):
         yield f"}} {name};\n"
 
 
-def parameters(name, kind, names):
-    """The parameters of C for one of an export."""
+def parameters(name, kind, names, is_same):
+    """The parameters of C for one of an export, which may leave the machine as it is."""
     if kind == "Global":
         return []
     if kind == "Handle":
         return [f"FipMachine {name}"]
     if kind in ("&mut Handle", "&mut Slot"):
-        return [f"FipMachine *{name}"]
+        return [f"{'const ' if is_same else ''}FipMachine *{name}"]
     found = re.fullmatch(r"&(mut )?(\[)?(\w+)\]?", kind)
     if not found:
         return [f"{number_of(kind, names)} {name}"]
@@ -134,12 +134,17 @@ def parameters(name, kind, names):
     return [f"{'' if is_out else 'const '}{base} *{name}"] + ([f"size_t {length}"] if is_slice else [])
 
 
+def leaves_same(clauses):
+    """Whether a clause says that the machine stays as it is."""
+    return SAME in [re.sub(r"\s+", " ", clause).strip() for _, clause in clauses]
+
+
 def said_of(name, comment, clauses, takes_memory):
     """The comment of a call: the export's, what is said of memory, and its clauses."""
     rows = [comment, MEMORY[name]] if name in MEMORY and "memory" not in comment else [comment]
     if takes_memory and not re.search(r"\bmemory\b", " ".join(rows)):
         raise Fault(f"the comment of {name}, which has an allocator, says nothing of memory")
-    if SAME in [re.sub(r"\s+", " ", clause).strip() for _, clause in clauses]:
+    if leaves_same(clauses):
         rows.append("The machine stays as it is.")
     if clauses:
         rows.append(f"Proved: {', '.join(it for it, _ in clauses)}.")
@@ -165,10 +170,10 @@ def exports(text, names):
         raise Fault("an export has a form that isn't understood")
     for comment, name, params, result, contract in re.findall(form, text, re.S):
         pairs = [it.strip().split(": ", 1) for it in re.sub(r"\s+", " ", params).split(",") if it.strip()]
-        words = [word for pair in pairs for word in parameters(*pair, names)]
         if re.search(r"(?m)^\s*requires", contract):
             raise Fault(f"{name} has a requires, which the first comment must say")
         clauses = re.findall(r"ensures (\w+) \{(.*?)\}(?=\s*ensures|\s*$)", contract, re.S)
+        words = [word for pair in pairs for word in parameters(*pair, names, leaves_same(clauses))]
         takes_memory = any(kind == "Global" for _, kind in pairs)
         said = said_of(name, comment_in(comment.splitlines()), clauses, takes_memory)
         yield "\n" + commented(said) + declared(f"{number_of(result, names) if result else 'void'} {name}(", words)

@@ -5,8 +5,8 @@
     tools/library_programs.py --check    says whether the files are those that it would write; the status is 1 where one isn't
 
 What is written: the typed program of each text (crates/library_programs/specs), and its core form
-(crates/library_texts/proofs), each node with its line, column and offset. The prover proves that these are what the texts
-come to, so nobody has to believe this script. It reads what the four texts are written in, and refuses any other form:
+(crates/library_texts/proofs), each node with its line, column and offset; and what its calls tell: frames, groups, registers
+and stack numbers. The prover proves that these are what the texts come to, so nobody has to believe this script. It reads what the four texts are written in, and refuses any other form:
 no static parameters, no annotations, no literals in patterns.
 """
 import dataclasses
@@ -36,6 +36,8 @@ WIDTH = 104
 # A body of more lines than these is cut at its clauses.
 MOST_LINES = 17
 INT, BOOL = ("int",), (1, ())
+# The words of a frame beside its registers.
+FRAME_WORDS = 2
 
 
 # ---- tokens
@@ -791,6 +793,95 @@ def core_file(name, functions, datas):
     return {CORES / f"{PARTS[name][0]}Core.antt": text + "\n" + body}
 
 
+# ---- what the calls of a program tell
+
+def sites(block, tail, numbers):
+    """The calls in a block: the number of each callee, and whether the caller waits for it."""
+    if block.form == "last":
+        return calls_in(block.parts[0], tail, numbers)
+    _, bound, rest = block.parts
+    return calls_in(bound, False, numbers) + sites(rest, tail, numbers)
+
+
+def calls_in(e, tail, numbers):
+    if e.form == "call":
+        return [(numbers[e.token.text], not tail)]
+    if e.form == "match":
+        return [call for _, body in e.parts[1] for call in sites(body, tail, numbers)]
+    return []
+
+
+def registers_in(e):
+    """Binders, literals and constructors in a block, an expression, an argument or a pattern."""
+    if e.form == "last":
+        return registers_in(e.parts[0])
+    if e.form == "let":
+        binders, bound, rest = e.parts
+        return len(binders) + registers_in(bound) + registers_in(rest)
+    if e.form == "match":
+        return sum(registers_in(pattern) + registers_in(body) for pattern, body in e.parts[1])
+    own = e.form in ("literal", "constructor", "pattern", "binder")
+    return own + sum(map(registers_in, e.parts))
+
+
+def reached_by(calls):
+    """What each function reaches by calls, itself too."""
+    reached = []
+    for f in range(len(calls)):
+        met, waiting = {f}, [f]
+        while waiting:
+            new = {callee for callee, _ in calls[waiting.pop()]} - met
+            met |= new
+            waiting.extend(new)
+        reached.append(met)
+    return reached
+
+
+def solved(calls, frames, base, own):
+    """The least numbers, and after how many rounds each is there."""
+    numbers, ranks = base[:], [0] * len(base)
+    while True:
+        new = [max([numbers[f]] + [numbers[g] + own[f] * waits for g, waits in calls[f] if frames[f] is not None])
+               for f in range(len(calls))]
+        if new == numbers:
+            return numbers, ranks
+        ranks = [rank if a == b else max(ranks) + 1 for rank, a, b in zip(ranks, new, numbers)]
+        numbers = new
+
+
+def told_file(name, functions):
+    number = {f.name.text: i for i, f in enumerate(functions)}
+    calls = [sites(f.body, True, number) for f in functions]
+    registers = [len(f.parameters) + len(f.credits) + registers_in(f.body) for f in functions]
+    frames = [count + FRAME_WORDS if f.kind == "fip" else None for f, count in zip(functions, registers)]
+    words = [count or 0 for count in frames]
+    deep, deep_ranks = solved(calls, frames, [0] * len(calls), [1] * len(calls))
+    wide, wide_ranks = solved(calls, frames, words, words)
+    reached = reached_by(calls)
+    groups = [min(g for g in reached[f] if f in reached[g]) for f in range(len(calls))]
+    stacks = ["None" if frame is None else f"Some (record {{ frames = {high}; words = {all} }})"
+              for frame, high, all in zip(frames, deep, wide)]
+    rows = [f"({chained(f'call {callee} {str(waits).lower()}' for callee, waits in row)})" if row else "[]" for row in calls]
+    members = [f"record {{ group = {group}; registers = {count}; stack = {stack} }}"
+               for group, count, stack in zip(groups, registers, stacks)]
+    fields = [
+        ("calls", chained(rows)),
+        ("frames", chained("None" if frame is None else f"Some {frame}" for frame in frames)),
+        ("members", chained(members)),
+        ("frame_ranks", chained(map(str, deep_ranks))),
+        ("word_ranks", chained(map(str, wide_ranks))),
+    ]
+    body = f"abbrev pub {name}_told : Told\n{name}_told = record {{\n"
+    body += "".join(f"  {field} = {value};\n" for field, value in fields) + "}\n"
+    text = f"-- What the calls of the program of the text `{name}` tell, written out: frames, groups, registers and stack numbers.\n"
+    words_used = [word for word in ("true", "false") if re.search(rf"\b{word}\b", body)]
+    words_used += ["[]", "◌∷◌"] + [word for word in ("Some", "None") if re.search(rf"\b{word}\b", body)]
+    text += f"use Rattle.std.specs.Prelude.{{{', '.join(words_used)}}}\n"
+    text += "use Rattle.source_report.specs.call_groups.Groups.{call}\n"
+    text += "use Rattle.library_texts.proofs.StackNumbers.{Told}\n"
+    return {CORES / f"{PARTS[name][0]}Calls.antt": text + "\n" + body}
+
+
 def files_of(name):
     parser = Parser(tokens_of(text_of(name)))
     datas, functions = [], []
@@ -801,7 +892,7 @@ def files_of(name):
             functions.append(parser.function())
     for f in functions:
         Core(f)
-    return {**program_files(name, functions, datas), **core_file(name, functions, datas)}
+    return {**program_files(name, functions, datas), **core_file(name, functions, datas), **told_file(name, functions)}
 
 
 def main():

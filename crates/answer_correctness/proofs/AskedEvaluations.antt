@@ -1,24 +1,22 @@
 -- What `eval`, `exec` and `gen` come to, by what an evaluation gives.
 -- The idea: a command's end is one of its source once the file is there; a source that has the entry isn't refused; and what
 -- is then done ends with one thing.
-use Rattle.std.proofs.Common.{◌≡◌, ◌∙◌, ◌≤◌, ℕ, Bool, false, List, Option, Some, inl, inr, length, refl, sym, subst, arith}
-use Rattle.std.specs.Prelude.{◌⊎◌, Ok, Err}
+use Rattle.std.proofs.Common.{◌≡◌, ◌∙◌, ◌≤◌, ℕ, Bool, false, List, Option, Some, length, refl, sym, subst, arith}
+use Rattle.std.specs.Prelude.{Ok, Err}
 use Rattle.command_answers.specs.fip_outside.Files.{File}
 use Rattle.command_answers.specs.command_library.fip_language.declared.FunKind.TheVariants.{Fun}
 use Rattle.command_answers.specs.command_library.fip_language.declared.TrapKind.{TrapKind}
 use Rattle.command_answers.specs.command_library.fip_language.declared.limits.TheConstants.{MOST_FILE_BYTES}
-use Rattle.command_answers.specs.command_library.fip_base.declared.refusal.Refusal.{Refusal}
 use Rattle.command_answers.specs.command_library.fip_language.Meaning.{Answer, Gives, Trap}
 use Rattle.command_answers.specs.command_library.fip_language.PrintedText.{printed_lines}
 use Rattle.command_answers.specs.command_library.fip_language.Values.{Values}
 use Rattle.worked_examples.specs.fip_trees.Tree.{Instance}
 use Rattle.command_answers.specs.command_library.command_words.Words.{Command, Request, Eval, Exec, Gen}
 use Rattle.command_answers.specs.command_library.command_outcome.declared.failure.Failure.TheVariants as F
-use Rattle.command_answers.specs.command_library.command_source.Wanted.{Wanted, Root, Compiled, Refuses, IsRoot, IsCompiled, IsReady}
+use Rattle.command_answers.specs.command_library.command_source.Wanted.{Wanted, Root, Compiled, IsRoot, IsCompiled, IsReady}
 use Rattle.command_answers.proofs.command_library.command_source.Once.{refused_not_ready}
 use Rattle.command_answers.specs.command_library.command_eval.EvalAnswer.{Evaluates, Answered, Reports}
 use Rattle.command_answers.proofs.command_library.command_eval.Once.{evaluated_once}
-use Rattle.command_answers.specs.command_library.GenAnswer.{tree_source, build}
 use Rattle.command_answers.specs.command_library.MadeTree.{gen_input}
 use Rattle.command_answers.proofs.command_library.Short.{input_short}
 use Rattle.command_answers.specs.Answer.{ComesTo, OnFound}
@@ -91,10 +89,9 @@ comes_to_a_trap a files r least kind line col e is traps enough h = exec_traps a
 
 -- ---- gen
 
-reported_of_keys : (seed count : ℕ) (e : End) → length (gen_input seed count) ≤ MOST_FILE_BYTES → Generates seed count e → (e ≡ Ok (drawn_text seed count)) ⊎ ((r : Refusal) × Refuses tree_source (Compiled build) r × (e ≡ Err (F.Refused r)))
-reported_of_keys seed count _ short (G.Refused r h) = inr (r, h, refl)
-reported_of_keys seed count _ short (G.LongInput ready more) = absurd (omega (arith, more, short))
-reported_of_keys seed count _ short (G.Drawn ready few) = inl refl
+reported_of_keys : (seed count : ℕ) (e : End) → length (gen_input seed count) ≤ MOST_FILE_BYTES → Generates seed count e → e ≡ Ok (drawn_text seed count)
+reported_of_keys seed count _ short (G.LongInput more) = absurd (omega (arith, more, short))
+reported_of_keys seed count _ short (G.Drawn few) = refl
 
-pub gen_reports : (files : List File) (input : List ℕ) (seed count : ℕ) (e : End) → count ≤ 100000 → ComesTo files input (Gen seed count) e → (e ≡ Ok (drawn_text seed count)) ⊎ ((r : Refusal) × Refuses tree_source (Compiled build) r × (e ≡ Err (F.Refused r)))
+pub gen_reports : (files : List File) (input : List ℕ) (seed count : ℕ) (e : End) → count ≤ 100000 → ComesTo files input (Gen seed count) e → e ≡ Ok (drawn_text seed count)
 gen_reports files input seed count e few h = reported_of_keys seed count e (input_short seed count few) h

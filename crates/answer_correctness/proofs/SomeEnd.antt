@@ -17,7 +17,6 @@ use Rattle.command_answers.specs.command_library.command_outcome.declared.failur
 use Rattle.command_answers.specs.command_library.command_source.Derived.{IsDerivedFile, IsUnderived}
 use Rattle.command_answers.specs.command_library.command_source.Judged.{IsEarlyReport}
 use Rattle.command_answers.specs.command_library.command_source.Wanted.{Wanted, Lawful, Root, Compiled, Refuses, IsReady}
-use Rattle.command_answers.specs.command_library.GenAnswer.{tree_source, build}
 use Rattle.command_answers.specs.Answer.{ComesTo, OnFound}
 use Rattle.command_answers.specs.Asks.{ReadsInput, fetched_name, wanted}
 use Rattle.command_answers.specs.CodeOf.{IsSourceCode, IsSourceFile}
@@ -25,7 +24,6 @@ use Rattle.command_answers.proofs.SourceCode.{coded_ready}
 use Rattle.command_answers.specs.Ends as A
 use Rattle.command_answers.specs.Ends.{Does, OnSource, Derives}
 use Rattle.command_answers.specs.Exec.{End}
-use Rattle.command_answers.specs.Generating as G
 use Rattle.answer_correctness.specs.Certain.{IsCertain}
 use Rattle.answer_correctness.proofs.Coming.{of_source}
 use Rattle.answer_correctness.proofs.SomeTalk.{some_replies}
@@ -94,9 +92,8 @@ some_end files source input name c w names asks there is (inr h) = let o = ready
 pub some_text : (files : List File) (input name : List ℕ) → IsTextName name → (e : End) × ComesTo files input (Library name) e
 some_text files input name h = let t = named_text name h in (Ok t.0, t.1)
 
-pub some_tree : (files : List File) (input : List ℕ) (seed count : ℕ) → ((r : a_refusal) × Refuses tree_source (Compiled build) r) ⊎ IsReady tree_source (Compiled build) → (e : End) × ComesTo files input (Gen seed count) e
-some_tree files input seed count (inl (r, h)) = (Err (F.Refused r), G.Refused r h)
-some_tree files input seed count (inr h) = generated seed count h
+pub some_tree : (files : List File) (input : List ℕ) (seed count : ℕ) → (e : End) × ComesTo files input (Gen seed count) e
+some_tree files input seed count = generated seed count
 
 -- ---- where no end is shown, but that there is one
 

@@ -44,7 +44,6 @@ use Rattle.command_answers.proofs.command_library.command_run.compiler_correctne
 use Rattle.command_answers.proofs.command_library.command_run.compiler_correctness.derivation_correctness.Whole.{derived, lean, is_read}
 use Rattle.command_answers.proofs.command_library.command_source.specialisation_correctness.Meant.{root_meant}
 use Rattle.command_answers.proofs.command_tasks.source_report.FipCalls.{fip_calls}
-use Rattle.command_answers.specs.command_library.GenAnswer.{tree_source, build}
 use Rattle.command_answers.specs.command_library.MadeTree.{gen_input}
 use Rattle.command_answers.specs.Drawn.{drawn_text}
 use Rattle.command_answers.specs.Exec as X
@@ -194,9 +193,9 @@ named_text name (inr (inr (inr e))) = text_of (codes "finger") name FingerTree'.
 
 -- ---- the tree of `gen`
 
-pub generated : (seed count : ℕ) → IsReady tree_source (Compiled build) → (e : End) × Generates seed count e
-generated seed count h = by (le_or_less (length (gen_input seed count)) MOST_FILE_BYTES)
+pub generated : (seed count : ℕ) → (e : End) × Generates seed count e
+generated seed count = by (le_or_less (length (gen_input seed count)) MOST_FILE_BYTES)
   where
     by : (length (gen_input seed count) ≤ MOST_FILE_BYTES) ⊎ (MOST_FILE_BYTES < length (gen_input seed count)) → (e : End) × Generates seed count e
-    by (inl short) = (Ok (drawn_text seed count), G.Drawn h short)
-    by (inr long) = (Err (F.BadInput MOST_FILE_BYTES), G.LongInput h long)
+    by (inl short) = (Ok (drawn_text seed count), G.Drawn short)
+    by (inr long) = (Err (F.BadInput MOST_FILE_BYTES), G.LongInput long)

@@ -1,15 +1,11 @@
 // What `eval` and `exec` come to by what the evaluation of an instance gives, so that what is proved of an evaluation holds
 // of both commands; and what `gen` comes to. Theorems on what the words of a call come to, each the contract of a function
 // that does nothing.
-ghost use Rattle.std.specs.Prelude.{◌≡◌, ◌≤◌, ◌⊎◌, ℕ, List, Ok, Err};
+ghost use Rattle.std.specs.Prelude.{◌≡◌, ◌≤◌, ℕ, List, Ok};
 ghost use Rattle.command_answers.specs.fip_outside.Files.{File};
-ghost use Rattle.command_answers.specs.command_library.fip_base.declared.refusal.Refusal.{Refusal as a_refusal};
 ghost use Rattle.command_answers.specs.command_library.fip_language.declared.TrapKind.{TrapKind as a_trap};
 ghost use Rattle.command_answers.specs.command_library.fip_language.Values.{Values};
-ghost use Rattle.command_answers.specs.command_library.command_outcome.declared.failure.Failure.TheVariants as F;
-ghost use Rattle.command_answers.specs.command_library.command_source.Wanted.{Compiled, Refuses};
 ghost use Rattle.command_answers.specs.command_library.command_words.Words.{Request, Eval, Exec, Gen, most_count};
-ghost use Rattle.command_answers.specs.command_library.GenAnswer.{tree_source, build};
 ghost use Rattle.command_answers.specs.Answer.{ComesTo};
 ghost use Rattle.command_answers.specs.Asked.{Asked, GivesWith, TrapsWith, Prints, ReportsTrap, Suffices};
 ghost use Rattle.command_answers.specs.Drawn.{drawn_text};
@@ -39,10 +35,9 @@ pub fn exec_reports_what_the_evaluation_gives()
         Suffices a least r.room → ComesTo files a.input (Exec r) e → ReportsTrap kind line col e }
 {}
 
-/// `gen` of as many keys as words may ask for reports of the keys that its seed draws, and of nothing else, unless the
-/// library's text is refused. For who reads its four lines.
+/// `gen` of as many keys as words may ask for reports of the keys that its seed draws, and of nothing else. For who reads
+/// its four lines.
 pub fn gen_reports_of_the_drawn_keys()
     ensures text { (files : List File) (input : List ℕ) (seed count : ℕ) (e : an_end) → count ≤ most_count →
-        ComesTo files input (Gen seed count) e → (e ≡ Ok (drawn_text seed count))
-        ⊎ ((r : a_refusal) × Refuses tree_source (Compiled build) r × (e ≡ Err (F.Refused r))) }
+        ComesTo files input (Gen seed count) e → e ≡ Ok (drawn_text seed count) }
 {}

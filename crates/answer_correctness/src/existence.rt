@@ -6,7 +6,6 @@ ghost use Rattle.command_answers.specs.command_library.command_outcome.declared.
 ghost use Rattle.command_answers.specs.command_library.command_source.Judged.{IsEarlyReport};
 ghost use Rattle.command_answers.specs.command_library.command_source.Wanted.{Wanted, Lawful, Compiled, Refuses, IsReady};
 ghost use Rattle.command_answers.specs.command_library.command_words.Words.{Command, Room, Session, Tasks, Audit, Library, Gen, IsTextName};
-ghost use Rattle.command_answers.specs.command_library.GenAnswer.{tree_source, build};
 ghost use Rattle.command_answers.specs.fip_outside.Files.{File, file_of};
 ghost use Rattle.command_answers.specs.Answer.{ComesTo, Host, IsAnswer};
 ghost use Rattle.command_answers.specs.Asks.{fetched_name, wanted};
@@ -67,12 +66,10 @@ pub fn an_end_has_a_whole_answer()
         (h : Host) × Finds h out err × IsAnswer c files input h }
 {}
 
-/// `library` has an answer, and `gen` where the library's text is refused, or is accepted with its entry. For who asks
-/// whether a command may be without one.
+/// `library` has an answer, and so has `gen`. For who asks whether a command may be without one.
 pub fn the_library_has_an_answer()
     ensures text { (files : List File) (input name : List ℕ) → IsTextName name →
         (e : an_end) × ComesTo files input (Library name) e }
     ensures tree { (files : List File) (input : List ℕ) (seed count : ℕ) →
-        ((r : a_refusal) × Refuses tree_source (Compiled build) r) ⊎ IsReady tree_source (Compiled build) →
         (e : an_end) × ComesTo files input (Gen seed count) e }
 {}

@@ -25,7 +25,7 @@ ghost use Rattle.command_answers.specs.command_library.command_source.Codes.{IsS
 ghost use Rattle.command_answers.specs.command_library.command_source.Derived.{IsDerivedFile, IsUnderived};
 ghost use Rattle.command_answers.specs.command_library.command_source.Judged.{IsBadAt};
 ghost use Rattle.command_answers.specs.command_library.command_source.Roots.{IsListing};
-ghost use Rattle.command_answers.specs.command_library.command_source.Wanted.{Wanted, Compiled, Refuses, IsReady, IsReport, of_entry};
+ghost use Rattle.command_answers.specs.command_library.command_source.Wanted.{Wanted, Refuses, IsReady, IsReport, of_entry};
 ghost use Rattle.command_answers.specs.command_library.command_eval.EvalAnswer.{Entry as an_entry, Spells, Evaluates};
 ghost use Rattle.command_answers.specs.command_library.command_run.CodeRun.{Chosen, RunOf, SpellsFor, ReportsOf, words_of as words_of_code};
 ghost use Rattle.command_answers.specs.command_library.run_loading.Example.{rewriting, file_with};
@@ -171,12 +171,12 @@ pub fn texts_and_trees_are_printed()
     ensures library { (files : List File) (input : List ℕ) →
         ComesTo files input (Library (codes "list")) (Ok list.TEXT.now) }
     ensures made { (files : List File) (input : List ℕ) (seed count : ℕ) (s : Start tree_source build)
-        (vs : Values) (tree : Value) (left : ℕ) → IsReady tree_source (Compiled build) →
-        length (gen_input seed count) ≤ MOST_FILE_BYTES → Spells s.entry (gen_input seed count) vs →
+        (vs : Values) (tree : Value) (left : ℕ) → length (gen_input seed count) ≤ MOST_FILE_BYTES →
+        Spells s.entry (gen_input seed count) vs →
         words_of s.entry vs ≤ gen_room.words → (run_of s vs gen_room).answer ≡ Gives (More tree End) left →
         ComesTo files input (Gen seed count) (Ok (lines_of_tree count tree)) }
     ensures never { (seed count : ℕ) (s : Start tree_source build) (vs : Values) (f : Failure) →
-        IsReady tree_source (Compiled build) → length (gen_input seed count) ≤ MOST_FILE_BYTES →
-        Spells s.entry (gen_input seed count) vs → words_of s.entry vs ≤ gen_room.words →
+        length (gen_input seed count) ≤ MOST_FILE_BYTES → Spells s.entry (gen_input seed count) vs →
+        words_of s.entry vs ≤ gen_room.words →
         ReportsAll (running s) vs gen_room.calls (frames_for s gen_room) false (run_of s vs gen_room) (Err f) → ⊥ }
 {}

@@ -1,5 +1,5 @@
--- What `gen` reports: its text comes to the program that is written out, whose `build` collects the keys, with the calls,
--- frames and words of its room.
+-- What `gen` reports: its text is accepted, with the program that is written out, whose `build` collects the keys, with the
+-- calls, frames and words of its room.
 use Rattle.std.proofs.Common.{◌≡◌, ◌≢◌, ◌↔◌, ◌∙◌, ◌≤◌, ℕ, ℤ, false, List, length, refl, sym, ap, ap₂, subst, arith}
 use Rattle.std.specs.Prelude.{Ok, Err}
 use Rattle.command_library.specs.fip_language.declared.limits.TheConstants.{MOST_FILE_BYTES}
@@ -11,7 +11,6 @@ use Rattle.command_library.specs.fip_language.ValueText.{SpellsValues}
 use Rattle.command_library.specs.command_tasks.source_report.Report.{IsAccepted}
 use Rattle.command_library.specs.command_outcome.declared.failure.Failure.{Failure}
 use Rattle.command_library.specs.command_outcome.Successes.{tree_text}
-use Rattle.command_library.specs.command_source.Wanted.{Compiled, IsReady}
 use Rattle.command_library.specs.command_eval.EvalAnswer.{Entry, Spells}
 use Rattle.command_library.specs.command_run.ExecAnswer as R
 use Rattle.command_library.specs.GenAnswer as M
@@ -21,6 +20,7 @@ use Rattle.command_library.proofs.command_eval.Meant.{typed_of}
 use Rattle.command_library.proofs.command_eval.Once.{one_text}
 use Rattle.command_library.proofs.command_eval.SoundTypes.{typed_sound}
 use Rattle.command_library.proofs.command_run.ExecOnce.{answers_alike, same_answer}
+use Rattle.command_library.proofs.library_texts.RedBlackText.{rbtree_accepted}
 use Rattle.command_library.proofs.value_text.Exact.{printed_reads}
 use Rattle.command_library.proofs.value_text.Tables.{is_table}
 use Rattle.library_correctness.specs.evaluation_steps.Gives.{GivesLeaving, one}
@@ -28,11 +28,10 @@ use Rattle.library_correctness.specs.library_programs.RedBlackProgram.{rbtree_pr
 use Rattle.library_correctness.specs.KeySets.{GivesKeys}
 use Rattle.library_correctness.specs.RedBlack.{tree_value}
 use Rattle.library_correctness.proofs.KeySets.{build_collects}
-use Rattle.library_texts.proofs.RedBlackText.{rbtree_comes}
 use Rattle.command_answers.specs.Asked.{Asked, answer_of, GivesWith, Suffices}
 use Rattle.command_answers.specs.Drawn.{drawn_keys, drawn_text}
 use Rattle.command_answers.specs.Exec.{End, Execs}
-use Rattle.command_answers.specs.Generating.{Generates, Refused, LongInput, Drawn}
+use Rattle.command_answers.specs.Generating.{Generates, LongInput, Drawn}
 use Rattle.command_answers.proofs.AskedEntry.{entry, means}
 use Rattle.command_answers.proofs.AskedRuns.{exec_prints}
 use Rattle.command_answers.proofs.ByTrees.{exec_by_trees}
@@ -115,17 +114,9 @@ module _ (source : List ℕ) (seed count : ℕ) (short : length (gen_input seed 
       no_text (printed_lines rbtree_types (build_instance).results (one (tree_value (grown.tree)))) failure
       (exec_prints asked gen_room 100 (one (tree_value (grown.tree))) (Err failure) gives_with enough_room h)
 
--- The library's text comes to the program that is written out, so what is made of it is made of that.
-pub written : IsReady tree_source (Compiled build) → IsAccepted tree_source rbtree_program
-written ready = subst (λ p. IsAccepted tree_source p) (rbtree_comes ready.program ready.accepted) ready.accepted
-
-made : (seed count : ℕ) (e : End) → IsReady tree_source (Compiled build) → M.Makes tree_source seed count e → Generates seed count e
-made seed count _ ready (M.LongInput more) = LongInput ready more
-made seed count _ ready (M.NoTree failure short h) =
-    absurd (never_fails tree_source seed count short (written ready) failure (exec_by_trees tree_source build (gen_input seed count) gen_room false (Err failure) h))
-made seed count _ ready (M.Made y us results left text short spells fits runs gives) =
-    subst (λ t. Generates seed count (Ok t)) (sym (lines_drawn tree_source seed count short (written ready) y us results left (R.frames_for runs.code gen_room) spells gives)) (Drawn ready short)
-
 pub gen_by_trees : (seed count : ℕ) (e : End) → M.Generates seed count e → Generates seed count e
-gen_by_trees seed count _ (M.Refused r refused) = Refused r refused
-gen_by_trees seed count e (M.Ran _ ready makes) = made seed count e ready makes
+gen_by_trees seed count _ (M.LongInput more) = LongInput more
+gen_by_trees seed count _ (M.NoTree failure short h) =
+    absurd (never_fails tree_source seed count short rbtree_accepted failure (exec_by_trees tree_source build (gen_input seed count) gen_room false (Err failure) h))
+gen_by_trees seed count _ (M.Made y us results left text short spells fits runs gives) =
+    subst (λ t. Generates seed count (Ok t)) (sym (lines_drawn tree_source seed count short rbtree_accepted y us results left (R.frames_for runs.code gen_room) spells gives)) (Drawn short)

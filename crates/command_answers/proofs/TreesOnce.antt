@@ -15,15 +15,12 @@ use Rattle.command_library.specs.command_run.tail_groups.Members.{AreMembers}
 use Rattle.command_library.specs.command_words.Words.{Room}
 use Rattle.command_library.specs.command_outcome.declared.failure.Failure.TheVariants as F
 use Rattle.command_library.specs.session_semantics.Talk.{frames_of}
-use Rattle.command_library.specs.command_source.Wanted.{Compiled}
-use Rattle.command_library.proofs.command_source.Once.{refused_once as one_refusal, refused_not_ready}
 use Rattle.command_library.specs.command_eval.EvalAnswer.{Entry, Spells}
 use Rattle.command_library.proofs.command_eval.Once.{one_program, one_root, one_core, typed_alike, one_text}
 use Rattle.command_library.proofs.command_run.Entry.{root_at}
 use Rattle.command_library.proofs.command_run.ExecOnce.{member_at, words_alike, spelt_alike}
-use Rattle.command_library.specs.GenAnswer.{tree_source, build}
 use Rattle.command_answers.specs.Exec.{End, Start, Running, ReportsRun, ReportsAll, running, frames_for, run_of, words_of, Execs, Misspelt, Small, Ran}
-use Rattle.command_answers.specs.Generating.{Generates, Refused, LongInput, Drawn}
+use Rattle.command_answers.specs.Generating.{Generates, LongInput, Drawn}
 
 reports_once : (r : Running) (vs : Values) (calls frames : ℕ) (gauge : Bool) (peak : Peak) (a : Answer) (d e : End) → ReportsRun r vs calls frames gauge peak a d → ReportsRun r vs calls frames gauge peak a e → d ≡ e
 reports_once r vs calls frames gauge peak (Gives us left) d e h k = h ∙ sym k
@@ -96,12 +93,7 @@ module _ (source name input : List ℕ) (room : Room) (gauge : Bool) where
 
 -- what `gen` comes to
 pub generated_once : (seed count : ℕ) (d e : End) → Generates seed count d → Generates seed count e → d ≡ e
-generated_once seed count d e (Refused q h) (Refused r k) = ap (λ r. Err (F.Refused r)) (one_refusal tree_source (Compiled build) q r h k)
-generated_once seed count d e (Refused q h) (LongInput ready more) = absurd (refused_not_ready tree_source (Compiled build) q h ready)
-generated_once seed count d e (Refused q h) (Drawn ready short) = absurd (refused_not_ready tree_source (Compiled build) q h ready)
-generated_once seed count d e (LongInput ready more) (Refused q h) = absurd (refused_not_ready tree_source (Compiled build) q h ready)
-generated_once seed count d e (LongInput ready more) (LongInput again further) = refl
-generated_once seed count d e (LongInput ready more) (Drawn again short) = absurd (omega (arith, more, short))
-generated_once seed count d e (Drawn ready short) (Refused q h) = absurd (refused_not_ready tree_source (Compiled build) q h ready)
-generated_once seed count d e (Drawn ready short) (LongInput again more) = absurd (omega (arith, more, short))
-generated_once seed count d e (Drawn ready short) (Drawn again also) = refl
+generated_once seed count d e (LongInput more) (LongInput further) = refl
+generated_once seed count d e (LongInput more) (Drawn short) = absurd (omega (arith, more, short))
+generated_once seed count d e (Drawn short) (LongInput more) = absurd (omega (arith, more, short))
+generated_once seed count d e (Drawn short) (Drawn also) = refl

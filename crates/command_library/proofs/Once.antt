@@ -5,15 +5,14 @@ use Rattle.std.specs.Prelude.{Result, Ok, Err}
 use Rattle.fip_language.specs.Meaning.{Gives}
 use Rattle.fip_language.specs.Values.{Values}
 use Rattle.command_outcome.specs.declared.failure.Failure.{Failure}
-use Rattle.command_outcome.specs.declared.failure.Failure.TheVariants as F
 use Rattle.command_tasks.specs.command_run.command_source.Wanted.{Compiled, IsReady}
-use Rattle.command_tasks.proofs.command_run.command_source.Once.{refused_once, refused_not_ready}
 use Rattle.command_tasks.specs.command_run.command_eval.EvalAnswer.{Entry, Spells}
 use Rattle.command_tasks.proofs.command_run.command_eval.Once.{one_text}
 use Rattle.command_tasks.specs.command_run.ExecAnswer.{Execs, Ran, answer_of, frames_for}
 use Rattle.command_tasks.proofs.command_run.ExecOnce.{exec_once, same_answer, answers_alike}
-use Rattle.command_library.specs.GenAnswer.{tree_source, build, gen_room, Makes, LongInput, NoTree, Made, Generates, Refused, Ran as Done}
+use Rattle.command_library.specs.GenAnswer.{tree_source, build, gen_room, Makes, LongInput, NoTree, Made, Generates}
 use Rattle.command_library.specs.MadeTree.{gen_input, lines_of_results}
+use Rattle.command_library.proofs.Accepted.{text_is_ready}
 use Rattle.command_library.proofs.Runs.{gives_not_deep, no_text}
 use Rattle.command_tasks.proofs.command_session.command_run.command_eval.command_source.machine_correctness.compiler_correctness.source_safety.in_place_safety.Counting.{same_values}
 
@@ -46,7 +45,4 @@ module _ (source : List ℕ) (seed count : ℕ) where
 
 -- what `gen` comes to
 pub generated_once : (seed count : ℕ) (d e : Result (List ℕ) Failure) → Generates seed count d → Generates seed count e → d ≡ e
-generated_once seed count _ _ (Refused q h) (Refused r k) = ap (λ r. Err (F.Refused r)) (refused_once tree_source (Compiled build) q r h k)
-generated_once seed count _ e (Refused q h) (Done _ ready k) = absurd (refused_not_ready tree_source (Compiled build) q h ready)
-generated_once seed count d _ (Done _ ready k) (Refused q h) = absurd (refused_not_ready tree_source (Compiled build) q h ready)
-generated_once seed count d e (Done _ ready h) (Done _ again k) = makes_once tree_source seed count ready d e h k
+generated_once seed count d e h k = makes_once tree_source seed count text_is_ready d e h k

@@ -42,13 +42,15 @@ use Rattle.command_tasks.specs.command_run.Leaving.{IsLastStore, LeavesOf}
 use Rattle.command_tasks.specs.command_run.declared.running.Left.{Left}
 use Rattle.command_tasks.specs.command_run.Starting.{IsStarted, ReportsEnded, failure_for, gauge_lines}
 use Rattle.command_tasks.proofs.command_run.ExecOnce.{same_answer, answers_alike}
+use Rattle.command_tasks.proofs.command_run.command_source.Once.{refused_not_ready}
 use Rattle.command_tasks.proofs.command_run.Execs as X
 use Rattle.command_tasks.proofs.command_run.Entry as N
 use Rattle.command_tasks.proofs.command_run.Entry.{IsEntry}
 use Rattle.command_tasks.proofs.command_run.Leaving.{left_by}
 use Rattle.command_tasks.proofs.command_run.Ran as P
-use Rattle.command_library.specs.GenAnswer.{tree_source, build, gen_room, Makes, LongInput, NoTree, Made, Refused, Ran as Done, Generates}
+use Rattle.command_library.specs.GenAnswer.{tree_source, build, gen_room, Makes, LongInput, NoTree, Made, Generates}
 use Rattle.command_library.specs.MadeTree.{gen_input, lines_of_results}
+use Rattle.command_library.proofs.Accepted.{text_is_ready}
 use Rattle.command_library.proofs.Words.{printed_once}
 
 -- how a run ended that gave no value is reported
@@ -177,13 +179,13 @@ module _ (source : List ℕ) (seed count : ℕ) (input : List ℕ) (is : input �
 -- ---- of the library's text
 
 module _ (seed count : ℕ) (text : List ℕ) (same : text ≡ tree_source) where
-  pub ran_text : (o : Result (Vec ℕ Global) Failure) → IsReady text (Compiled build) → OrNoMemory (Makes text seed count) o → OrNoMemory (Generates seed count) o
-  ran_text (Ok v) ready h = Done (Ok v.items) (subst (λ t. IsReady t (Compiled build)) same ready) (subst (λ t. Makes t seed count (Ok v.items)) same h)
-  ran_text (Err F.NoMemory) ready h = tt
-  ran_text (Err f) ready h = Done (Err f) (subst (λ t. IsReady t (Compiled build)) same ready) (subst (λ t. Makes t seed count (Err f)) same h)
+  pub ran_text : (o : Result (Vec ℕ Global) Failure) → OrNoMemory (Makes text seed count) o → OrNoMemory (Generates seed count) o
+  ran_text (Ok v) h = subst (λ t. Makes t seed count (Ok v.items)) same h
+  ran_text (Err F.NoMemory) h = tt
+  ran_text (Err f) h = subst (λ t. Makes t seed count (Err f)) same h
 
   pub kept_text : (f : Failure) → KeepsFrom text (Compiled build) f → OrNoMemory (Generates seed count) (Err f)
-  kept_text (F.Refused r) h = Refused r (subst (λ t. Refuses t (Compiled build) r) same h)
+  kept_text (F.Refused r) h = absurd (refused_not_ready tree_source (Compiled build) r (subst (λ t. Refuses t (Compiled build) r) same h) text_is_ready)
   kept_text F.NoMemory h = tt
   kept_text f h = absurd h
 

@@ -1,8 +1,8 @@
 -- It serves the proofs on `gen`: what it comes to, as the run of a code of the library's text rbtree, entry build, on
 -- the keys of a seed.
 --
--- Were that text refused, its refusal would be reported. Its input is three lines: the list of the keys, a list of as many
--- pads Pad4(0, 0, 0, 0), and Leaf. The keys are the numbers of the seed, as for the turns of tasks. The run has the
+-- That text breaks no rule. Its input is three lines: the list of the keys, a list of as many pads Pad4(0, 0, 0, 0), and
+-- Leaf. The keys are the numbers of the seed, as for the turns of tasks. The run has the
 -- calls and frames that `exec` is given where nothing is said, and the greatest store; and what keeps `exec` from its
 -- values is reported. In place of the values four lines are printed, of the tree that the meaning of the entry gives on
 -- these arguments: how many keys and how many nodes, and the least and the greatest key of a node, `none` where there
@@ -16,7 +16,6 @@ use Rattle.fip_language.specs.Values.{Values}
 use Rattle.fip_language.specs.declared.limits.TheConstants.{MOST_FILE_BYTES}
 use Rattle.command_outcome.specs.declared.failure.Failure.{Failure}
 use Rattle.command_outcome.specs.declared.failure.Failure.TheVariants as F
-use Rattle.command_tasks.specs.command_run.command_source.Wanted.{Compiled, Refuses, IsReady}
 use Rattle.command_tasks.specs.command_run.command_eval.EvalAnswer.{Entry, Spells}
 use Rattle.command_tasks.specs.command_run.ExecAnswer.{Execs, RunsOn, answer_of, frames_for, words_of}
 use Rattle.command_library.specs.MadeTree.{gen_input, lines_of_results}
@@ -37,7 +36,5 @@ pub data Makes (source : List ℕ) (seed count : ℕ) : Result (List ℕ) Failur
       answer_of entry vs gen_room.calls (frames_for runs.code gen_room) ≡ Gives results left →
       Makes source seed count (Ok (lines_of_results count results))
 
-pub data Generates (seed count : ℕ) : Result (List ℕ) Failure → Type 0 where
-  Refused : (r : _) → Refuses tree_source (Compiled build) r → Generates seed count (Err (F.Refused r))
-  Ran : (e : Result (List ℕ) Failure) → IsReady tree_source (Compiled build) → Makes tree_source seed count e →
-      Generates seed count e
+abbrev pub Generates : ℕ → ℕ → Result (List ℕ) Failure → Type 0
+Generates seed count e = Makes tree_source seed count e

@@ -115,7 +115,7 @@ fn make(
 
 /// The four lines of the red-black tree that is made of so many keys of a seed: how many keys and nodes, the least and
 /// the greatest key. It is what `build` of the library's text `rbtree` gives for these keys, a pad for each, and no
-/// node. What keeps the text from being run, or its run from a tree, is reported as `exec` reports it. The code and the cells
+/// node. That text is never refused; what keeps its run from a tree is reported as `exec` reports it. The code and the cells
 /// are left just where a run ended, with a tree, in a trap, or out of calls or of frames.
 pub fn generate(
     alloc: Global,

@@ -3,8 +3,7 @@
 -- The black node 2 with the red node 1 at its left is one: its keys from left to right are 1, 2, its root is black, no red
 -- node has a red child, and each path to a Leaf has one black node. An insertion of 3 with a pad gives one with the keys
 -- 1, 2 and 3, no pad and True; one of 2 gives it back, with its pad and True. A red root, or 2 at the left of 1, is none.
-use Rattle.std.specs.Prelude.{◌≡◌, ◌⊎◌, ◌↔◌, ℕ, zero, suc, ℤ, Bool, true, false, List, [], ◌∷◌, ◌++◌, ◌<ℤ◌}
-use Rattle.std.specs.Prelude.{FitsSigned}
+use Rattle.std.specs.Prelude.{◌≡◌, ◌⊎◌, ◌↔◌, ℕ, zero, suc, ℤ, Bool, true, false, List, [], ◌∷◌, ◌++◌, ◌<ℤ◌, FitsSigned}
 use Rattle.std.specs.Int.{w64}
 use Rattle.fip_language.specs.Every.{Every, Among}
 use Rattle.fip_language.specs.Meaning.{Answer}

@@ -3,12 +3,14 @@ use Rattle.std.proofs.Common.{◌<◌, ℕ, zero, suc, List, [], ◌∷◌, refl
 use Rattle.library_sources.specs.declared.finger.TheConstants.{TEXT}
 use Rattle.source_report.specs.data_types.Declarations.{declarations}
 use Rattle.source_report.specs.data_types.Types.{Node, End, More, Leaf, IsValued}
-use Rattle.source_report.specs.Report.{IsTyped}
+use Rattle.source_report.specs.Report.{IsTyped, IsAccepted}
 use Rattle.source_report.specs.reached_instances.Closed.{Closed}
 use Rattle.source_report.specs.static_params.FlatSource.{flat_source}
 use Rattle.library_programs.specs.FingerProgram.{finger_program}
 use Rattle.library_texts.specs.ComesTo.{ComesTo}
+use Rattle.library_texts.proofs.FingerCalls.{finger_told}
 use Rattle.library_texts.proofs.FingerCore.{finger_core}
+use Rattle.library_texts.proofs.Accepting.{BreaksNone, is_accepted}
 use Rattle.library_texts.proofs.Deriving.{IsPlain, plain_type, comes_to}
 use Rattle.library_texts.proofs.Typing.{IsReadable, IsRightCore, is_typed}
 
@@ -39,3 +41,24 @@ right_core = record { declared = refl; valued = valued; plain = plain; uses = re
 
 pub finger_typed : IsTyped TEXT.now finger_program
 finger_typed = is_typed TEXT.now readable finger_core refl named_types right_core finger_program refl
+
+breaks_none : BreaksNone finger_program finger_told
+breaks_none = record {
+  shapes = refl;
+  matches = refl;
+  owned = refl;
+  credited = refl;
+  told = record {
+    calls = refl;
+    frames = refl;
+    size = refl;
+    counted = refl;
+    together = refl;
+    stacks = record { size = refl; framed = refl; frames_least = refl; words_least = refl };
+  };
+  tailed = refl;
+  limits = refl;
+}
+
+pub finger_accepted : IsAccepted TEXT.now finger_program
+finger_accepted = is_accepted TEXT.now finger_program finger_told finger_typed breaks_none

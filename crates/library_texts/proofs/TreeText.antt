@@ -3,12 +3,14 @@ use Rattle.std.proofs.Common.{◌<◌, ℕ, zero, suc, List, [], ◌∷◌, refl
 use Rattle.library_sources.specs.declared.tree.TheConstants.{TEXT}
 use Rattle.source_report.specs.data_types.Declarations.{declarations}
 use Rattle.source_report.specs.data_types.Types.{Node, End, IsValued}
-use Rattle.source_report.specs.Report.{IsTyped}
+use Rattle.source_report.specs.Report.{IsTyped, IsAccepted}
 use Rattle.source_report.specs.reached_instances.Closed.{Closed, Int}
 use Rattle.source_report.specs.static_params.FlatSource.{flat_source}
 use Rattle.library_programs.specs.TreeProgram.{tree_program}
 use Rattle.library_texts.specs.ComesTo.{ComesTo}
+use Rattle.library_texts.proofs.TreeCalls.{tree_told}
 use Rattle.library_texts.proofs.TreeCore.{tree_core}
+use Rattle.library_texts.proofs.Accepting.{BreaksNone, is_accepted}
 use Rattle.library_texts.proofs.Deriving.{IsPlain, plain_type, type_at, comes_to}
 use Rattle.library_texts.proofs.Typing.{IsReadable, IsRightCore, is_typed}
 
@@ -36,3 +38,24 @@ right_core = record { declared = refl; valued = valued; plain = plain; uses = re
 
 pub tree_typed : IsTyped TEXT.now tree_program
 tree_typed = is_typed TEXT.now readable tree_core refl named_types right_core tree_program refl
+
+breaks_none : BreaksNone tree_program tree_told
+breaks_none = record {
+  shapes = refl;
+  matches = refl;
+  owned = refl;
+  credited = refl;
+  told = record {
+    calls = refl;
+    frames = refl;
+    size = refl;
+    counted = refl;
+    together = refl;
+    stacks = record { size = refl; framed = refl; frames_least = refl; words_least = refl };
+  };
+  tailed = refl;
+  limits = refl;
+}
+
+pub tree_accepted : IsAccepted TEXT.now tree_program
+tree_accepted = is_accepted TEXT.now tree_program tree_told tree_typed breaks_none

@@ -1,5 +1,5 @@
 -- What a text comes to, if anything: no other program is its typed program. A text that breaks a rule comes to any
--- program; whether one is accepted at all is another question, which a run of the front end answers.
+-- program; that one is accepted at all is another statement.
 use Rattle.std.specs.Prelude.{◌≡◌, ℕ, List}
 use Rattle.source_report.specs.fip_trees.Tree.{Program}
 use Rattle.source_report.specs.Report.{IsAccepted}

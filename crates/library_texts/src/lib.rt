@@ -10,7 +10,7 @@ ghost use Rattle.library_programs.specs.ListProgram.{list_program};
 ghost use Rattle.library_programs.specs.TreeProgram.{tree_program};
 ghost use Rattle.library_programs.specs.RedBlackProgram.{rbtree_program};
 ghost use Rattle.library_programs.specs.FingerProgram.{finger_program};
-ghost use Rattle.source_report.specs.Report.{IsTyped};
+ghost use Rattle.source_report.specs.Report.{IsTyped, IsAccepted};
 ghost use Rattle.library_texts.specs.ComesTo.{ComesTo};
 
 /// Each text of the library has just the typed program that is written out, places included, where it breaks no rule.
@@ -29,4 +29,12 @@ pub fn the_texts_are_well_typed()
     ensures tree { IsTyped tree_text.TEXT.now tree_program }
     ensures rbtree { IsTyped rbtree_text.TEXT.now rbtree_program }
     ensures finger { IsTyped finger_text.TEXT.now finger_program }
+{}
+
+/// Each text of the library breaks no rule, and its typed program is the one that is written out. For who runs the texts.
+pub fn the_texts_break_no_rule()
+    ensures list { IsAccepted list_text.TEXT.now list_program }
+    ensures tree { IsAccepted tree_text.TEXT.now tree_program }
+    ensures rbtree { IsAccepted rbtree_text.TEXT.now rbtree_program }
+    ensures finger { IsAccepted finger_text.TEXT.now finger_program }
 {}

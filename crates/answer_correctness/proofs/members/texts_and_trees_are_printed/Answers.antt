@@ -5,13 +5,14 @@ use Rattle.command_answers.specs.command_library.GenAnswer.{tree_source, gen_roo
 use Rattle.command_answers.specs.command_library.library_sources.Texts as L
 use Rattle.command_answers.specs.Exec as X
 use Rattle.command_answers.specs.Generating as G
-use Rattle.command_answers.proofs.Generated.{lines_drawn, never_fails, written}
+use Rattle.command_answers.proofs.Generated.{lines_drawn, never_fails}
+use Rattle.command_answers.proofs.command_library.library_texts.RedBlackText.{rbtree_accepted}
 use Rattle.answer_correctness.proofs.members.texts_and_trees_are_printed.Goals as goal
 
 pub returns : goal.returns
 returns c = record {
   library = λ files input. L.OfList;
-  made = λ files input seed count s vs tree left ready short h k a.
-      subst (λ t. G.Generates seed count (Ok t)) (sym (lines_drawn tree_source seed count short (written ready) s.entry vs (More tree End) left (X.frames_for s gen_room) h a)) (G.Drawn ready short);
-  never = λ seed count s vs f ready short h k t. never_fails tree_source seed count short (written ready) f (X.Ran s vs (Err f) h k t);
+  made = λ files input seed count s vs tree left short h k a.
+      subst (λ t. G.Generates seed count (Ok t)) (sym (lines_drawn tree_source seed count short rbtree_accepted s.entry vs (More tree End) left (X.frames_for s gen_room) h a)) (G.Drawn short);
+  never = λ seed count s vs f short h k t. never_fails tree_source seed count short rbtree_accepted f (X.Ran s vs (Err f) h k t);
 }

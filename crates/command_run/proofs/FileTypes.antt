@@ -6,7 +6,7 @@ use Rattle.fip_language.specs.Character.{is_upper_name}
 use Rattle.fip_language.specs.SoundTable.{AreTypes, IsSoundTable}
 use Rattle.fip_language.specs.Table.{Shape, Table, shapes}
 use Rattle.fip_machine.specs.cell_code.declared.code.Code.{Code}
-use Rattle.command_eval.specs.machine_correctness.code_file.CodeText.{code_text, functions_text, table_text, type_text, shape_text, types_text, version_number}
+use Rattle.command_eval.specs.machine_correctness.code_file.CodeText.{IsFileOf, code_text, functions_text, table_text, type_text, shape_text, types_text, version_number}
 use Rattle.command_eval.specs.machine_correctness.code_file.Plain.{PlainCode, plain_code}
 use Rattle.command_eval.specs.machine_correctness.code_file.Spelling.{◌+++◌, each, four, two, name_text, upper_name_text}
 use Rattle.command_eval.specs.machine_correctness.code_rules.Codes.{plain}
@@ -65,14 +65,17 @@ table_spelt tb t c x s e at =
     let q = each_piece type_text tb t (shapes tb t) p.0 p.1 (row_there tb t c x at) in
     type_spelt (shapes tb t) c x q.0 q.1 at
 
-pub file_spelt : (bytes : List ℕ) (code : PlainCode) (t c : ℕ) (x : Shape) → IsSoundFile bytes code → slice_get (shapes code.types t) c ≡ Some x → is_upper_name x.name ≡ true
+upper_in_file : (bytes : List ℕ) (code : PlainCode) (t c : ℕ) (x : Shape) → IsFileOf bytes code → slice_get (shapes code.types t) c ≡ Some x → is_upper_name x.name ≡ true
 unfolding code_text
-file_spelt bytes code t c x file at =
-    let version = file.spelt.0 in
-    let p = last_piece (Some (70 ∷ 80 ∷ 50 ∷ 67 ∷ [])) (Some (0 ∷ version_number version ∷ []) +++ (table_text code.types +++ functions_text version code.functions)) bytes file.spelt.1 in
+upper_in_file bytes code t c x spelt at =
+    let version = spelt.0 in
+    let p = last_piece (Some (70 ∷ 80 ∷ 50 ∷ 67 ∷ [])) (Some (0 ∷ version_number version ∷ []) +++ (table_text code.types +++ functions_text version code.functions)) bytes spelt.1 in
     let q = last_piece (Some (0 ∷ version_number version ∷ [])) (table_text code.types +++ functions_text version code.functions) p.0 p.1 in
     let r = first_piece (table_text code.types) (functions_text version code.functions) q.0 q.1 in
     table_spelt code.types t c x r.0 r.1 at
+
+pub file_spelt : (bytes : List ℕ) (code : PlainCode) (t c : ℕ) (x : Shape) → IsSoundFile bytes code → slice_get (shapes code.types t) c ≡ Some x → is_upper_name x.name ≡ true
+file_spelt bytes code t c x file at = upper_in_file bytes code t c x file.spelt at
 
 -- ---- the table
 
@@ -80,14 +83,17 @@ pub types_there : (tb : Table) (ts : List ℕ) → ((i t : ℕ) → slice_get ts
 types_there tb [] h = tt
 types_there tb (t ∷ ts) h = (h 0 t refl, types_there tb ts (λ i u e. h (suc i) u e))
 
-pub file_table : (bytes : List ℕ) (code : Code) → IsSoundFile bytes (plain_code code) → AreSoundTables (plain code) → IsSoundTable code.types
-file_table bytes code file tables =
+pub spelt_table : (bytes : List ℕ) (code : Code) → IsFileOf bytes (plain_code code) → AreSoundTables (plain code) → IsSoundTable code.types
+spelt_table bytes code spelt tables =
     let sound : (t : ℕ) → t < length code.types → IsSoundType code.types (suc t) = λ t less. tables.types (suc t) (omega arith) (omega (arith, less)) in
     let of_row : (t c : ℕ) (x : Shape) → slice_get (shapes code.types t) c ≡ Some x → IsSoundType code.types (suc t) = λ t c x at. sound t (slice_get_within code.types t (shapes code.types t) (row_there code.types t c x at)) in
     record {
-      names = λ t c x at. file_spelt bytes (plain_code code) t c x file at;
+      names = λ t c x at. upper_in_file bytes (plain_code code) t c x spelt at;
       unlike = λ t c d x y a b same. (of_row t c x a).apart c d x y a b same;
       known = λ t c x at. types_there code.types x.fields ((of_row t c x at).shapes c x at).typed;
       narrow = λ t c x at. ((of_row t c x at).shapes c x at).few;
       inhabited = λ t less. (sound t less).value;
     }
+
+pub file_table : (bytes : List ℕ) (code : Code) → IsSoundFile bytes (plain_code code) → AreSoundTables (plain code) → IsSoundTable code.types
+file_table bytes code file tables = spelt_table bytes code file.spelt tables

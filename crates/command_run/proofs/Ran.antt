@@ -1,15 +1,16 @@
 -- From a machine at the start of its function, and what it says of its run, to a run of the code to its end.
-use Rattle.std.proofs.Common.{◌≡◌, ◌∙◌, ℕ, List, [], None, sym, subst}
+use Rattle.std.proofs.Common.{◌≡◌, ◌∙◌, ℕ, List, [], None, sym, ap, subst}
 use Rattle.command_words.specs.Words.{Room}
 use Rattle.command_eval.specs.machine_correctness.machine_semantics.Codes as R
 use Rattle.command_eval.specs.machine_correctness.machine_semantics.States.{Typed, State}
 use Rattle.command_eval.specs.machine_correctness.machine_semantics.Steps.{Kinds}
+use Rattle.command_eval.specs.machine_correctness.machine_semantics.Runs.{Unsound, Over, begun, after}
 use Rattle.command_eval.specs.machine_correctness.separation.Codes.{run_code, AreKinds}
 use Rattle.command_eval.proofs.machine_correctness.separation.KindsFound.{kinds_found}
 use Rattle.fip_machine.specs.code_verify.Checked.{Checked}
 use Rattle.fip_machine.specs.declared.gauge.Gauge.{Gauge}
 use Rattle.fip_machine.specs.declared.machine.Ended.{Ended}
-use Rattle.fip_machine.specs.Ending.{KnowsRun, RunsTo}
+use Rattle.fip_machine.specs.Ending.{KnowsRun, RunsTo, IsSafeRun}
 use Rattle.fip_machine.specs.GaugeView.{ReportsRun}
 use Rattle.fip_machine.specs.Machines.{Seen}
 use Rattle.fip_machine.specs.Tasks.{state_with, IsFresh}
@@ -17,10 +18,30 @@ use Rattle.fip_machine.specs.machine_cells.Small.{IsSmall}
 use Rattle.command_eval.specs.machine_correctness.code_rules.Codes.{plain}
 use Rattle.command_eval.specs.machine_correctness.Starts.{IsSoundCode}
 use Rattle.command_eval.proofs.machine_correctness.EvaluatedEnds.{knows}
+use Rattle.command_eval.proofs.machine_correctness.Starting.{starts}
+use Rattle.command_eval.proofs.machine_correctness.separation.CodesRun.{code_runs}
+use Rattle.command_eval.proofs.machine_correctness.separation.Running.{run_sound}
 use Rattle.command_eval.specs.command_source.Entries.{Chosen}
 use Rattle.command_run.specs.Starting.{IsStarted}
 use Rattle.command_run.proofs.Came.{Came, came, ends_last}
 use Rattle.command_run.proofs.Small.{ends_small}
+
+-- no run from there comes to an instruction that can't be done
+pub safe : (r : Chosen) (input : List ℕ) (room : Room) (m : Seen) → IsStarted r input room m → IsSoundCode r.checked.code → IsSafeRun m room.calls
+safe r input room m st sound =
+    let found = kinds_found (plain r.checked.code) in
+    let begin = (starts r.checked.code found.0 found.1 r.entry st.function st.values st.frames st.state sound found.2 st.begins).0 in
+    let known : KnowsRun r.checked found.0 st.state room.calls = knows r.checked found.0 found.1 r.entry st.function st.values st.frames st.state room.calls sound found.2 st.begins in
+    let code : run_code (plain r.checked.code) ≡ R.plain m.stack.code.code = code_runs r.checked.code ∙ ap (λ (v : Checked). R.plain v.code) (sym st.code) in
+    record {
+      going = (st.fresh).going;
+      small = st.small;
+      empty = st.pushed;
+      kinds = found.0;
+      lent = (st.state).lent;
+      knows = subst (λ (v : Checked). KnowsRun v found.0 (state_with m.stack (st.state).lent m.store) room.calls) (sym st.code) (subst (λ (s : State). KnowsRun r.checked found.0 s room.calls) (sym st.stands) known);
+      never = λ n left steps last e. run_sound (plain r.checked.code) found.0 found.1 r.entry [] st.state room.calls n last left steps begin ((λ i. after found.0 (code i) n (begun (sym st.stands i) room.calls)) ∙ e);
+    }
 
 -- what a machine says of its run, and of what a gauge saw of it
 abbrev pub SaysRun : Seen → Seen → ℕ → Ended → Type 0

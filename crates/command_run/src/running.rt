@@ -1,5 +1,5 @@
 // A run on the machine.
-ghost use Rattle.std.specs.Prelude.{◌≡◌, ◌≤◌, ◌++◌, ℕ, List, Option, Some, length, slice_get, is_some};
+ghost use Rattle.std.specs.Prelude.{◌≡◌, ◌≤◌, ◌++◌, ℕ, List, Option, Some, length, slice_get, is_some, true};
 ghost use Rattle.std.specs.Prelude.{IfOk, IfErr, IfSome};
 ghost use Rattle.fip_language.specs.declared.limits.TheConstants.{MOST_FILE_BYTES};
 ghost use Rattle.fip_language.specs.PrintedText.{printed_lines};
@@ -32,6 +32,7 @@ use command_outcome::Failure;
 use command_words::Room;
 use fip_base::plain::NoMemory;
 use fip_base::table::TypeTable;
+use fip_language::limits::{MOST_FILE_BYTES, MOST_FRAMES, MOST_STORE_WORDS};
 use fip_machine::{Ended, Gauge, Machine};
 use std::alloc::Global;
 
@@ -138,6 +139,16 @@ pub fn leave(ready: Ready, cells: Option<Sealed>, left: &mut Option<Left>)
     };
 }
 
+// Whether the room and the input are within what the command line takes.
+fn is_allowed(room: Room, input: &[u8]) -> bool
+    ensures room { result ≡ true → IsAllowed room }
+    ensures input { result ≡ true → length input.now ≤ MOST_FILE_BYTES }
+{
+    room.frames <= MOST_FRAMES as u64
+        && room.words <= MOST_STORE_WORDS as u64
+        && input.len() <= MOST_FILE_BYTES
+}
+
 // Runs the function as `run` does, and hands out the cells as its run left them: just where a run ended, with values,
 // in a trap, or out of calls or of frames.
 fn run_leaving(
@@ -166,7 +177,8 @@ fn run_leaving(
         Err(failure) => return (Err(failure), None),
     };
     let mut seen = Gauge::new();
-    let ended = machine.run(room.calls, &mut seen);
+    let sure = is_allowed(room, input);
+    let ended = machine.run_sure(sure, room.calls, &mut seen);
     let end = reported(alloc, ready, &machine, ended, &seen, room, gauge);
     if is_run_end(&end) {
         (end, Some(machine.into_sealed()))

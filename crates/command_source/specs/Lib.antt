@@ -4,6 +4,7 @@ pub mod Wanted
 pub mod Entries
 pub mod Judged
 pub mod Codes
+pub mod Chosen
 pub mod ProgramCode
 pub mod Derived
 pub use Rattle.code_bytes.specs as code_bytes

@@ -8,6 +8,7 @@ ghost use Rattle.code_file.specs.Plain.{plain_code};
 ghost use Rattle.code_verify.specs.code_rules.Breaks.{IsSound};
 ghost use Rattle.code_verify.specs.code_rules.Codes.{plain, plain_function};
 ghost use Rattle.command_outcome.specs.declared.failure.Failure.TheVariants.{NoMemory};
+ghost use Rattle.command_source.specs.Chosen.{IsSpelt};
 ghost use Rattle.command_source.specs.Codes.{HasFunction, KeepsFromRun, has_named, names_one};
 ghost use Rattle.command_outcome.specs.Stages.{IsOfSource};
 ghost use Rattle.fip_trees.specs.TreeView as V;
@@ -38,20 +39,21 @@ pub struct Ready {
 }
 
 impl Model for Ready {
-    ghost use Rattle.std.specs.Prelude.{◌<◌, length};
+    ghost use Rattle.command_source.specs.Chosen.{CanBeChosen};
     ghost use Rattle.command_source.specs.Entries.{Chosen};
 
     ghost Value = { Chosen };
 
     ghost view = { λ r. record { checked = r.verified; entry = r.entry } };
 
-    ghost invariant = { λ r. r.entry < length r.verified.code.functions.items };
+    ghost invariant = { λ r. CanBeChosen r.verified.code r.entry };
 }
 
 impl Ready {
     /// The code.
     pub fn verified(&self) -> &Verified
         ensures same { result.now ≡ self.now.checked }
+        ensures spelt { IsSpelt (plain_code result.now.code) }
     {
         &self.verified
     }
@@ -220,6 +222,7 @@ fn ask_compiled(alloc: Global, instances: &[Instance], entry: &str) -> Result<()
 // The function of a root's name, which a code that was lowered has. Where a code hasn't, it is reported as unsound, at the
 // function that would stand after its last one.
 fn chosen(verified: Verified, entry: &str) -> Result<Ready, Failure>
+    requires spelt { IsSpelt (plain_code verified.code) }
     ensures same { IfOk result (λ r. r.checked.code ≡ verified.code) }
     ensures named { IfOk result (λ r. IsNamed entry.now r.checked.code.functions.items r.entry) }
     ensures none { OnErr result (names_one entry.now (plain verified.code).functions ≡ false) }
@@ -240,6 +243,7 @@ fn chosen(verified: Verified, entry: &str) -> Result<Ready, Failure>
 
 // A code that is verified, and the function of a root's name in it.
 fn verified_entry(alloc: Global, lowered: Lowered, entry: &str) -> Result<Ready, Failure>
+    requires spelt { IsSpelt (plain_code lowered.code) }
     ensures same { IfOk result (λ r. r.checked.code ≡ lowered.code) }
     ensures sound { IfOk result (λ r. IsSound (plain r.checked.code)) }
     ensures named { IfOk result (λ r. IsNamed entry.now r.checked.code.functions.items r.entry) }
@@ -255,6 +259,7 @@ fn verified_entry(alloc: Global, lowered: Lowered, entry: &str) -> Result<Ready,
 
 // The root that is run, of an accepted source.
 fn compiled(alloc: Global, lowered: Lowered, entry: &str) -> Result<Ready, Failure>
+    requires spelt { IsSpelt (plain_code lowered.code) }
     ensures ready { (source : List ℕ) → IsAccepted source (V.program lowered.typed.program) →
         OnOk result (IsReady source (Compiled entry.now)) }
     ensures code { (source : List ℕ) → IsAccepted source (V.program lowered.typed.program) →
@@ -301,6 +306,7 @@ pub fn run_entry(alloc: Global, bytes: &[u8], entry: &str) -> Result<Ready, Fail
 
 // The function of a name, of a sound code.
 fn named_in(alloc: Global, verified: Verified, entry: &str) -> Result<Ready, Failure>
+    requires spelt { IsSpelt (plain_code verified.code) }
     ensures ready { OnOk result (names_one entry.now (plain verified.code).functions ≡ true) }
     ensures same { IfOk result (λ r. r.checked.code ≡ verified.code) }
     ensures named { IfOk result (λ r. IsNamed entry.now r.checked.code.functions.items r.entry) }

@@ -179,3 +179,18 @@ abbrev pub HasPaused : Origin → Pause → Stand → Stored → ℕ → Type 0
 HasPaused o P.Short t s left = IsAlong o t s left
 HasPaused o P.Spent t s left = IsAlong o t s left
 HasPaused o (P.Over r) t s left = HasRun o (end_after (Some r)) t s
+
+-- It isn't a run in which an instruction could not be done.
+abbrev pub IsRight : Run → Type 0
+IsRight (Going s l n) = Unit {0}
+IsRight (Over (Value ws) s l n) = Unit {0}
+IsRight (Over (Trap kind line col) s l n) = Unit {0}
+IsRight (Over Out s l n) = Unit {0}
+IsRight (Over Deep s l n) = Unit {0}
+IsRight (Over Unsound s l n) = ⊥
+
+-- The task is at a moment of a run, with so many calls left, in which each instruction can be done.
+pub record IsSafe (t : Stand) (s : Stored) (left : ℕ) : Type 0 where
+  pub origin : Origin
+  pub never : (n : ℕ) → IsRight (at_step origin n)
+  pub along : IsAlong origin t s left

@@ -1,6 +1,6 @@
 // A machine: a task with a store of its own.
 ghost use Rattle.fip_language.specs.declared.limits.TheConstants.{MOST_FRAMES};
-ghost use Rattle.std.specs.Prelude.{◌≡◌, ◌<◌, ◌≤◌, List, [], length, IfOk, None, Some, slice_get};
+ghost use Rattle.std.specs.Prelude.{◌≡◌, ◌<◌, ◌≤◌, true, List, [], length, IfOk, None, Some, slice_get};
 ghost use Rattle.machine_cells.specs.machine_semantics.Codes.{plain};
 ghost use Rattle.machine_cells.specs.machine_semantics.States.{Typed, State};
 ghost use Rattle.machine_cells.specs.machine_semantics.Steps.{Kinds, next};
@@ -9,7 +9,7 @@ ghost use Rattle.machine_cells.specs.Small.{IsSmall, store_of};
 ghost use Rattle.machine_step.specs.Coming.{Comes, KnowsAt};
 ghost use Rattle.fip_machine.specs.Tasks.{state_with, ended_by, IsFresh};
 ghost use Rattle.fip_machine.specs.GaugeView.{IsUnseen, ReportsRun};
-ghost use Rattle.fip_machine.specs.Ending.{KnowsRun, RunsTo};
+ghost use Rattle.fip_machine.specs.Ending.{KnowsRun, RunsTo, IsSafeRun};
 ghost use Rattle.fip_machine.specs.Along.{end_after};
 
 use crate::gauge::{Gauge, held};
@@ -136,13 +136,52 @@ impl<'a> Machine<'a> {
             IsSmall self.old.store.cells → self.old.pushed ≡ [] → ReportsRun kinds (plain self.old.stack.code.code)
             (state_with self.old.stack lent self.old.store) calls gauge.new }
     {
+        self.run_with::<false>(calls, gauge)
+    }
+
+    /// Runs to the end as `run` does. Where it is `sure`, no cell is looked for: that asks a run that never comes to an
+    /// instruction that can't be done, as those of sound code that begin in a loaded state.
+    pub fn run_sure(&mut self, sure: bool, calls: u64, gauge: &mut Gauge) -> Ended
+        requires safe { sure ≡ true → IsSafeRun self.old calls }
+        ensures code { self.new.stack.code ≡ self.old.stack.code }
+        ensures run { (kinds : Kinds) (lent : List Typed) → KnowsRun self.old.stack.code kinds
+            (state_with self.old.stack lent self.old.store) calls → self.old.stack.ended ≡ None →
+            IsSmall self.old.store.cells → self.old.pushed ≡ [] → RunsTo kinds (plain self.old.stack.code.code)
+            (state_with self.old.stack lent self.old.store) calls result
+            (state_with self.new.stack lent self.new.store) self.new.stack.given }
+        ensures gauge { IsUnseen gauge.old → (kinds : Kinds) (lent : List Typed) → KnowsRun self.old.stack.code kinds
+            (state_with self.old.stack lent self.old.store) calls → IsFresh self.old.stack →
+            IsSmall self.old.store.cells → self.old.pushed ≡ [] → ReportsRun kinds (plain self.old.stack.code.code)
+            (state_with self.old.stack lent self.old.store) calls gauge.new }
+    {
+        if sure {
+            return self.run_with::<true>(calls, gauge);
+        }
+        self.run_with::<false>(calls, gauge)
+    }
+
+    // Runs to the end, with so many calls. Where it is sure, no cell is looked for.
+    #[inline(always)]
+    fn run_with<const SURE: bool>(&mut self, calls: u64, gauge: &mut Gauge) -> Ended
+        requires sure { SURE ≡ true → IsSafeRun self.old calls }
+        ensures code { self.new.stack.code ≡ self.old.stack.code }
+        ensures run { (kinds : Kinds) (lent : List Typed) → KnowsRun self.old.stack.code kinds
+            (state_with self.old.stack lent self.old.store) calls → self.old.stack.ended ≡ None →
+            IsSmall self.old.store.cells → self.old.pushed ≡ [] → RunsTo kinds (plain self.old.stack.code.code)
+            (state_with self.old.stack lent self.old.store) calls result
+            (state_with self.new.stack lent self.new.store) self.new.stack.given }
+        ensures gauge { IsUnseen gauge.old → (kinds : Kinds) (lent : List Typed) → KnowsRun self.old.stack.code kinds
+            (state_with self.old.stack lent self.old.store) calls → IsFresh self.old.stack →
+            IsSmall self.old.store.cells → self.old.pushed ≡ [] → ReportsRun kinds (plain self.old.stack.code.code)
+            (state_with self.old.stack lent self.old.store) calls gauge.new }
+    {
         let frames = self.stack.frames();
         let words = self.stack.words();
         gauge.see(&held(&self.cells), frames, words);
         if calls == 0 {
             return Ended::Out;
         }
-        let over = self.stack.run(&mut self.cells, calls - 1);
+        let over = self.stack.run::<Sealed, SURE>(&mut self.cells, calls - 1);
         let highest = self.stack.highest();
         gauge.see(&held(&self.cells), highest.frames, highest.words);
         ended_of(over)

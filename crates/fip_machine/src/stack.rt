@@ -1,6 +1,6 @@
 // The frames of a task.
 ghost use Rattle.std.specs.Prelude.{◌≡◌, ◌≢◌, ℕ, ◌+◌, ◌*◌, ◌<◌, ◌≤◌, List, [], ◌++◌, length, vec_len, IfOk, None, Some};
-ghost use Rattle.std.specs.Prelude.{slice_get, false};
+ghost use Rattle.std.specs.Prelude.{slice_get, false, true};
 ghost use Rattle.machine_cells.specs.machine_semantics.Codes.{plain};
 ghost use Rattle.machine_cells.specs.machine_semantics.Cells.{Store};
 ghost use Rattle.machine_cells.specs.machine_semantics.States.{Typed, State};
@@ -14,7 +14,7 @@ ghost use Rattle.machine_step.specs.Coming.{Comes, KnowsAt};
 ghost use Rattle.machine_step.specs.Telling.{IsKnown, next_reports};
 ghost use Rattle.fip_machine.specs.Tasks.{state_with, ended_by, IsMeasured, IsRaised, IsFresh};
 ghost use Rattle.fip_machine.specs.Along.{Origin, IsAlong, HasRun, HasPaused, is_call, calls_next, end_after};
-ghost use Rattle.fip_machine.specs.Along.{task_of, stored};
+ghost use Rattle.fip_machine.specs.Along.{task_of, stored, IsSafe};
 ghost use Rattle.std.specs.Vec.{vec_capacity};
 ghost use Rattle.fip_language.specs.declared.limits.TheConstants.{MOST_FIELDS, MOST_FRAMES, MOST_REGISTERS};
 ghost use Rattle.machine_step.specs.Bounding.{AreAtMost, Fits};
@@ -176,7 +176,7 @@ enum Pause {
 // Runs until the words must reach further, no call is left, or the run is over. The parts of a task are in variables
 // here, so that the cursor and the calls that are left are registers of the processor.
 #[inline(always)]
-fn burst<'a, C: Cells>(
+fn burst<'a, C: Cells, const SURE: bool>(
     verified: &'a Verified,
     bounds: Bounds,
     cells: &mut C,
@@ -193,6 +193,8 @@ fn burst<'a, C: Cells>(
     requires spare { bounds.largest ≤ vec_len beside.old.spare }
     requires some { 0 < left.old }
     requires high { IsHigh cursor.old }
+    requires sure { SURE ≡ true → IsSafe (task_of verified.now bounds words.old cursor.old beside.old)
+        (stored (C.cells cells.old) (C.released cells.old) (C.pushed cells.old)) left.old }
     ensures placed { IsPlaced verified.now bounds (length words.new) cursor.new }
     ensures waiting { Waiting verified.now bounds words.new cursor.new.frames cursor.new.base }
     ensures spare { vec_len beside.new.spare ≡ vec_len beside.old.spare }
@@ -214,7 +216,7 @@ fn burst<'a, C: Cells>(
         usize::MAX
     };
     let pause = 'steps: loop {
-        match advance::<C, true>(verified, bounds, cells, words, beside, &mut here) {
+        match advance::<C, true, SURE>(verified, bounds, cells, words, beside, &mut here) {
             Stepped::Went => {}
             Stepped::Entered => {
                 calls -= 1;
@@ -344,7 +346,7 @@ impl<'a> TaskStack<'a> {
             return ended;
         }
         make_room(&mut self.words, self.bounds, &self.cursor);
-        let stepped = advance::<C, false>(
+        let stepped = advance::<C, false, false>(
             self.verified,
             self.bounds,
             cells,
@@ -357,7 +359,13 @@ impl<'a> TaskStack<'a> {
     }
 
     // Runs to the end, or until a call would come and none of so many is left.
-    pub(crate) fn run<C: Cells>(&mut self, cells: &mut C, calls: u64) -> Option<Stepped>
+    pub(crate) fn run<C: Cells, const SURE: bool>(
+        &mut self,
+        cells: &mut C,
+        calls: u64,
+    ) -> Option<Stepped>
+        requires sure { SURE ≡ true → IsSafe self.old (stored (C.cells cells.old) (C.released cells.old)
+            (C.pushed cells.old)) calls }
         ensures code { self.new.code ≡ self.old.code }
         ensures run { (o : Origin) → IsAlong o self.old (stored (C.cells cells.old) (C.released cells.old)
             (C.pushed cells.old)) calls → HasRun o (end_after result) self.new (stored (C.cells cells.new)
@@ -369,7 +377,7 @@ impl<'a> TaskStack<'a> {
         let mut left = calls;
         while left > 0 {
             make_room(&mut self.words, self.bounds, &self.cursor);
-            let pause = burst(
+            let pause = burst::<C, SURE>(
                 self.verified,
                 self.bounds,
                 cells,

@@ -9,4 +9,5 @@ pub mod Goings
 pub mod Highs
 pub mod Turns
 pub mod Tellings
+pub mod Sures
 pub use Rattle.machine_frames.proofs as machine_frames

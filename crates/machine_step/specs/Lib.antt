@@ -5,5 +5,6 @@ pub mod Highest
 pub mod Coming
 pub mod Going
 pub mod Telling
+pub mod Sure
 pub use Rattle.code_verify.specs as code_verify
 pub use Rattle.machine_frames.specs as machine_frames

@@ -1,9 +1,10 @@
 // One function for each instruction, each inlined into `act`, and `act` into the loop of a run. What an instruction
 // asks of registers, targets, functions and room holds of a verified code, and isn't tested; what it asks of cells is
-// tested in `machine_cells`.
+// tested in `machine_cells`, but for callers that know that the run never comes to an instruction that can't be done
+// (`SURE`).
 ghost use Rattle.std.specs.Prelude.{◌≡◌, ◌≢◌, ℕ, ◌+◌, ◌-◌, ◌*◌, ◌/◌, ◌<◌, ◌≤◌, ◌^◌, Bool, false, List, [], ◌++◌};
 ghost use Rattle.std.specs.Prelude.{length, vec_len, Some, IfSome, None, slice_get, slice_set, slice_index_or, take};
-ghost use Rattle.std.specs.Prelude.{map, if◌then◌else◌};
+ghost use Rattle.std.specs.Prelude.{map, if◌then◌else◌, true};
 ghost use Rattle.fip_language.specs.declared.limits.TheConstants.{MOST_FIELDS, MOST_RESULTS};
 ghost use Rattle.fip_language.specs.Matching.{same_int};
 ghost use Rattle.fip_language.specs.Store.{Cell, Placed, places};
@@ -29,6 +30,7 @@ ghost use Rattle.machine_step.specs.Coming.{IsNext, IsReported, KnowsDrop, Knows
 ghost use Rattle.machine_step.specs.Going.{IsDone, IsGone, IsReportedWithMore, Names};
 ghost use Rattle.machine_step.specs.Placed.{IsPlaced, IsRoomy, Waiting, body_at, weight};
 ghost use Rattle.machine_step.specs.Telling.{IsKnown, act_reports, next_reports};
+ghost use Rattle.machine_step.specs.Sure.{IsSure, IsSureOf};
 ghost use Rattle.machine_step.specs.Highest.{IsHigh, IsRaised, IsSame};
 ghost use Rattle.machine_step.specs.View.{words_of, state_of};
 
@@ -445,7 +447,7 @@ fn put_sized<'a, C: Cells>(
 // Where the instruction that is next takes the fields of the register's cell, which is at this place, does it, and goes
 // on with that cell.
 #[inline(always)]
-fn take_next<'a, C: Cells>(
+fn take_next<'a, C: Cells, const SURE: bool>(
     verified: &'a Verified,
     bounds: Bounds,
     cells: &mut C,
@@ -459,6 +461,8 @@ fn take_next<'a, C: Cells>(
     requires waiting { Waiting verified.now bounds words.old cursor.old.frames cursor.old.base }
     requires there { cell_at (C.cells cells.old) place ≢ None }
     requires names { Names (C.cells cells.old) (words_of words.old cursor.old) register place }
+    requires sure { SURE ≡ true → IsSure verified.now bounds (C.cells cells.old) (C.released cells.old) words.old
+        cursor.old }
     ensures placed { IsPlaced verified.now bounds (length words.new) cursor.new }
     ensures roomy { IsRoomy bounds (length words.new) cursor.new }
     ensures waiting { Waiting verified.now bounds words.new cursor.new.frames cursor.new.base }
@@ -478,7 +482,7 @@ fn take_next<'a, C: Cells>(
     {
         let fields = fields.as_slice();
         let size = fields.len();
-        if has_size(cells, place, size) {
+        if has_size::<C, SURE>(cells, place, size) {
             take_at(cells, words, cursor.base, cursor.registers, place, fields);
             go_on(verified, bounds, words, cursor);
             put_sized(
@@ -491,7 +495,7 @@ fn take_next<'a, C: Cells>(
 // Goes on where the register has the constructor, else to the target. Instructions after it that work on the same cell
 // are done at once in the loop of a run, so that the cell is looked up once.
 #[inline(always)]
-fn test<'a, C: Cells, const IN_LOOP: bool>(
+fn test<'a, C: Cells, const IN_LOOP: bool, const SURE: bool>(
     verified: &'a Verified,
     bounds: Bounds,
     cells: &mut C,
@@ -508,6 +512,8 @@ fn test<'a, C: Cells, const IN_LOOP: bool>(
     requires next { IsSafe (body_at verified.now cursor.old) (cursor.old.at + 1) }
     requires forward { cursor.old.at < target }
     requires ahead { IsSafe (body_at verified.now cursor.old) target }
+    requires sure { SURE ≡ true → IsSureOf verified.now bounds (Instr.Test register constructor target) (C.cells
+        cells.old) (C.released cells.old) words.old cursor.old }
     ensures placed { IsPlaced verified.now bounds (length words.new) cursor.new }
     ensures roomy { IsRoomy bounds (length words.new) cursor.new }
     ensures waiting { Waiting verified.now bounds words.new cursor.new.frames cursor.new.base }
@@ -533,7 +539,7 @@ fn test<'a, C: Cells, const IN_LOOP: bool>(
             target,
         );
     }
-    let Some(place) = cell_of(cells, word) else {
+    let Some(place) = cell_of::<C, SURE>(cells, word) else {
         return branch(verified, bounds, words, cursor, false, target);
     };
     branch(
@@ -546,14 +552,14 @@ fn test<'a, C: Cells, const IN_LOOP: bool>(
     );
     if IN_LOOP {
         test_again(verified, bounds, cells, words, cursor, register, place);
-        take_next(verified, bounds, cells, words, cursor, register, place);
+        take_next::<C, SURE>(verified, bounds, cells, words, cursor, register, place);
     }
     Stepped::Went
 }
 
 // A register gets a field of the cell of another.
 #[inline(always)]
-fn peek<C: Cells>(
+fn peek<C: Cells, const SURE: bool>(
     verified: &Verified,
     bounds: Bounds,
     cells: &C,
@@ -569,6 +575,8 @@ fn peek<C: Cells>(
     requires destination { destination < cursor.old.registers }
     requires register { register < cursor.old.registers }
     requires next { IsSafe (body_at verified.now cursor.old) (cursor.old.at + 1) }
+    requires sure { SURE ≡ true → IsSureOf verified.now bounds (Instr.Peek destination register field) (C.cells
+        cells.now) (C.released cells.now) words.old cursor.old }
     ensures placed { IsPlaced verified.now bounds (length words.new) cursor.new }
     ensures roomy { IsRoomy bounds (length words.new) cursor.new }
     ensures waiting { Waiting verified.now bounds words.new cursor.new.frames cursor.new.base }
@@ -580,7 +588,7 @@ fn peek<C: Cells>(
     ensures same { IsSame cursor.old cursor.new }
 {
     let field = field as usize;
-    match field_cell_of(cells, words[cursor.base + register as usize], field) {
+    match field_cell_of::<C, SURE>(cells, words[cursor.base + register as usize], field) {
         Some(place) => {
             let word = cells.field(place, field);
             write(verified, bounds, words, cursor, destination, word)
@@ -592,7 +600,7 @@ fn peek<C: Cells>(
 // Registers of the frame at `base`, which has `own`, get the fields of the register's cell. A constructor without
 // fields has none.
 #[inline(always)]
-fn take_fields<C: Cells>(
+fn take_fields<C: Cells, const SURE: bool>(
     cells: &C,
     words: &mut [u64],
     base: usize,
@@ -603,6 +611,9 @@ fn take_fields<C: Cells>(
     requires room { base + own ≤ length words.old }
     requires register { register < own }
     requires fields { AreBelow own fields.now }
+    requires sure { SURE ≡ true → fields.now ≢ [] → IsSmall (C.cells cells.now) × (cell_at (C.cells cells.now)
+        (slice_index_or words.old (base + register) 0 / 2) ≢ None) × (size_in (cell_at (C.cells cells.now)
+        (slice_index_or words.old (base + register) 0 / 2)) ≡ length fields.now) }
     ensures keeps { Keeps base words.old words.new }
     ensures none { fields.now ≡ [] → words.new ≡ words.old }
     ensures fields { IsSmall (C.cells cells.now) → fields.now ≢ [] → (c : Cell) → cell_at (C.cells cells.now)
@@ -612,7 +623,7 @@ fn take_fields<C: Cells>(
     if fields.is_empty() {
         return;
     }
-    match sized_cell_of(cells, words[base + register as usize], fields.len()) {
+    match sized_cell_of::<C, SURE>(cells, words[base + register as usize], fields.len()) {
         Some(place) => take_at(cells, words, base, own, place, fields),
         None => {}
     }
@@ -620,7 +631,7 @@ fn take_fields<C: Cells>(
 
 // Registers get the fields of the register's cell.
 #[inline(always)]
-fn take_cell<C: Cells>(
+fn take_cell<C: Cells, const SURE: bool>(
     verified: &Verified,
     bounds: Bounds,
     cells: &C,
@@ -635,6 +646,8 @@ fn take_cell<C: Cells>(
     requires register { register < cursor.old.registers }
     requires fields { AreBelow cursor.old.registers fields.now }
     requires next { IsSafe (body_at verified.now cursor.old) (cursor.old.at + 1) }
+    requires sure { SURE ≡ true → IsSureOf verified.now bounds (Instr.Take register fields.now) (C.cells cells.now)
+        (C.released cells.now) words.old cursor.old }
     ensures placed { IsPlaced verified.now bounds (length words.new) cursor.new }
     ensures roomy { IsRoomy bounds (length words.new) cursor.new }
     ensures waiting { Waiting verified.now bounds words.new cursor.new.frames cursor.new.base }
@@ -645,7 +658,7 @@ fn take_cell<C: Cells>(
         result (store_of (C.cells cells.now) (C.released cells.now)) words.new cursor.new given }
     ensures same { IsSame cursor.old cursor.new }
 {
-    take_fields(
+    take_fields::<C, SURE>(
         cells,
         words,
         cursor.base,
@@ -658,7 +671,7 @@ fn take_cell<C: Cells>(
 
 // The cell of the register gets the constructor and the words of registers.
 #[inline(always)]
-fn put_cell<C: Cells>(
+fn put_cell<C: Cells, const SURE: bool>(
     verified: &Verified,
     bounds: Bounds,
     cells: &mut C,
@@ -675,6 +688,8 @@ fn put_cell<C: Cells>(
     requires fields { AreBelow cursor.old.registers fields.now }
     requires few { length fields.now ≤ MOST_FIELDS }
     requires next { IsSafe (body_at verified.now cursor.old) (cursor.old.at + 1) }
+    requires sure { SURE ≡ true → (ty : ℕ) × IsSureOf verified.now bounds (Instr.Put register ty constructor fields.now)
+        (C.cells cells.old) (C.released cells.old) words.now cursor.old }
     ensures placed { IsPlaced verified.now bounds (length words.now) cursor.new }
     ensures roomy { IsRoomy bounds (length words.now) cursor.new }
     ensures waiting { Waiting verified.now bounds words.now cursor.new.frames cursor.new.base }
@@ -696,7 +711,7 @@ fn put_cell<C: Cells>(
     ensures same { IsSame cursor.old cursor.new }
 {
     let word = words[cursor.base + register as usize];
-    if let Some(place) = sized_cell_of(cells, word, fields.len()) {
+    if let Some(place) = sized_cell_of::<C, SURE>(cells, word, fields.len()) {
         put(
             cells,
             words,
@@ -1073,7 +1088,7 @@ fn is_int(word: u64, value: i64) -> bool
 
 // Does an instruction.
 #[inline(always)]
-fn act<'a, C: Cells, const IN_LOOP: bool>(
+fn act<'a, C: Cells, const IN_LOOP: bool, const SURE: bool>(
     verified: &'a Verified,
     bounds: Bounds,
     cells: &mut C,
@@ -1089,6 +1104,8 @@ fn act<'a, C: Cells, const IN_LOOP: bool>(
     requires spare { bounds.largest ≤ vec_len beside.old.spare }
     requires row { Row (body_at verified.now cursor.old) cursor.old.at (IsSafe (body_at verified.now cursor.old))
         instr.now }
+    requires sure { SURE ≡ true → IsSureOf verified.now bounds instr.now (C.cells cells.old) (C.released cells.old)
+        words.old cursor.old }
     ensures placed { IsPlaced verified.now bounds (length words.new) cursor.new }
     ensures roomy { result ≢ Stepped.Entered → IsRoomy bounds (length words.new) cursor.new }
     ensures waiting { Waiting verified.now bounds words.new cursor.new.frames cursor.new.base }
@@ -1152,7 +1169,7 @@ fn act<'a, C: Cells, const IN_LOOP: bool>(
             register,
             constructor,
             target,
-        } => test::<C, IN_LOOP>(
+        } => test::<C, IN_LOOP, SURE>(
             verified,
             bounds,
             cells,
@@ -1174,7 +1191,7 @@ fn act<'a, C: Cells, const IN_LOOP: bool>(
             destination,
             register,
             field,
-        } => peek(
+        } => peek::<C, SURE>(
             verified,
             bounds,
             cells,
@@ -1184,7 +1201,7 @@ fn act<'a, C: Cells, const IN_LOOP: bool>(
             *register,
             *field,
         ),
-        Instr::Take { register, fields } => take_cell(
+        Instr::Take { register, fields } => take_cell::<C, SURE>(
             verified,
             bounds,
             cells,
@@ -1198,7 +1215,7 @@ fn act<'a, C: Cells, const IN_LOOP: bool>(
             constructor,
             fields,
             ..
-        } => put_cell(
+        } => put_cell::<C, SURE>(
             verified,
             bounds,
             cells,
@@ -1261,7 +1278,7 @@ fn act<'a, C: Cells, const IN_LOOP: bool>(
 /// each of which goes on. The loop and a single step have each a copy of it, so that each copy has one caller and is
 /// inlined there: in the loop the cursor is then registers of the processor.
 #[inline(always)]
-pub fn advance<'a, C: Cells, const IN_LOOP: bool>(
+pub fn advance<'a, C: Cells, const IN_LOOP: bool, const SURE: bool>(
     verified: &'a Verified,
     bounds: Bounds,
     cells: &mut C,
@@ -1274,6 +1291,8 @@ pub fn advance<'a, C: Cells, const IN_LOOP: bool>(
     requires waiting { Waiting verified.now bounds words.old cursor.old.frames cursor.old.base }
     requires most { AreAtMost verified.now bounds.largest }
     requires spare { bounds.largest ≤ vec_len beside.old.spare }
+    requires sure { SURE ≡ true → IsSure verified.now bounds (C.cells cells.old) (C.released cells.old) words.old
+        cursor.old }
     ensures placed { IsPlaced verified.now bounds (length words.new) cursor.new }
     ensures roomy { result ≢ Stepped.Entered → IsRoomy bounds (length words.new) cursor.new }
     ensures waiting { Waiting verified.now bounds words.new cursor.new.frames cursor.new.base }
@@ -1301,5 +1320,5 @@ pub fn advance<'a, C: Cells, const IN_LOOP: bool>(
     ensures raised { IsHigh cursor.old → IsRaised cursor.old cursor.new }
 {
     let instr = next_of(verified, bounds, words, cursor);
-    act::<C, IN_LOOP>(verified, bounds, cells, words, beside, cursor, instr)
+    act::<C, IN_LOOP, SURE>(verified, bounds, cells, words, beside, cursor, instr)
 }

@@ -6,11 +6,13 @@ use Rattle.command_eval.specs.machine_correctness.code_rules.Breaks.{IsSound}
 use Rattle.command_eval.specs.machine_correctness.code_rules.Codes.{plain}
 use Rattle.command_eval.specs.machine_correctness.code_rules.Tables.{AreSoundTables}
 use Rattle.command_eval.proofs.machine_correctness.Literals.{has_literals}
+use Rattle.command_eval.specs.machine_correctness.code_file.Plain.{plain_code}
+use Rattle.command_eval.specs.command_source.Chosen.{IsSpelt}
 use Rattle.command_run.proofs.Entry as N
 use Rattle.command_run.proofs.Execs as X
-use Rattle.command_run.proofs.FileTypes.{file_table}
+use Rattle.command_run.proofs.FileTypes.{file_table, spelt_table}
 use Rattle.command_run.proofs.Leaving.{last_store}
-use Rattle.command_run.proofs.Ran.{ran}
+use Rattle.command_run.proofs.Ran.{ran, safe}
 use Rattle.command_run.proofs.RunsCode as D
 use Rattle.command_run.proofs.running.run_leaving.Goals as goal
 
@@ -33,8 +35,8 @@ returns-then-is_run_end-clause-means c = λ source name ready is room le.
     let literals = has_literals (plain r.checked.code) (subst (λ (v : Checked). HasMachineInts (plain v.code)) c.verified.ensures.same c.code.ensures.literals) in
     let unseen : IsUnseen c.new-seen.result = record { seen = c.new-seen.ensures.unseen; highest = c.new-seen.ensures.highest; frames = c.new-seen.ensures.frames; words = c.new-seen.ensures.words } in
     let st = c.in-Ok.ensures.begins (N.table_sound source name r ready is) room le in
-    let q = ran r c.args.input.now (room_of c.args.room) c.in-Ok.machine st c.run-ended.result c.run-ended.new.self c.run-ended.new.gauge (record { sound = sound; literals = literals }) c.run-ended.ensures.run (c.run-ended.ensures.gauge unseen) in
-    X.finished source name c.args.input.now r ready is literals (room_of c.args.room) c.args.gauge c.in-Ok.machine st c.run-ended.result c.run-ended.new.self c.run-ended.new.gauge q c.reported-end.result (c.reported-end.ensures.reports is.named.function st.has_frames.held is.named.there st.has_frames.stack q.small)
+    let q = ran r c.args.input.now (room_of c.args.room) c.in-Ok.machine st c.run_sure-ended.result c.run_sure-ended.new.self c.run_sure-ended.new.gauge (record { sound = sound; literals = literals }) c.run_sure-ended.ensures.run (c.run_sure-ended.ensures.gauge unseen) in
+    X.finished source name c.args.input.now r ready is literals (room_of c.args.room) c.args.gauge c.in-Ok.machine st c.run_sure-ended.result c.run_sure-ended.new.self c.run_sure-ended.new.gauge q c.reported-end.result (c.reported-end.ensures.reports is.named.function st.has_frames.held is.named.there st.has_frames.stack q.small)
 
 pub returns-then-is_run_end-clause-runs : goal.returns-then-is_run_end-clause-runs
 returns-then-is_run_end-clause-runs c = λ bytes name is room le.
@@ -44,8 +46,8 @@ returns-then-is_run_end-clause-runs c = λ bytes name is room le.
     let tables = subst (λ (v : Checked). AreSoundTables (plain v.code)) c.verified.ensures.same c.code.ensures.tables in
     let unseen : IsUnseen c.new-seen.result = record { seen = c.new-seen.ensures.unseen; highest = c.new-seen.ensures.highest; frames = c.new-seen.ensures.frames; words = c.new-seen.ensures.words } in
     let st = c.in-Ok.ensures.begins (file_table bytes r.checked.code is.file tables) room le in
-    let q = ran r c.args.input.now (room_of c.args.room) c.in-Ok.machine st c.run-ended.result c.run-ended.new.self c.run-ended.new.gauge (record { sound = sound; literals = literals }) c.run-ended.ensures.run (c.run-ended.ensures.gauge unseen) in
-    D.finished bytes name c.args.input.now r is (room_of c.args.room) c.args.gauge c.in-Ok.machine st c.run-ended.result c.run-ended.new.self c.run-ended.new.gauge q c.reported-end.result (c.reported-end.ensures.reports is.named.function st.has_frames.held is.named.there st.has_frames.stack q.small)
+    let q = ran r c.args.input.now (room_of c.args.room) c.in-Ok.machine st c.run_sure-ended.result c.run_sure-ended.new.self c.run_sure-ended.new.gauge (record { sound = sound; literals = literals }) c.run_sure-ended.ensures.run (c.run_sure-ended.ensures.gauge unseen) in
+    D.finished bytes name c.args.input.now r is (room_of c.args.room) c.args.gauge c.in-Ok.machine st c.run_sure-ended.result c.run_sure-ended.new.self c.run_sure-ended.new.gauge q c.reported-end.result (c.reported-end.ensures.reports is.named.function st.has_frames.held is.named.there st.has_frames.stack q.small)
 
 pub returns-else-is_run_end-clause-means : goal.returns-else-is_run_end-clause-means
 returns-else-is_run_end-clause-means c = λ source name ready is room le.
@@ -54,8 +56,8 @@ returns-else-is_run_end-clause-means c = λ source name ready is room le.
     let literals = has_literals (plain r.checked.code) (subst (λ (v : Checked). HasMachineInts (plain v.code)) c.verified.ensures.same c.code.ensures.literals) in
     let unseen : IsUnseen c.new-seen.result = record { seen = c.new-seen.ensures.unseen; highest = c.new-seen.ensures.highest; frames = c.new-seen.ensures.frames; words = c.new-seen.ensures.words } in
     let st = c.in-Ok.ensures.begins (N.table_sound source name r ready is) room le in
-    let q = ran r c.args.input.now (room_of c.args.room) c.in-Ok.machine st c.run-ended.result c.run-ended.new.self c.run-ended.new.gauge (record { sound = sound; literals = literals }) c.run-ended.ensures.run (c.run-ended.ensures.gauge unseen) in
-    X.finished source name c.args.input.now r ready is literals (room_of c.args.room) c.args.gauge c.in-Ok.machine st c.run-ended.result c.run-ended.new.self c.run-ended.new.gauge q c.reported-end.result (c.reported-end.ensures.reports is.named.function st.has_frames.held is.named.there st.has_frames.stack q.small)
+    let q = ran r c.args.input.now (room_of c.args.room) c.in-Ok.machine st c.run_sure-ended.result c.run_sure-ended.new.self c.run_sure-ended.new.gauge (record { sound = sound; literals = literals }) c.run_sure-ended.ensures.run (c.run_sure-ended.ensures.gauge unseen) in
+    X.finished source name c.args.input.now r ready is literals (room_of c.args.room) c.args.gauge c.in-Ok.machine st c.run_sure-ended.result c.run_sure-ended.new.self c.run_sure-ended.new.gauge q c.reported-end.result (c.reported-end.ensures.reports is.named.function st.has_frames.held is.named.there st.has_frames.stack q.small)
 
 pub returns-else-is_run_end-clause-runs : goal.returns-else-is_run_end-clause-runs
 returns-else-is_run_end-clause-runs c = λ bytes name is room le.
@@ -65,8 +67,8 @@ returns-else-is_run_end-clause-runs c = λ bytes name is room le.
     let tables = subst (λ (v : Checked). AreSoundTables (plain v.code)) c.verified.ensures.same c.code.ensures.tables in
     let unseen : IsUnseen c.new-seen.result = record { seen = c.new-seen.ensures.unseen; highest = c.new-seen.ensures.highest; frames = c.new-seen.ensures.frames; words = c.new-seen.ensures.words } in
     let st = c.in-Ok.ensures.begins (file_table bytes r.checked.code is.file tables) room le in
-    let q = ran r c.args.input.now (room_of c.args.room) c.in-Ok.machine st c.run-ended.result c.run-ended.new.self c.run-ended.new.gauge (record { sound = sound; literals = literals }) c.run-ended.ensures.run (c.run-ended.ensures.gauge unseen) in
-    D.finished bytes name c.args.input.now r is (room_of c.args.room) c.args.gauge c.in-Ok.machine st c.run-ended.result c.run-ended.new.self c.run-ended.new.gauge q c.reported-end.result (c.reported-end.ensures.reports is.named.function st.has_frames.held is.named.there st.has_frames.stack q.small)
+    let q = ran r c.args.input.now (room_of c.args.room) c.in-Ok.machine st c.run_sure-ended.result c.run_sure-ended.new.self c.run_sure-ended.new.gauge (record { sound = sound; literals = literals }) c.run_sure-ended.ensures.run (c.run_sure-ended.ensures.gauge unseen) in
+    D.finished bytes name c.args.input.now r is (room_of c.args.room) c.args.gauge c.in-Ok.machine st c.run_sure-ended.result c.run_sure-ended.new.self c.run_sure-ended.new.gauge q c.reported-end.result (c.reported-end.ensures.reports is.named.function st.has_frames.held is.named.there st.has_frames.stack q.small)
 
 pub returns-then-is_run_end-clause-meant : goal.returns-then-is_run_end-clause-meant
 returns-then-is_run_end-clause-meant c = λ source name ready is room le.
@@ -75,8 +77,8 @@ returns-then-is_run_end-clause-meant c = λ source name ready is room le.
     let literals = has_literals (plain r.checked.code) (subst (λ (v : Checked). HasMachineInts (plain v.code)) c.verified.ensures.same c.code.ensures.literals) in
     let unseen : IsUnseen c.new-seen.result = record { seen = c.new-seen.ensures.unseen; highest = c.new-seen.ensures.highest; frames = c.new-seen.ensures.frames; words = c.new-seen.ensures.words } in
     let st = c.in-Ok.ensures.begins (N.table_sound source name r ready is) room le in
-    let q = ran r c.args.input.now (room_of c.args.room) c.in-Ok.machine st c.run-ended.result c.run-ended.new.self c.run-ended.new.gauge (record { sound = sound; literals = literals }) c.run-ended.ensures.run (c.run-ended.ensures.gauge unseen) in
-    last_store r c.args.input.now (room_of c.args.room) c.in-Ok.machine st c.run-ended.result c.run-ended.new.self c.run-ended.new.gauge c.into_sealed.result q c.into_sealed.ensures.cells
+    let q = ran r c.args.input.now (room_of c.args.room) c.in-Ok.machine st c.run_sure-ended.result c.run_sure-ended.new.self c.run_sure-ended.new.gauge (record { sound = sound; literals = literals }) c.run_sure-ended.ensures.run (c.run_sure-ended.ensures.gauge unseen) in
+    last_store r c.args.input.now (room_of c.args.room) c.in-Ok.machine st c.run_sure-ended.result c.run_sure-ended.new.self c.run_sure-ended.new.gauge c.into_sealed.result q c.into_sealed.ensures.cells
 
 pub returns-then-is_run_end-clause-coded : goal.returns-then-is_run_end-clause-coded
 returns-then-is_run_end-clause-coded c = λ bytes name is room le.
@@ -86,5 +88,17 @@ returns-then-is_run_end-clause-coded c = λ bytes name is room le.
     let tables = subst (λ (v : Checked). AreSoundTables (plain v.code)) c.verified.ensures.same c.code.ensures.tables in
     let unseen : IsUnseen c.new-seen.result = record { seen = c.new-seen.ensures.unseen; highest = c.new-seen.ensures.highest; frames = c.new-seen.ensures.frames; words = c.new-seen.ensures.words } in
     let st = c.in-Ok.ensures.begins (file_table bytes r.checked.code is.file tables) room le in
-    let q = ran r c.args.input.now (room_of c.args.room) c.in-Ok.machine st c.run-ended.result c.run-ended.new.self c.run-ended.new.gauge (record { sound = sound; literals = literals }) c.run-ended.ensures.run (c.run-ended.ensures.gauge unseen) in
-    last_store r c.args.input.now (room_of c.args.room) c.in-Ok.machine st c.run-ended.result c.run-ended.new.self c.run-ended.new.gauge c.into_sealed.result q c.into_sealed.ensures.cells
+    let q = ran r c.args.input.now (room_of c.args.room) c.in-Ok.machine st c.run_sure-ended.result c.run_sure-ended.new.self c.run_sure-ended.new.gauge (record { sound = sound; literals = literals }) c.run_sure-ended.ensures.run (c.run_sure-ended.ensures.gauge unseen) in
+    last_store r c.args.input.now (room_of c.args.room) c.in-Ok.machine st c.run_sure-ended.result c.run_sure-ended.new.self c.run_sure-ended.new.gauge c.into_sealed.result q c.into_sealed.ensures.cells
+
+pub run_sure-ended-requires : goal.run_sure-ended-requires
+run_sure-ended-requires c = record {
+  safe = λ sure.
+      let r = c.args.ready.now in
+      let sound = subst (λ (v : Checked). IsSound (plain v.code)) c.verified.ensures.same c.code.ensures.sound in
+      let literals = has_literals (plain r.checked.code) (subst (λ (v : Checked). HasMachineInts (plain v.code)) c.verified.ensures.same c.code.ensures.literals) in
+      let tables = subst (λ (v : Checked). AreSoundTables (plain v.code)) c.verified.ensures.same c.code.ensures.tables in
+      let spelt = subst (λ (v : Checked). IsSpelt (plain_code v.code)) c.verified.ensures.same c.verified.ensures.spelt in
+      let st = c.in-Ok.ensures.begins (spelt_table spelt.0 r.checked.code spelt.1 tables) (c.is_allowed-sure.ensures.room sure) (c.is_allowed-sure.ensures.input sure) in
+      safe r c.args.input.now (room_of c.args.room) c.in-Ok.machine st (record { sound = sound; literals = literals });
+}

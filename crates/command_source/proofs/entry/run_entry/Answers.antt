@@ -10,3 +10,6 @@ returns-in-Ok-clause-kept c = function_missed c.args.bytes.now c.args.entry.now 
 
 pub returns-in-Ok-clause-code : goal.returns-in-Ok-clause-code
 returns-in-Ok-clause-code c = chosen_function c.args.bytes.now c.args.entry.now c.in-Ok.verified.code c.named_in.result c.in-Ok.ensures.sound c.named_in.ensures.same c.named_in.ensures.named
+
+pub named_in-requires : goal.named_in-requires
+named_in-requires c = record { spelt = (c.args.bytes.now, c.in-Ok.ensures.sound.spelt) }

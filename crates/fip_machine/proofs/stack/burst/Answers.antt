@@ -3,6 +3,7 @@ use Rattle.std.proofs.Common.{◌∙◌, rules, arith}
 use Rattle.machine_step.proofs.Highs.{high_raised}
 use Rattle.fip_machine.specs.Along.{stored}
 use Rattle.fip_machine.proofs.Bursts.{turned_task, turned_on, turned_in, turned_out}
+use Rattle.fip_machine.proofs.Sures.{is_sure}
 use Rattle.fip_machine.proofs.stack.burst.Goals as goal
 
 pub steps-preserved-in-Went : goal.steps-preserved-in-Went
@@ -81,3 +82,10 @@ returns-in_default g c =
       over = search rules;
       along = λ o a. turned_out o v b c.steps.words c.advance.new.words c.steps.here c.advance.new.cursor c.steps.beside c.advance.new.beside s w c.steps.calls c.advance.result c.in_default.not-Went c.in_default.not-Entered inv.some (turned_task o v b c.steps.words c.advance.new.words c.steps.here c.advance.new.cursor c.steps.beside c.advance.new.beside s w c.steps.calls c.advance.result (inv.along o a) reported.placed.room reported.waiting inv.high reported.raised reported.small reported.pushed reported.more);
     }
+
+-- at each moment of the run
+pub advance-requires-clause-sure : goal.advance-requires-clause-sure
+advance-requires-clause-sure g c sure =
+    let s = stored (g.C.Cells.cells c.steps.cells) (g.C.Cells.released c.steps.cells) (g.C.Cells.pushed c.steps.cells) in
+    let safe = c.requires.sure sure in
+    is_sure safe.origin c.args.verified.now c.args.bounds c.steps.words c.steps.here c.steps.beside s c.steps.calls safe.never (c.steps.invariant.along safe.origin safe.along)

@@ -21,6 +21,8 @@ use Rattle.machine_step.proofs.Goings.{alone, same_done}
 use Rattle.machine_step.proofs.Highs.{raised_same}
 use Rattle.machine_step.specs.Telling.{IsKnown, act_reports}
 use Rattle.machine_step.proofs.Tellings.{reported_nothing}
+use Rattle.cell_code.specs.declared.code.Instr.{Instr}
+use Rattle.machine_step.specs.Sure.{IsSureOf}
 use Rattle.machine_step.proofs.rows.act.Goals as goal
 
 pub call-requires-clause-callee : goal.call-requires-clause-callee
@@ -480,3 +482,15 @@ returns-in-Free-clause-counted g c once = c.release_cell.ensures.counted
 
 pub returns-in-Ret-clause-counted : goal.returns-in-Ret-clause-counted
 returns-in-Ret-clause-counted g c once k low high few = ap (held_or_freed k (g.C.Cells.cells c.args.cells.now) (g.C.Cells.released c.args.cells.now)) c.give_back.ensures.freed
+
+pub test-requires-clause-sure : goal.test-requires-clause-sure
+test-requires-clause-sure g c sure = subst (λ (x : Instr). IsSureOf c.args.verified.now c.args.bounds x (g.C.Cells.cells c.args.cells.now) (g.C.Cells.released c.args.cells.now) c.args.words.now c.args.cursor.now) c.in-Test.is (c.requires.sure sure)
+
+pub peek-requires-clause-sure : goal.peek-requires-clause-sure
+peek-requires-clause-sure g c sure = subst (λ (x : Instr). IsSureOf c.args.verified.now c.args.bounds x (g.C.Cells.cells c.args.cells.now) (g.C.Cells.released c.args.cells.now) c.args.words.now c.args.cursor.now) c.in-Peek.is (c.requires.sure sure)
+
+pub take_cell-requires-clause-sure : goal.take_cell-requires-clause-sure
+take_cell-requires-clause-sure g c sure = subst (λ (x : Instr). IsSureOf c.args.verified.now c.args.bounds x (g.C.Cells.cells c.args.cells.now) (g.C.Cells.released c.args.cells.now) c.args.words.now c.args.cursor.now) (c.in-Take.is ∙ ap (λ (ds : List ℕ). I.Take c.in-Take.register ds) (sym c.as_slice.ensures.same)) (c.requires.sure sure)
+
+pub put_cell-requires-clause-sure : goal.put_cell-requires-clause-sure
+put_cell-requires-clause-sure g c sure = (c.in-Put.ty, subst (λ (x : Instr). IsSureOf c.args.verified.now c.args.bounds x (g.C.Cells.cells c.args.cells.now) (g.C.Cells.released c.args.cells.now) c.args.words.now c.args.cursor.now) (c.in-Put.is ∙ ap (λ (ds : List ℕ). I.Put c.in-Put.register c.in-Put.ty c.in-Put.constructor ds) (sym c.as_slice-in-Put.ensures.same)) (c.requires.sure sure))

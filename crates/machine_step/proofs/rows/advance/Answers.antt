@@ -10,6 +10,7 @@ use Rattle.machine_cells.specs.Small.{store_of}
 use Rattle.machine_step.specs.View.{state_of}
 use Rattle.machine_step.specs.Coming.{Comes}
 use Rattle.machine_step.proofs.Goings.{instr_is, next_is}
+use Rattle.machine_step.proofs.Sures.{can_act}
 use Rattle.machine_step.proofs.rows.advance.Goals as goal
 
 pub returns-clause-next : goal.returns-clause-next
@@ -62,3 +63,18 @@ returns-clause-reported g c kinds lent known once small empty goes first ts repo
     let acts : act_at (plain v.code) ks old (instr_of (plain v.code) old) ≡ act (plain v.code) ks old x = ap (act_at (plain v.code) ks old) (at ∙ refl) in
     let reports : next_reports kinds (plain v.code) old ≡ act_reports (plain v.code) ks old x = ap (λ (o : Option Instr). map as_reported (done_changes (changes_at (plain v.code) ks old o) (act_at (plain v.code) ks old o))) at in
     subst (λ us. g.C.Cells.was_reported first (ts ++ us) c.act.new.cells) (sym reports) (c.act.ensures.reported ks lent (λ r t e owned. known r t (at ∙ ap Some e) owned) once small empty (subst IsKnown acts goes) first ts reported)
+
+pub act-requires-clause-sure : goal.act-requires-clause-sure
+act-requires-clause-sure g c sure =
+    let v = c.args.verified.now in
+    let ws = c.args.words.now in
+    let cursor = c.args.cursor.now in
+    let s = store_of (g.C.Cells.cells c.args.cells.now) (g.C.Cells.released c.args.cells.now) in
+    let known = c.requires.sure sure in
+    record {
+      small = known.small;
+      kinds = known.kinds;
+      before = known.kinds cursor.function cursor.at;
+      lent = known.lent;
+      acts = can_act v c.args.bounds (length ws) known.kinds known.lent s ws cursor c.next_of-instr.result.now c.requires.placed c.next_of-instr.ensures.is known.goes;
+    }

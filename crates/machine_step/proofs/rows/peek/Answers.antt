@@ -6,6 +6,7 @@ use Rattle.machine_step.specs.View.{words_of, state_of}
 use Rattle.machine_step.specs.Coming.{moved}
 use Rattle.machine_step.proofs.RowNexts.{peek_next}
 use Rattle.machine_step.proofs.Helps.{same_place, read_word, in_size}
+use Rattle.machine_step.proofs.Sures.{peeked_cell}
 use Rattle.machine_step.proofs.rows.peek.Goals as goal
 
 pub returns-in-Some-clause-next : goal.returns-in-Some-clause-next
@@ -35,3 +36,16 @@ returns-in-None-clause-next g c ks given small lent =
     let word = get_or ws (cursor.base + c.args.register) 0 in
     peek_next v b ks lent s ws cursor c.go_on.result (state_of v b lent s ws c.go_on.new.cursor) given c.args.destination c.args.register c.args.field c.requires.destination c.requires.register room c.go_on.ensures.went (λ u w at get.
     absurd (none-some (word / 2) (sym c.in-None.is ∙ c.field_cell_of.ensures.found small (in_size cs (word / 2) c.args.field u w at get))))
+
+pub field_cell_of-requires : goal.field_cell_of-requires
+field_cell_of-requires g c = record {
+  sure = λ sure.
+      let known = c.requires.sure sure in
+      let ws = c.args.words.now in
+      let cursor = c.args.cursor.now in
+      let cs = g.C.Cells.cells c.args.cells.now in
+      let s = store_of cs (g.C.Cells.released c.args.cells.now) in
+      let word = get_or ws (cursor.base + c.args.register) 0 in
+      let cell = peeked_cell c.args.verified.now c.args.bounds known.before known.lent s ws cursor c.args.destination c.args.register c.args.field c.requires.register c.requires.placed.room known.acts.known in
+      (known.small, in_size cs (word / 2) c.args.field cell.0 cell.1 cell.2 cell.3);
+}

@@ -81,3 +81,20 @@ returns-clause-counted g c freed =
           subst (λ k. CountsReleased cs rs freed (g.C.Cells.cells k) (g.C.Cells.released k) freed) (sym w.cells-is) all)
       | in_default w ↦ subst (λ k. CountsReleased cs rs freed (g.C.Cells.cells k) (g.C.Cells.released k) freed) (sym w.cells-is) (counts_none cs rs freed)
     ]
+
+pub sized_cell_of-requires : goal.sized_cell_of-requires
+sized_cell_of-requires g c = record {
+  sure = λ sure.
+      let q = c.requires.sure sure in
+      let known = q.1 in
+      let v = c.args.verified.now in
+      let ws = c.args.words.now in
+      let cursor = c.args.cursor.now in
+      let cs = g.C.Cells.cells c.args.cells.now in
+      let s = store_of cs (g.C.Cells.released c.args.cells.now) in
+      let old = state_of v c.args.bounds known.lent s ws cursor in
+      let word = get_or ws (cursor.base + c.args.register) 0 in
+      let z = put_reported v c.args.bounds known.before known.lent s ws cursor S.Went old [] c.args.register q.0 c.args.constructor c.args.fields.now c.requires.register c.requires.placed.room c.requires.fields known.acts.known in
+      let there = same_cell cs (word / 2) ∙ z.1 in
+      (known.small, is_there (cell_at cs (word / 2)) z.0 there, ap size_in there ∙ z.2);
+}

@@ -83,3 +83,17 @@ returns g c =
       code = c.run_to_call.ensures.code ∙ inv.code;
       run = λ o a. c.run_to_call.ensures.run o (along_ended o task i.ended s 0 inv.going refl (subst (λ (n : ℕ). IsAlong o task s n) none (inv.along o a)));
     }
+
+pub burst-pause-requires-clause-sure : goal.burst-pause-requires-clause-sure
+burst-pause-requires-clause-sure g c sure =
+    let i = c.loop-left.self-inside in
+    let inv = c.loop-left.invariant in
+    let v = i.verified.now in
+    let b = i.bounds in
+    let s = stored (g.C.Cells.cells c.loop-left.cells) (g.C.Cells.released c.loop-left.cells) (g.C.Cells.pushed c.loop-left.cells) in
+    let safe = c.requires.sure sure in
+    record {
+      origin = safe.origin;
+      never = safe.never;
+      along = subst (λ (t : Stand). IsAlong safe.origin t s c.loop-left.left) (sym (task_same v b i.words.items c.make_room.new.words.items i.cursor i.beside inv.task.placed.room c.make_room.ensures.more c.make_room.ensures.keeps) ∙ sym (λ j. task_of v b (c.as_mut_slice.ensures.value j) i.cursor i.beside)) (inv.along safe.origin safe.along);
+    }

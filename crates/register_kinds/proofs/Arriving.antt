@@ -1,25 +1,26 @@
 -- Whether kinds fit a label map: register by register, and by those that have changed.
+use Rattle.kind_domain.proofs.AskedMaps.{some_map}
 use Rattle.std.proofs.Common.{◌≡◌, ℕ, zero, suc, ◌+◌, ◌<◌, ◌⊎◌, inl, inr, List, [], ◌∷◌, length, map, drop, get_or, refl, sym, ap, ◌∙◌, subst, arith}
 use Rattle.std.specs.Prelude.{Bool, true, false, ◌&&◌, ◌==◌, if◌then◌else◌, Option, Some, None, slice_get}
 use Rattle.std.proofs.lemmas.Bool.Decides.{eqb_tells}
-use Rattle.cell_code.specs.declared.kind.Kind.{Kind}
-use Rattle.cell_code.specs.declared.kind.Kind.TheVariants.{Gone, Scalar, Owned, Lent, Credit}
-use Rattle.code_rules.specs.Kinds.{at, has, is_free, set_of}
-use Rattle.code_rules.specs.Changes.{narrow, without, tested}
-use Rattle.code_rules.specs.Fitting.{fits, fit_all}
+use Rattle.kind_domain.specs.cell_code.declared.kind.Kind.{Kind}
+use Rattle.kind_domain.specs.cell_code.declared.kind.Kind.TheVariants.{Gone, Scalar, Owned, Lent, Credit}
+use Rattle.kind_domain.specs.code_rules.Kinds.{at, has, is_free, set_of}
+use Rattle.kind_domain.specs.code_rules.Changes.{narrow, without, tested}
+use Rattle.kind_domain.specs.code_rules.Fitting.{fits, fit_all}
 use Rattle.register_kinds.specs.declared.fits.Tested.{Tested}
 use Rattle.register_kinds.specs.Arrivals.{lessened, lacked_at, arrive, fits_at, each_fits, tested_fits}
-use Rattle.code_rules.specs.Codes.{LabelMap, plain_label}
-use Rattle.cell_code.specs.declared.kind.Label.{Label}
-use Rattle.register_kinds.specs.Arrivals.{HasBut}
-use Rattle.register_kinds.specs.Kept.{Lents, Links, IsKept, KindsRise}
-use Rattle.register_kinds.specs.LabelSets.{LabelSets}
-use Rattle.register_kinds.specs.declared.asked.Asked.{Asked}
-use Rattle.register_kinds.specs.Rising.{Rise}
+use Rattle.kind_domain.specs.cell_code.Plain.{LabelMap}
+use Rattle.kind_domain.specs.Sights.{HasBut}
+use Rattle.kind_domain.specs.Leading.{Lents, Links}
+use Rattle.register_kinds.specs.Kept.{IsKept, KindsRise}
+use Rattle.kind_domain.specs.LabelSets.{LabelSets}
+use Rattle.kind_domain.specs.declared.asked.Asked.{Asked}
+use Rattle.kind_domain.specs.Rising.{Rise}
 use Rattle.register_kinds.proofs.Changed.{is_become, not_true}
 use Rattle.register_kinds.proofs.Less.{free}
-use Rattle.fip_base.proofs.fip_language.Facts.{and_both as and_parts, both_true as and_all, same_both_ways as same_if, true_or_false}
-pub use Rattle.fip_base.proofs.fip_language.Facts.{and_true_back as with_yes}
+use Rattle.kind_domain.proofs.fip_language.Facts.{and_both as and_parts, both_true as and_all, same_both_ways as same_if, true_or_false}
+pub use Rattle.kind_domain.proofs.fip_language.Facts.{and_true_back as with_yes}
 
 none_lessened : (k : Kind) → lessened None k ≡ k
 none_lessened Gone = refl
@@ -147,9 +148,6 @@ seen_fits t ms ks qs l h =
 
 -- what is seen through a label map's slice
 
-pub some_map : (a b : LabelMap) → Some a ≡ Some b → a ≡ b
-some_map a b e = cc
-
 pub map_is : (o : Option LabelMap) (a b : LabelMap) → o ≡ Some a → o ≡ Some b → a ≡ b
 map_is o a b e f = some_map a b (sym e ∙ f)
 
@@ -256,9 +254,3 @@ pub free_from : (t : Option Tested) (ms ks : List Kind) (q : ℕ) (k : Kind) (b 
 free_from t ms ks q k b h e f =
     h ∙ ap is_free e ∙ sym (free (lacked_at t q) (at ks q))
     ∙ ap (λ m. fits m (lessened (lacked_at t q) (at ks q))) (sym f)
-
-pub label_get : (ls : List Label) (i : ℕ) (x d : Label) → i < length ls → x ≡ get_or ls i d →
-    slice_get (map plain_label ls) i ≡ Some (plain_label x)
-label_get [] i x d h e = absurd (omega arith)
-label_get (y ∷ ls) zero x d h e = ap (λ z. Some (plain_label z)) (sym e)
-label_get (y ∷ ls) (suc i) x d h e = label_get ls i x d (omega arith) e

@@ -1,18 +1,20 @@
 -- What writing, using up and testing make of all kinds, as one register is looked at after another.
-use Rattle.std.proofs.Common.{◌≡◌, ℕ, zero, suc, ◌+◌, ◌<◌, ◌≤◌, ◌⊎◌, inl, inr, List, [], ◌∷◌, length, map, set, refl, sym, ap, ◌∙◌, arith}
+use Rattle.std.proofs.Common.{◌≡◌, ℕ, zero, suc, ◌+◌, ◌<◌, ◌⊎◌, inl, inr, List, [], ◌∷◌, length, map, set, refl, sym, ap, ◌∙◌, arith}
 use Rattle.std.specs.Prelude.{Bool, true, false, ◌||◌, ◌==◌, Option, Some, None, if◌then◌else◌}
 use Rattle.std.proofs.lemmas.Bool.Decides.{eqb_tells}
-use Rattle.cell_code.specs.declared.kind.From.{From}
-use Rattle.cell_code.specs.declared.kind.Kind.{Kind}
-use Rattle.cell_code.specs.declared.kind.Kind.TheVariants.{Gone, Scalar, Owned, Lent, Credit}
-use Rattle.code_rules.specs.Types.{numbers}
-use Rattle.code_rules.specs.Kinds.{at, has, from_of, is_lent_of}
-use Rattle.code_rules.specs.Changes.{become, forget, forget_from, written, goes, used_up, narrow, tested}
-use Rattle.register_kinds.specs.Kept.{names}
+use Rattle.kind_domain.specs.cell_code.declared.kind.From.{From}
+use Rattle.kind_domain.specs.cell_code.declared.kind.Kind.{Kind}
+use Rattle.kind_domain.specs.cell_code.declared.kind.Kind.TheVariants.{Gone, Scalar, Owned, Lent, Credit}
+use Rattle.kind_domain.specs.code_rules.Types.{numbers}
+use Rattle.kind_domain.specs.code_rules.Kinds.{at, has, from_of, is_lent_of}
+use Rattle.kind_domain.specs.code_rules.Changes.{become, forget, forget_from, written, goes, used_up, narrow, tested}
+use Rattle.kind_domain.specs.Leading.{names}
 use Rattle.register_kinds.specs.Steps.{each, forgets, lose}
-use Rattle.register_kinds.proofs.Places.{at_set_same, at_set_other, at_map, same_at, set_long, map_long, at_past, each_all}
-use Rattle.register_kinds.proofs.Places.{pick, set_pick, set_same, at_set_gone}
-use Rattle.fip_base.proofs.fip_language.Facts.{less_or_not as below_or}
+use Rattle.kind_domain.proofs.Places.{at_set_same, at_set_other, at_map, same_at, set_long, map_long, at_past}
+use Rattle.register_kinds.proofs.EachPlace.{each_all}
+use Rattle.register_kinds.proofs.EachPlace.{pick, set_pick}
+use Rattle.kind_domain.proofs.Places.{set_same, at_set_gone}
+use Rattle.kind_domain.proofs.fip_language.Facts.{less_or_not as below_or}
 
 -- all registers at once
 

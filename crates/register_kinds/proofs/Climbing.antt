@@ -1,25 +1,26 @@
 -- That trees are whole stays so, whatever is done.
 use Rattle.std.proofs.Common.{◌≡◌, ℕ, zero, suc, ◌<◌, ◌≤◌, ◌⊎◌, inl, inr, List, length, refl, sym, ap, ◌∙◌, subst, arith}
-use Rattle.std.specs.Prelude.{Bool, true, false, ◌||◌, ◌&&◌, not, is_some, ◌==◌, if◌then◌else◌, Option, Some, None}
+use Rattle.std.specs.Prelude.{Bool, true, false, ◌&&◌, not, is_some, ◌==◌, if◌then◌else◌, Option, Some, None}
 use Rattle.std.proofs.lemmas.Bool.{eq-eqb, ne_eqb}
 use Rattle.std.proofs.lemmas.Bool.Decides.{eqb_tells}
-use Rattle.cell_code.specs.fip_language.Table.{Table}
-use Rattle.cell_code.specs.declared.kind.From.{From}
-use Rattle.cell_code.specs.declared.kind.Kind.{Kind}
-use Rattle.cell_code.specs.declared.kind.Kind.TheVariants.{Gone, Scalar, Owned, Lent, Credit}
-use Rattle.code_rules.specs.Types.{is_scalar_type}
-use Rattle.code_rules.specs.Kinds.{at, from_of, has, is_lent_of, is_owned, root_of, same_root}
-use Rattle.code_rules.specs.Changes.{forget, forget_from, goes, narrow, tested, used_up, written}
-use Rattle.code_rules.specs.Taking.{Chain, IsReached, IsTaken, Part, Reaches, credit, ends, fate, inherited, is_field, is_heir, is_heir_by, part, part_kind, part_or, with_root}
-use Rattle.register_kinds.specs.Climbs.{AreHeld, Climb, HasOwner, IsHeld, IsWhole, is_lent_in, tree_of}
-use Rattle.register_kinds.specs.Kept.{is_lent, names}
+use Rattle.kind_domain.specs.fip_language.Table.{Table}
+use Rattle.kind_domain.specs.cell_code.declared.kind.From.{From}
+use Rattle.kind_domain.specs.cell_code.declared.kind.Kind.{Kind}
+use Rattle.kind_domain.specs.cell_code.declared.kind.Kind.TheVariants.{Gone, Scalar, Owned, Lent, Credit}
+use Rattle.kind_domain.specs.code_rules.Types.{is_scalar_type}
+use Rattle.kind_domain.specs.code_rules.Kinds.{at, from_of, has, is_lent_of, is_owned, root_of, same_root}
+use Rattle.kind_domain.specs.code_rules.Changes.{forget, forget_from, goes, narrow, tested, used_up, written}
+use Rattle.kind_domain.specs.code_rules.Taking.{Chain, IsReached, IsTaken, Part, Reaches, credit, ends, fate, inherited, is_field, is_heir, is_heir_by, part, part_kind, part_or, with_root}
+use Rattle.register_kinds.specs.Climbs.{AreHeld, Climb, HasOwner, IsHeld, IsWhole, tree_of}
+use Rattle.kind_domain.specs.Leading.{is_lent_in}
+use Rattle.kind_domain.specs.Leading.{is_lent, names}
 use Rattle.register_kinds.proofs.Changed.{at_become, become_long}
-use Rattle.register_kinds.proofs.Places.{at_past}
+use Rattle.kind_domain.proofs.Places.{at_past}
 use Rattle.register_kinds.proofs.TakenKinds.{no_heir_by}
-use Rattle.fip_base.proofs.fip_language.Facts.{less_or_not as below_or, or_false_false as or_neither, or_false_left as or_left, or_false_right as or_right}
-pub use Rattle.fip_base.proofs.fip_language.Facts.{some_is as some_one, true_or_false}
+use Rattle.kind_domain.proofs.fip_language.Facts.{less_or_not as below_or, or_false_false as or_neither, or_false_left as or_left, or_false_right as or_right}
+pub use Rattle.kind_domain.proofs.fip_language.Facts.{some_is as some_one, true_or_false}
 use Rattle.register_kinds.proofs.Changed.{some_from as one_source}
-pub use Rattle.code_rules.proofs.Once.{chain_once as chain_one}
+pub use Rattle.kind_domain.proofs.code_rules.Once.{chain_once as chain_one}
 pub use Rattle.register_kinds.proofs.Reaching.{from_below as source_there}
 
 -- kinds

@@ -1,35 +1,36 @@
 -- What is kept where a function is entered, and where a label map is taken over.
-use Rattle.std.proofs.Common.{◌≡◌, ℕ, zero, suc, ◌+◌, ◌-◌, ◌<◌, ◌≤◌, ◌⊎◌, inl, inr, List, [], ◌∷◌, ◌++◌, length, map, set, take, drop, get_or, refl, sym, ap, ◌∙◌, subst, arith}
+use Rattle.std.proofs.Common.{◌≡◌, ℕ, zero, suc, ◌+◌, ◌-◌, ◌<◌, ◌≤◌, inl, inr, List, [], ◌∷◌, ◌++◌, length, map, set, take, drop, get_or, refl, sym, ap, ◌∙◌, subst, arith}
 use Rattle.std.specs.Prelude.{Bool, true, false, not, ◌&&◌, ◌||◌, ◌==◌, nat_lt, if◌then◌else◌, Option, Some, None, slice_get}
 use Rattle.std.proofs.lemmas.Bool.{lt-ltb}
-use Rattle.std.proofs.lemmas.Bool.Decides.{eqb_tells}
-use Rattle.cell_code.specs.fip_language.Table.{Table}
-use Rattle.fip_base.specs.declared.plain.Param.{Param}
-use Rattle.cell_code.specs.declared.kind.Kind.{Kind}
-use Rattle.cell_code.specs.declared.kind.Kind.TheVariants.{Gone, Scalar, Owned, Lent, Credit}
-use Rattle.code_rules.specs.Codes.{PlainFunction, LabelMap}
-use Rattle.code_rules.specs.Types.{all, count, is_scalar_type}
-use Rattle.code_rules.specs.Kinds.{at, set_of, from_of, is_lent_of}
-use Rattle.code_rules.specs.Entry.{entry, gones, param_kind}
-use Rattle.code_rules.specs.Headers.{is_formed, are_good_maps, are_good_kinds, is_good_kind, is_set, are_rising}
-use Rattle.code_rules.specs.Headers.{are_params, are_sizes, are_types}
-use Rattle.code_rules.specs.Limits.{most_registers, most_results, most_credits}
-use Rattle.register_kinds.specs.Kept.{Lents, Links, AreAsked, IsKept, KindsRise, leads, names}
-use Rattle.register_kinds.specs.declared.asked.Asked.{Asked}
-use Rattle.register_kinds.specs.declared.label_sets.Origin.{Origin}
-use Rattle.register_kinds.specs.LabelSets.{LabelSets, origin_at}
-use Rattle.register_kinds.specs.Busy.{busy_in}
-use Rattle.register_kinds.specs.Rising.{Rise, RiseFrom}
+use Rattle.kind_domain.specs.fip_language.Table.{Table}
+use Rattle.kind_domain.specs.fip_base.declared.plain.Param.{Param}
+use Rattle.kind_domain.specs.cell_code.declared.kind.Kind.{Kind}
+use Rattle.kind_domain.specs.cell_code.declared.kind.Kind.TheVariants.{Gone, Scalar, Owned, Lent, Credit}
+use Rattle.kind_domain.specs.cell_code.Plain.{LabelMap, PlainFunction}
+use Rattle.kind_domain.specs.code_rules.Types.{all, count, is_scalar_type}
+use Rattle.kind_domain.specs.code_rules.Kinds.{at, set_of, from_of, is_lent_of}
+use Rattle.kind_domain.specs.code_rules.Entry.{entry, gones, param_kind}
+use Rattle.kind_domain.specs.code_rules.Headers.{is_formed, are_good_maps, are_good_kinds, is_good_kind, is_set, are_rising}
+use Rattle.kind_domain.specs.code_rules.Headers.{are_params, are_sizes, are_types}
+use Rattle.kind_domain.specs.code_rules.Limits.{most_registers, most_results, most_credits}
+use Rattle.kind_domain.specs.Leading.{Lents, Links, leads, names}
+use Rattle.kind_domain.specs.Busy.{AreAsked}
+use Rattle.register_kinds.specs.Kept.{IsKept, KindsRise}
+use Rattle.kind_domain.specs.declared.asked.Asked.{Asked}
+use Rattle.kind_domain.specs.declared.label_sets.Origin.{Origin}
+use Rattle.kind_domain.specs.LabelSets.{LabelSets, origin_at}
+use Rattle.kind_domain.specs.Busy.{busy_in}
+use Rattle.kind_domain.specs.Rising.{Rise, RiseFrom}
 use Rattle.register_kinds.specs.State.{of_types}
-use Rattle.register_kinds.specs.declared.known.Known.{Known}
-use Rattle.register_kinds.specs.declared.known.Known.TheVariants as N
-use Rattle.register_kinds.specs.Views.{kind_of, kinds_of}
+use Rattle.kind_domain.specs.declared.known.Known.{Known}
+use Rattle.kind_domain.specs.declared.known.Known.TheVariants as N
+use Rattle.kind_domain.specs.Views.{kind_of, kinds_of}
 use Rattle.register_kinds.specs.Climbs.{IsWhole, tree_of}
 use Rattle.register_kinds.proofs.Climbing.{lent_in}
 use Rattle.register_kinds.proofs.Keeps.{unled}
-use Rattle.register_kinds.proofs.Subsets.{numbers_rise}
-use Rattle.fip_base.proofs.fip_language.Facts.{both_left as and_left, both_right as and_right, less_or_not as below_or, same_number}
-use Rattle.register_kinds.proofs.Arriving.{some_map as some_is}
+use Rattle.kind_domain.proofs.Subsets.{numbers_rise}
+use Rattle.kind_domain.proofs.fip_language.Facts.{both_left as and_left, both_right as and_right, less_or_not as below_or, same_number}
+use Rattle.kind_domain.proofs.AskedMaps.{some_map as some_is}
 
 -- lists that grow or are replaced
 

@@ -1,16 +1,17 @@
 -- A change of all registers is one of those that are listed, where all that lead to the changed ones are.
 use Rattle.std.proofs.Common.{◌≡◌, ℕ, List, map, refl, sym, ap, ◌∙◌}
-use Rattle.std.specs.Prelude.{Bool, true, false, ◌||◌, ◌==◌, Some}
-use Rattle.cell_code.specs.declared.kind.From.{From}
-use Rattle.cell_code.specs.declared.kind.Kind.{Kind}
-use Rattle.code_rules.specs.Kinds.{at, has, from_of, is_lent_of}
-use Rattle.code_rules.specs.Changes.{forget, goes}
-use Rattle.register_kinds.specs.Kept.{Gathers, leads}
+use Rattle.std.specs.Prelude.{Bool, true, false, ◌==◌, Some}
+use Rattle.kind_domain.specs.cell_code.declared.kind.From.{From}
+use Rattle.kind_domain.specs.cell_code.declared.kind.Kind.{Kind}
+use Rattle.kind_domain.specs.code_rules.Kinds.{at, has, from_of, is_lent_of}
+use Rattle.kind_domain.specs.code_rules.Changes.{forget, goes}
+use Rattle.kind_domain.specs.Leading.{Gathers, leads}
 use Rattle.register_kinds.specs.Steps.{each, forgets}
-use Rattle.register_kinds.proofs.Places.{at_map, each_all}
+use Rattle.kind_domain.proofs.Places.{at_map}
+use Rattle.register_kinds.proofs.EachPlace.{each_all}
 use Rattle.register_kinds.proofs.Changed.{forget_by, forget_twice, forgets_unnamed, lent_forget, not_true}
 use Rattle.register_kinds.proofs.Keeps.{lent_leads, unled, unlisted_from, unlisted_lent}
-use Rattle.fip_base.proofs.fip_language.Facts.{or_false_false as or_not}
+use Rattle.kind_domain.proofs.fip_language.Facts.{or_false_false as or_not}
 
 pub forget_listed : (d : ℕ) (ks : List Kind) (qs : List ℕ) → ((q : ℕ) → leads d (at ks q) ≡ true → has qs q ≡ true) →
     each (forgets d) ks qs ≡ map (forgets d) ks

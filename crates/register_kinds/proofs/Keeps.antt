@@ -1,28 +1,29 @@
 -- What is kept beside the kinds goes on to hold as one register changes.
 use Rattle.std.proofs.Common.{◌≡◌, ℕ, zero, suc, ◌+◌, ◌<◌, ◌⊎◌, List, [], ◌∷◌, length, map, set, refl, sym, ap, ◌∙◌, subst, inl, inr}
-use Rattle.std.specs.Prelude.{Bool, true, false, ◌||◌, Option, Some, None, slice_get, ◌==◌}
+use Rattle.std.specs.Prelude.{Bool, true, false, Option, Some, None, slice_get, ◌==◌}
 use Rattle.std.proofs.lemmas.Bool.{eq-eqb}
 use Rattle.std.proofs.lemmas.Bool.Decides.{eqb_tells}
-use Rattle.cell_code.specs.declared.kind.From.{From}
-use Rattle.cell_code.specs.declared.kind.Kind.{Kind}
-use Rattle.code_rules.specs.Codes.{LabelMap}
-use Rattle.code_rules.specs.Kinds.{at, has, set_of, from_of, is_free, is_lent_of}
-use Rattle.code_rules.specs.Fitting.{fits}
-use Rattle.register_kinds.specs.Kept.{Lents, Links, Linked, Gathers, IsKept, AreSeen, AreMaps, leads, names}
-use Rattle.register_kinds.specs.declared.asked.Asked.{Asked}
-use Rattle.register_kinds.specs.Busy.{busy_in, held}
-use Rattle.register_kinds.specs.declared.label_sets.Origin.{Origin}
-use Rattle.register_kinds.specs.LabelSets.{LabelSets, set_at}
+use Rattle.kind_domain.specs.cell_code.declared.kind.From.{From}
+use Rattle.kind_domain.specs.cell_code.declared.kind.Kind.{Kind}
+use Rattle.kind_domain.specs.cell_code.Plain.{LabelMap}
+use Rattle.kind_domain.specs.code_rules.Kinds.{at, has, set_of, from_of, is_free, is_lent_of}
+use Rattle.kind_domain.specs.code_rules.Fitting.{fits}
+use Rattle.kind_domain.specs.Leading.{Lents, Links, Linked, Gathers, leads, names}
+use Rattle.register_kinds.specs.Kept.{IsKept, AreSeen, AreMaps}
+use Rattle.kind_domain.specs.declared.asked.Asked.{Asked}
+use Rattle.kind_domain.specs.Busy.{busy_in, held}
+use Rattle.kind_domain.specs.declared.label_sets.Origin.{Origin}
+use Rattle.kind_domain.specs.LabelSets.{LabelSets, set_at}
 use Rattle.register_kinds.specs.Climbs.{AreKnown}
-use Rattle.register_kinds.specs.Rising.{Rise}
-use Rattle.register_kinds.specs.Sights.{HasBefore}
-use Rattle.register_kinds.specs.Owners.{rooted, swapped}
-use Rattle.register_kinds.proofs.Naming.{free_all, lent_swapped, rooted_from, rooted_set}
-use Rattle.register_kinds.proofs.Places.{at_map, at_set_other, map_long, set_long}
+use Rattle.kind_domain.specs.Rising.{Rise}
+use Rattle.kind_domain.specs.Sights.{HasBefore}
+use Rattle.kind_domain.specs.Owners.{rooted, swapped}
+use Rattle.kind_domain.proofs.Naming.{free_all, lent_swapped, rooted_from, rooted_set}
+use Rattle.kind_domain.proofs.Places.{at_map, at_set_other, map_long, set_long}
 use Rattle.register_kinds.proofs.Changed.{not_true}
-use Rattle.register_kinds.proofs.SetsCompared.{origins_one}
-use Rattle.fip_base.proofs.fip_language.Facts.{or_false_both as or_neither, or_first, or_last as or_second}
-pub use Rattle.fip_base.proofs.fip_language.Facts.{or_cases}
+use Rattle.kind_domain.proofs.SetsCompared.{origins_one}
+use Rattle.kind_domain.proofs.fip_language.Facts.{or_false_both as or_neither, or_first, or_last as or_second}
+pub use Rattle.kind_domain.proofs.fip_language.Facts.{or_cases}
 
 -- a change of register d, seen at each place
 pub either : (P : ℕ → Kind → Type 0) (ks : List Kind) (d : ℕ) (k : Kind) → ((q : ℕ) → P q (at ks q)) → P d k →

@@ -1,9 +1,9 @@
 -- A test of what isn't a set is the same where a constructor is lacking.
 use Rattle.std.proofs.Common.{◌≡◌, ℕ, refl}
 use Rattle.std.specs.Prelude.{Option}
-use Rattle.cell_code.specs.declared.kind.Kind.{Kind}
-use Rattle.cell_code.specs.declared.kind.Kind.TheVariants.{Gone, Scalar, Owned, Lent, Credit}
-use Rattle.code_rules.specs.Kinds.{is_free, is_scalar_of, is_credit_of}
+use Rattle.kind_domain.specs.cell_code.declared.kind.Kind.{Kind}
+use Rattle.kind_domain.specs.cell_code.declared.kind.Kind.TheVariants.{Gone, Scalar, Owned, Lent, Credit}
+use Rattle.kind_domain.specs.code_rules.Kinds.{is_free, is_scalar_of, is_credit_of}
 use Rattle.register_kinds.specs.Arrivals.{lessened}
 
 pub free : (l : Option ℕ) (k : Kind) → is_free (lessened l k) ≡ is_free k

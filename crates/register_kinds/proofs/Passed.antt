@@ -1,28 +1,27 @@
 -- What a Take makes of all kinds where only those are looked at whose froms or roots change one by one.
 use Rattle.std.proofs.Common.{◌≡◌, ℕ, ◌<◌, ◌⊎◌, inl, inr, List, [], ◌∷◌, length, map, set, refl, sym, ap, ◌∙◌, subst}
-use Rattle.std.specs.Prelude.{Bool, true, false, ◌||◌, ◌&&◌, not, is_some, ◌==◌, if◌then◌else◌, Option, Some, None}
+use Rattle.std.specs.Prelude.{Bool, true, false, ◌&&◌, not, is_some, ◌==◌, if◌then◌else◌, Option, Some, None}
 use Rattle.std.proofs.lemmas.Bool.{eq-eqb}
 use Rattle.std.proofs.lemmas.Bool.Decides.{eqb_tells}
-use Rattle.cell_code.specs.fip_language.Table.{Table}
-use Rattle.cell_code.specs.declared.kind.From.{From}
-use Rattle.cell_code.specs.declared.kind.Kind.{Kind}
-use Rattle.cell_code.specs.declared.kind.Kind.TheVariants.{Gone, Scalar, Owned, Lent, Credit}
-use Rattle.code_rules.specs.Kinds.{at, has, from_of, is_lent_of}
-use Rattle.code_rules.specs.Changes.{forget, forget_from}
-use Rattle.code_rules.specs.Taking.{IsReached, Part, Reaches, ends, fate, is_heir, part, part_kind, with_root}
-use Rattle.register_kinds.specs.Kept.{is_lent, kept_at, names}
-use Rattle.register_kinds.specs.Owners.{rooted, swapped}
+use Rattle.kind_domain.specs.fip_language.Table.{Table}
+use Rattle.kind_domain.specs.cell_code.declared.kind.From.{From}
+use Rattle.kind_domain.specs.cell_code.declared.kind.Kind.{Kind}
+use Rattle.kind_domain.specs.cell_code.declared.kind.Kind.TheVariants.{Gone, Scalar, Owned, Lent, Credit}
+use Rattle.kind_domain.specs.code_rules.Kinds.{at, has, from_of, is_lent_of}
+use Rattle.kind_domain.specs.code_rules.Changes.{forget, forget_from}
+use Rattle.kind_domain.specs.code_rules.Taking.{IsReached, Part, Reaches, ends, fate, is_heir, part, part_kind, with_root}
+use Rattle.kind_domain.specs.Leading.{is_lent, kept_at, names}
+use Rattle.kind_domain.specs.Owners.{rooted, swapped}
 use Rattle.register_kinds.specs.Sorted.{IsSorted, IsTakable}
 use Rattle.register_kinds.specs.Takes.{IsPassed, fated, forgotten, in_turn, is_used, seen_at, seen_by, stands_for}
 use Rattle.register_kinds.proofs.Changed.{forget_by}
 use Rattle.register_kinds.proofs.Climbing.{apart_stays, found_stays, heir_named, heir_part, heir_stays, lent_in, named_is, outside_lent, outside_owner, outside_unreached, owned_source, true_or_false}
-use Rattle.register_kinds.proofs.Naming.{swapped_first}
-use Rattle.register_kinds.proofs.Places.{at_map, at_set_other, map_long}
+use Rattle.kind_domain.proofs.Naming.{swapped_first}
+use Rattle.kind_domain.proofs.Places.{at_map, at_set_other, map_long}
 use Rattle.register_kinds.proofs.Sorted.{own_chain, own_no_heir}
 use Rattle.register_kinds.proofs.TakenKinds.{fated_twice, forgotten_twice, in_turn_long, rooted_part, stands_apart, stands_twice, turned, unused_case, used_case}
-use Rattle.fip_base.proofs.fip_language.Facts.{or_false_left as or_left, or_false_right as or_right}
+use Rattle.kind_domain.proofs.fip_language.Facts.{or_false_left as or_left, or_false_right as or_right}
 use Rattle.register_kinds.proofs.Climbing.{fate_source}
-use Rattle.register_kinds.proofs.Reaching.{unlent_from as unlent_source}
 
 -- the heir that a register reaches: what isn't listed and reads the tree reaches the one that keeps the name
 

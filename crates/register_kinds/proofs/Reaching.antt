@@ -1,69 +1,20 @@
 -- Which heirs registers reach: what is kept of it while registers are looked at again and again.
-use Rattle.std.proofs.Common.{◌≡◌, ℕ, zero, suc, ◌<◌, ◌≤◌, ◌⊎◌, inl, inr, List, [], ◌∷◌, length, drop, take, set, get_or, refl, sym, ap, ◌∙◌, subst, arith}
-use Rattle.std.specs.Prelude.{Bool, true, false, ◌||◌, ◌==◌, if◌then◌else◌, Option, Some, None}
+use Rattle.kind_domain.proofs.Heirs.{kept_other, kept_own}
+use Rattle.std.proofs.Common.{◌≡◌, ℕ, zero, suc, ◌<◌, ◌≤◌, ◌⊎◌, inl, inr, List, [], ◌∷◌, length, drop, set, refl, sym, ap, ◌∙◌, subst, arith}
+use Rattle.std.specs.Prelude.{Bool, true, false, ◌==◌, if◌then◌else◌, Option, Some, None}
 use Rattle.std.proofs.lemmas.Bool.Decides.{eqb_tells}
-use Rattle.cell_code.specs.declared.kind.From.{From}
-use Rattle.cell_code.specs.declared.kind.Kind.{Kind}
-use Rattle.cell_code.specs.declared.kind.Kind.TheVariants.{Gone, Scalar, Owned, Lent, Credit}
-use Rattle.code_rules.specs.Kinds.{at, has, from_of}
-use Rattle.code_rules.specs.Taking.{Chain, Reaches, IsReached}
-use Rattle.register_kinds.specs.Kept.{is_lent, leads, AreLents}
+use Rattle.kind_domain.specs.cell_code.declared.kind.From.{From}
+use Rattle.kind_domain.specs.cell_code.declared.kind.Kind.{Kind}
+use Rattle.kind_domain.specs.cell_code.declared.kind.Kind.TheVariants.{Gone, Scalar, Owned, Lent, Credit}
+use Rattle.kind_domain.specs.code_rules.Kinds.{at, has, from_of}
+use Rattle.kind_domain.specs.code_rules.Taking.{Chain, Reaches, IsReached}
+use Rattle.kind_domain.specs.Leading.{is_lent, leads}
 use Rattle.register_kinds.proofs.Keeps.{from_leads}
-use Rattle.register_kinds.proofs.LentLists.{none_kept}
+use Rattle.kind_domain.proofs.LentLists.{none_kept}
 use Rattle.register_kinds.specs.Takes.{seen_by, seen_at, next_by, next_at, AreReached, AreSettled, nones}
-use Rattle.register_kinds.specs.Kept.{kept_at}
-use Rattle.fip_base.proofs.fip_language.Facts.{drop_past as past_end, or_cases, some_is, true_or_false}
-use Rattle.register_kinds.proofs.LentLists.{none_later as not_left}
-
--- what is kept, by place
-
-pub kept_get : (os : List (Option ℕ)) (q : ℕ) (d : Option ℕ) → q < length os → kept_at os q ≡ get_or os q d
-kept_get [] q d h = absurd (omega arith)
-kept_get (o ∷ os) zero d h = refl
-kept_get (o ∷ os) (suc q) d h = kept_get os q d (omega arith)
-
-pub kept_past : (os : List (Option ℕ)) (q : ℕ) → length os ≤ q → kept_at os q ≡ None
-kept_past [] q h = refl
-kept_past (o ∷ os) zero h = absurd (omega arith)
-kept_past (o ∷ os) (suc q) h = kept_past os q (omega arith)
-
-pub kept_other : (os : List (Option ℕ)) (x q : ℕ) (o : Option ℕ) → (x ≡ q → ⊥) → kept_at (set os x o) q ≡ kept_at os q
-kept_other [] x q o h = refl
-kept_other (y ∷ os) zero zero o h = absurd (h refl)
-kept_other (y ∷ os) zero (suc q) o h = refl
-kept_other (y ∷ os) (suc x) zero o h = refl
-kept_other (y ∷ os) (suc x) (suc q) o h = kept_other os x q o (λ e. h (ap suc e))
-
-pub kept_here : (os : List (Option ℕ)) (x : ℕ) (o : Option ℕ) → x < length os → kept_at (set os x o) x ≡ o
-kept_here [] x o h = absurd (omega arith)
-kept_here (y ∷ os) zero o h = refl
-kept_here (y ∷ os) (suc x) o h = kept_here os x o (omega arith)
-
-kept_own : (os : List (Option ℕ)) (x : ℕ) (o : Option ℕ) →
-    (kept_at (set os x o) x ≡ o) ⊎ (kept_at (set os x o) x ≡ kept_at os x)
-kept_own [] x o = inr refl
-kept_own (y ∷ os) zero o = inl refl
-kept_own (y ∷ os) (suc x) o = kept_own os x o
-
-pub kept_long : (os : List (Option ℕ)) (x : ℕ) (o : Option ℕ) → length (set os x o) ≡ length os
-kept_long [] x o = refl
-kept_long (y ∷ os) zero o = refl
-kept_long (y ∷ os) (suc x) o = ap suc (kept_long os x o)
-
--- An heir is kept for a register that is listed.
-pub lents_reach : (items : List ℕ) (top : ℕ) (listed : List Bool) (os : List (Option ℕ)) (r : ℕ) (o : Option ℕ) →
-    AreLents items top listed os → has (take top items) r ≡ true → AreLents items top listed (set os r o)
-lents_reach items top listed os r o h e = record {
-  reached_long = kept_long os r o ∙ h.reached_long;
-  long = h.long;
-  many = h.many;
-  lists = h.lists;
-  marks = h.marks;
-  only = λ q d g. elim (eqb_tells r q) [
-    | inl i ↦ ap (has (take top items)) (sym i.1) ∙ e
-    | inr i ↦ h.only q d (sym (kept_other os r q o i.1) ∙ g)
-  ];
-}
+use Rattle.kind_domain.specs.Leading.{kept_at}
+use Rattle.kind_domain.proofs.fip_language.Facts.{or_cases, some_is, true_or_false}
+use Rattle.kind_domain.proofs.LentLists.{none_later as not_left}
 
 pub nones_fewer : (os : List (Option ℕ)) (x d : ℕ) → kept_at os x ≡ None → x < length os →
     nones (set os x (Some d)) < nones os

@@ -1,14 +1,14 @@
 -- Two lists in step, of which the other ends first.
-use Rattle.std.proofs.Common.{◌≡◌, ℕ, zero, suc, ◌<◌, ◌≤◌, List, [], ◌∷◌, None, drop, length, slice_get, refl, arith}
+use Rattle.std.proofs.Common.{◌≡◌, ℕ, zero, suc, ◌<◌, ◌≤◌, List, [], ◌∷◌, None, drop, length, refl, arith}
 use Rattle.std.specs.Prelude.{Bool, true}
-use Rattle.cell_code.specs.fip_language.Table.{Table}
-use Rattle.fip_base.specs.declared.plain.Param.{Param}
-use Rattle.cell_code.specs.declared.kind.Kind.{Kind}
-use Rattle.code_rules.specs.Handing.{give_all, pass_all, hand_all, lend_all}
-use Rattle.code_rules.specs.Leaves.{received}
-use Rattle.code_rules.specs.Taking.{part_from}
-use Rattle.fip_base.proofs.fip_language.Facts.{drop_end as drop_past}
-pub use Rattle.fip_base.proofs.fip_language.Facts.{drop_of_none as drop_none}
+use Rattle.kind_domain.specs.fip_language.Table.{Table}
+use Rattle.kind_domain.specs.fip_base.declared.plain.Param.{Param}
+use Rattle.kind_domain.specs.cell_code.declared.kind.Kind.{Kind}
+use Rattle.kind_domain.specs.code_rules.Handing.{give_all, pass_all, hand_all, lend_all}
+use Rattle.kind_domain.specs.code_rules.Leaves.{received}
+use Rattle.kind_domain.specs.code_rules.Taking.{part_from}
+use Rattle.kind_domain.proofs.fip_language.Facts.{drop_end as drop_past}
+pub use Rattle.kind_domain.proofs.fip_language.Facts.{drop_of_none as drop_none}
 
 more : {X : Type 0} (xs : List X) (i : ℕ) → i < length xs → (x : X) × (rest : List X) × (drop i xs ≡ x ∷ rest)
 more [] i h = absurd (omega arith)

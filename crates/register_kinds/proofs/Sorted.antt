@@ -1,26 +1,26 @@
 -- Which registers are listed while a cell is taken apart whose tree is whole.
-use Rattle.std.proofs.Common.{◌≡◌, ℕ, zero, suc, ◌+◌, ◌<◌, ◌≤◌, ◌⊎◌, inl, inr, List, [], ◌∷◌, drop, length, arith, refl, sym, ap, ◌∙◌, subst}
+use Rattle.std.proofs.Common.{◌≡◌, ℕ, zero, suc, ◌+◌, ◌<◌, ◌⊎◌, inl, inr, List, [], ◌∷◌, drop, length, arith, refl, sym, ap, ◌∙◌, subst}
 use Rattle.std.specs.Prelude.{Bool, true, false, ◌&&◌, not, is_some, if◌then◌else◌, Option, Some, None}
 use Rattle.std.proofs.lemmas.Bool.{eq-eqb}
-use Rattle.cell_code.specs.fip_language.Table.{Table}
-use Rattle.cell_code.specs.declared.kind.From.{From}
-use Rattle.cell_code.specs.declared.kind.Kind.{Kind}
-use Rattle.cell_code.specs.declared.kind.Kind.TheVariants.{Gone, Scalar, Owned, Lent, Credit}
-use Rattle.code_rules.specs.Kinds.{at, has, from_of, is_lent_of, same_root}
-use Rattle.code_rules.specs.Taking.{Chain, IsReached, Part, Reaches, is_heir, is_heir_by, part}
-use Rattle.register_kinds.specs.Climbs.{is_lent_in}
-use Rattle.register_kinds.specs.Kept.{Grows, Linked, Links, is_lent, kept_at, names}
+use Rattle.kind_domain.specs.fip_language.Table.{Table}
+use Rattle.kind_domain.specs.cell_code.declared.kind.From.{From}
+use Rattle.kind_domain.specs.cell_code.declared.kind.Kind.{Kind}
+use Rattle.kind_domain.specs.cell_code.declared.kind.Kind.TheVariants.{Gone, Scalar, Owned, Lent, Credit}
+use Rattle.kind_domain.specs.code_rules.Kinds.{at, has, from_of, is_lent_of, same_root}
+use Rattle.kind_domain.specs.code_rules.Taking.{Chain, IsReached, Part, Reaches, is_heir, is_heir_by, part}
+use Rattle.kind_domain.specs.Leading.{is_lent_in}
+use Rattle.kind_domain.specs.Leading.{Grows, Linked, Links, is_lent, kept_at, names}
 use Rattle.register_kinds.specs.Sorted.{AreGood, Candidate, IsGood, IsTakable, Rest, listed_if, listing}
 use Rattle.register_kinds.specs.declared.sorting.Wanted.{Wanted}
 use Rattle.register_kinds.specs.declared.sorting.Wanted.TheVariants.{Lost, Loose, Below, Ended}
 use Rattle.register_kinds.proofs.Climbing.{outside_unreached, heir_named, heir_part, in_lent, lent_in, lent_there, named_is, owned_lent, owned_source, rest_reaches, true_or_false}
-use Rattle.register_kinds.proofs.LentLists.{drop_append, grows_has, has_either, has_left, has_right, past_end}
+use Rattle.kind_domain.proofs.LentLists.{drop_append, grows_has, has_either, has_left, has_right}
 use Rattle.register_kinds.proofs.Reaching.{one_of}
 use Rattle.register_kinds.proofs.TakenKinds.{part_has}
 use Rattle.register_kinds.specs.Takes.{seen_at}
 pub use Rattle.register_kinds.proofs.Changed.{some_from}
 pub use Rattle.register_kinds.proofs.Climbing.{chain_none as none_chain}
-pub use Rattle.register_kinds.proofs.LentLists.{none_later as none_left}
+pub use Rattle.kind_domain.proofs.LentLists.{none_later as none_left}
 
 pub named_lent : (r : ℕ) (k : Kind) → names r (from_of k) ≡ true → is_lent k ≡ true
 named_lent r Gone e = absurd (cc)

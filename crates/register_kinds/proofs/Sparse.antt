@@ -1,22 +1,21 @@
 -- All kinds fit a label map where those do of which it says more than Gone, and as many may not be overwritten.
-use Rattle.std.proofs.Common.{◌≡◌, ℕ, zero, suc, ◌+◌, ◌<◌, ◌≤◌, inl, inr, List, [], ◌∷◌, ◌++◌, length, drop, get_or, set, refl, sym, ap, ◌∙◌, subst, arith}
+use Rattle.std.proofs.Common.{◌≡◌, ℕ, zero, suc, ◌+◌, ◌<◌, ◌≤◌, List, [], ◌∷◌, ◌++◌, length, drop, get_or, set, refl, sym, ap, ◌∙◌, subst, arith}
 use Rattle.std.specs.Prelude.{Bool, true, false, ◌&&◌, ◌==◌, Option, Some}
 use Rattle.std.proofs.lemmas.Bool.{eq-eqb, ne_eqb}
-use Rattle.std.proofs.lemmas.Bool.Decides.{eqb_tells}
-use Rattle.cell_code.specs.declared.kind.Kind.{Kind}
-use Rattle.cell_code.specs.declared.kind.Kind.TheVariants.{Gone, Scalar, Owned, Lent, Credit}
-use Rattle.code_rules.specs.Kinds.{at, is_credit_of, is_free, is_scalar_of}
-use Rattle.code_rules.specs.Fitting.{fits, fit_all}
+use Rattle.kind_domain.specs.cell_code.declared.kind.Kind.{Kind}
+use Rattle.kind_domain.specs.cell_code.declared.kind.Kind.TheVariants.{Gone, Scalar, Owned, Lent, Credit}
+use Rattle.kind_domain.specs.code_rules.Kinds.{at, is_credit_of, is_free, is_scalar_of}
+use Rattle.kind_domain.specs.code_rules.Fitting.{fits, fit_all}
 use Rattle.register_kinds.specs.declared.fits.Tested.{Tested}
 use Rattle.register_kinds.specs.Arrivals.{lessened, lacked_at, arrive, fits_at, each_fits}
-use Rattle.register_kinds.specs.declared.asked.Ask.{Ask}
-use Rattle.register_kinds.specs.declared.asked.Asked.{Asked}
-use Rattle.register_kinds.specs.declared.asked.Says.{Says}
-use Rattle.register_kinds.specs.declared.asked.Says.TheVariants as S
-use Rattle.register_kinds.specs.Busy.{AllSay, IsAsked, asks_from, busy_in, held, registers_of, says_of}
+use Rattle.kind_domain.specs.declared.asked.Ask.{Ask}
+use Rattle.kind_domain.specs.declared.asked.Asked.{Asked}
+use Rattle.kind_domain.specs.declared.asked.Says.{Says}
+use Rattle.kind_domain.specs.declared.asked.Says.TheVariants as S
+use Rattle.kind_domain.specs.Busy.{AllSay, IsAsked, asks_from, busy_in, held, registers_of, says_of}
 use Rattle.register_kinds.proofs.Arriving.{arrive_long}
 use Rattle.register_kinds.proofs.Less.{credit, scalar}
-use Rattle.fip_base.proofs.fip_language.Facts.{and_both as and_parts, both_true as and_all, same_both_ways as same_if, same_number}
+use Rattle.kind_domain.proofs.fip_language.Facts.{and_both as and_parts, both_true as and_all, same_both_ways as same_if, same_number}
 use Rattle.register_kinds.proofs.Less.{free as less_free}
 
 -- the registers of which a map says more than Gone

@@ -1,28 +1,28 @@
 -- What taking a cell apart makes of all kinds, as registers are looked at in turn.
 use Rattle.std.proofs.Common.{◌≡◌, ℕ, zero, suc, ◌+◌, ◌<◌, ◌≤◌, ◌⊎◌, inl, inr, List, [], ◌∷◌, length, drop, map, set, get_or, refl, sym, ap, ◌∙◌, subst, arith}
-use Rattle.std.specs.Prelude.{Bool, true, false, ◌||◌, ◌&&◌, not, is_some, ◌==◌, if◌then◌else◌, Option, Some, None}
+use Rattle.std.specs.Prelude.{Bool, true, false, ◌&&◌, not, is_some, ◌==◌, if◌then◌else◌, Option, Some, None}
 use Rattle.std.proofs.lemmas.Bool.{lt-ltb, le-ltb, eq-eqb, ne_eqb}
 use Rattle.std.proofs.lemmas.Bool.Decides.{eqb_tells}
-use Rattle.cell_code.specs.fip_language.Table.{Table}
-use Rattle.cell_code.specs.declared.kind.From.{From}
-use Rattle.cell_code.specs.declared.kind.Kind.{Kind}
-use Rattle.cell_code.specs.declared.kind.Kind.TheVariants.{Gone, Scalar, Owned, Lent, Credit}
-use Rattle.code_rules.specs.Kinds.{at, has, from_of, is_lent_of}
-use Rattle.code_rules.specs.Types.{field_kind, is_scalar_type}
-use Rattle.code_rules.specs.Changes.{forget}
-use Rattle.code_rules.specs.Taking.{Part, part, part_from, is_heir, is_heir_by, fate, with_root, ends, part_kind, part_or, credit}
-use Rattle.code_rules.specs.Taking.{Reaches, IsReached, IsTaken, inherited, is_field}
-use Rattle.register_kinds.specs.Kept.{is_lent, kept_at, names}
+use Rattle.kind_domain.specs.fip_language.Table.{Table}
+use Rattle.kind_domain.specs.cell_code.declared.kind.From.{From}
+use Rattle.kind_domain.specs.cell_code.declared.kind.Kind.{Kind}
+use Rattle.kind_domain.specs.cell_code.declared.kind.Kind.TheVariants.{Gone, Scalar, Owned, Lent, Credit}
+use Rattle.kind_domain.specs.code_rules.Kinds.{at, has, from_of, is_lent_of}
+use Rattle.kind_domain.specs.code_rules.Types.{field_kind, is_scalar_type}
+use Rattle.kind_domain.specs.code_rules.Changes.{forget}
+use Rattle.kind_domain.specs.code_rules.Taking.{Part, part, part_from, is_heir, is_heir_by, fate, with_root, ends, part_kind, part_or, credit}
+use Rattle.kind_domain.specs.code_rules.Taking.{Reaches, IsReached, IsTaken, inherited, is_field}
+use Rattle.kind_domain.specs.Leading.{is_lent, kept_at, names}
 use Rattle.register_kinds.specs.Takes.{seen_by, seen_at, is_used, forgotten, fated, filled_by, filled_at, emptied, in_turn, Alike}
 use Rattle.register_kinds.specs.Takes.{GathersParts, IsPassed, stands_for}
-use Rattle.register_kinds.specs.Owners.{root_by, rooted}
-use Rattle.register_kinds.proofs.Naming.{rooted_apart, rooted_from, rooted_none, swapped_twice}
-use Rattle.register_kinds.proofs.Places.{at_map, at_set_same, at_set_other, map_long, set_long, set_same}
+use Rattle.kind_domain.specs.Owners.{root_by, rooted}
+use Rattle.kind_domain.proofs.Naming.{rooted_apart, rooted_from, rooted_none, swapped_twice}
+use Rattle.kind_domain.proofs.Places.{at_map, at_set_same, at_set_other, map_long, set_long, set_same}
 use Rattle.register_kinds.proofs.Changed.{is_become, forget_by, forget_twice, forget_same, lent_forget, not_true}
 use Rattle.register_kinds.proofs.Keeps.{either, from_leads, unlisted_from, unlisted_lent}
-use Rattle.register_kinds.proofs.LentLists.{none_kept}
+use Rattle.kind_domain.proofs.LentLists.{none_kept}
 use Rattle.register_kinds.proofs.Reaching.{reaches_listed}
-use Rattle.fip_base.proofs.fip_language.Facts.{and_false_last as and_none, drop_past as past_end, or_cases, or_false_false as used_or, or_first as used_by, true_or_false}
+use Rattle.kind_domain.proofs.fip_language.Facts.{and_false_last as and_none, drop_past as past_end, or_cases, or_false_false as used_or, or_first as used_by, true_or_false}
 
 -- registers in turn
 

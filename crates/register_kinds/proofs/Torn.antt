@@ -1,18 +1,19 @@
 -- Which trees are marked as torn, whatever is done.
 use Rattle.std.proofs.Common.{◌≡◌, ℕ, zero, suc, ◌<◌, ◌≤◌, inl, inr, List, [], ◌∷◌, length, set, refl, sym, ap, ◌∙◌, subst, arith}
-use Rattle.std.specs.Prelude.{Bool, true, false, not, is_some, Option, Some, None, slice_get}
+use Rattle.std.specs.Prelude.{Bool, true, false, is_some, Option, Some, None, slice_get}
 use Rattle.std.proofs.lemmas.Bool.{eq-eqb}
-use Rattle.cell_code.specs.fip_language.Table.{Table}
-use Rattle.cell_code.specs.declared.kind.From.{From}
-use Rattle.cell_code.specs.declared.kind.Kind.{Kind}
-use Rattle.cell_code.specs.declared.kind.Kind.TheVariants.{Lent}
-use Rattle.code_rules.specs.Kinds.{at, from_of, has, is_owned, same_root}
-use Rattle.code_rules.specs.Changes.{tested, used_up, written}
-use Rattle.code_rules.specs.Taking.{IsTaken, part}
-use Rattle.register_kinds.specs.Climbs.{AreKnown, AreKnownOver, AreWhole, IsHeld, IsWhole, is_lent_in, tree_of}
+use Rattle.kind_domain.specs.fip_language.Table.{Table}
+use Rattle.kind_domain.specs.cell_code.declared.kind.From.{From}
+use Rattle.kind_domain.specs.cell_code.declared.kind.Kind.{Kind}
+use Rattle.kind_domain.specs.cell_code.declared.kind.Kind.TheVariants.{Lent}
+use Rattle.kind_domain.specs.code_rules.Kinds.{at, from_of, has, is_owned, same_root}
+use Rattle.kind_domain.specs.code_rules.Changes.{tested, used_up, written}
+use Rattle.kind_domain.specs.code_rules.Taking.{IsTaken, part}
+use Rattle.register_kinds.specs.Climbs.{AreKnown, AreKnownOver, AreWhole, IsHeld, IsWhole, tree_of}
+use Rattle.kind_domain.specs.Leading.{is_lent_in}
 use Rattle.register_kinds.proofs.Climbing.{lent_there, root_is, sourced_there, true_or_false, whole_taken, whole_tested, whole_used, whole_written}
-use Rattle.fip_base.proofs.fip_language.Facts.{some_is as one_register}
-pub use Rattle.fip_base.proofs.fip_language.Facts.{not_true as unmarked_so}
+use Rattle.kind_domain.proofs.fip_language.Facts.{some_is as one_register}
+pub use Rattle.kind_domain.proofs.fip_language.Facts.{not_true as unmarked_so}
 
 -- marks
 

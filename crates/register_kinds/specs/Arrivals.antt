@@ -1,14 +1,13 @@
 -- Only what this crate keeps: the kinds on arrival at a label map, where a register may have been tested, and whether
 -- some registers fit.
-use Rattle.std.specs.Prelude.{◌≡◌, ℕ, suc, Bool, true, ◌&&◌, ◌==◌, List, [], ◌∷◌, Option, Some, None}
+use Rattle.std.specs.Prelude.{ℕ, suc, Bool, true, ◌&&◌, ◌==◌, List, [], ◌∷◌, Option, Some, None}
 use Rattle.std.specs.Prelude.{if◌then◌else◌}
-use Rattle.cell_code.specs.declared.kind.Kind.{Kind}
-use Rattle.code_rules.specs.Kinds.{at, has, set_of}
-use Rattle.code_rules.specs.Changes.{narrow}
-use Rattle.code_rules.specs.Fitting.{fits}
+use Rattle.kind_domain.specs.cell_code.declared.kind.Kind.{Kind}
+use Rattle.kind_domain.specs.code_rules.Kinds.{at, set_of}
+use Rattle.kind_domain.specs.code_rules.Changes.{narrow}
+use Rattle.kind_domain.specs.code_rules.Fitting.{fits}
 use Rattle.register_kinds.specs.declared.fits.Tested.{Tested}
-use Rattle.register_kinds.specs.Rising.{less}
-use Rattle.register_kinds.specs.Sights.{HasBefore}
+use Rattle.kind_domain.specs.Rising.{less}
 
 -- the kind whose root doesn't have a constructor, where there is one
 abbrev pub lessened : Option ℕ → Kind → Kind
@@ -34,8 +33,3 @@ each_fits tested ms ks (q ∷ qs) = fits_at tested ms ks q && each_fits tested m
 abbrev pub tested_fits : Option Tested → List Kind → List Kind → Bool
 tested_fits None ms ks = true
 tested_fits (Some t) ms ks = fits_at (Some t) ms ks t.register
-
--- A label map was seen to fit but for one register.
-pub record HasBut (since : List (Option (List ℕ))) (label register l : ℕ) (xs : List ℕ) : Type 0 where
-  pub new : has xs register ≡ true
-  pub other : (label ≡ l → ⊥) → HasBefore since l xs register

@@ -1,19 +1,11 @@
 -- Only what this crate keeps, so that a Take needn't look at what stays: which trees are whole. The froms of each
 -- register that reads such a tree lead to the register that owns it, or to one that reads it too and has no from; and
 -- what came from a register that owns or reads it reads it too.
+use Rattle.kind_domain.specs.Leading.{is_lent_in}
 use Rattle.std.specs.Prelude.{◌≡◌, ℕ, zero, suc, Bool, true, false, List, Option, Some, None, set, slice_get}
-use Rattle.cell_code.specs.declared.kind.From.{From}
-use Rattle.cell_code.specs.declared.kind.Kind.{Kind}
-use Rattle.cell_code.specs.declared.kind.Kind.TheVariants.{Gone, Scalar, Owned, Lent, Credit}
-use Rattle.code_rules.specs.Kinds.{at, from_of, is_owned, root_of, same_root}
-
--- It reads the tree of this register, or, where there is none, of a frame below.
-abbrev pub is_lent_in : Option ℕ → Kind → Bool
-is_lent_in o Gone = false
-is_lent_in o (Scalar t) = false
-is_lent_in o (Owned t s) = false
-is_lent_in o (Lent t s root from) = same_root root o
-is_lent_in o (Credit k) = false
+use Rattle.kind_domain.specs.cell_code.declared.kind.From.{From}
+use Rattle.kind_domain.specs.cell_code.declared.kind.Kind.{Kind}
+use Rattle.kind_domain.specs.code_rules.Kinds.{at, from_of, is_owned, root_of}
 
 -- After a from, n further froms lead to the owner of a tree, or to a register that reads it and has no from.
 abbrev pub Climb : List Kind → Option ℕ → ℕ → Option From → Type 0

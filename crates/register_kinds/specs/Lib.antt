@@ -1,12 +1,6 @@
 pub mod State
-pub mod Views
-pub mod Owners
 pub mod Climbs
-pub mod Rising
-pub mod Busy
-pub mod LabelSets
 pub mod Kept
-pub mod Sights
 pub mod Steps
 pub mod Arrivals
 pub mod Takes

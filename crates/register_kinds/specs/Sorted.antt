@@ -2,13 +2,13 @@
 -- the heir that it reaches, so that all that reads the tree and isn't listed reaches the heir that keeps its name.
 use Rattle.std.specs.Prelude.{◌≡◌, ◌⊎◌, ℕ, Bool, true, false, ◌&&◌, not, is_some, List, Option, Some, None}
 use Rattle.std.specs.Prelude.{if◌then◌else◌}
-use Rattle.cell_code.specs.fip_language.Table.{Table}
-use Rattle.cell_code.specs.declared.kind.From.{From}
-use Rattle.cell_code.specs.declared.kind.Kind.{Kind}
-use Rattle.code_rules.specs.Kinds.{at, has, from_of, is_lent_of, is_owned}
-use Rattle.code_rules.specs.Taking.{IsReached, Part, Reaches, is_heir, is_heir_by}
+use Rattle.kind_domain.specs.fip_language.Table.{Table}
+use Rattle.kind_domain.specs.cell_code.declared.kind.From.{From}
+use Rattle.kind_domain.specs.cell_code.declared.kind.Kind.{Kind}
+use Rattle.kind_domain.specs.code_rules.Kinds.{at, has, from_of, is_lent_of, is_owned}
+use Rattle.kind_domain.specs.code_rules.Taking.{IsReached, Part, Reaches, is_heir, is_heir_by}
 use Rattle.register_kinds.specs.Climbs.{IsWhole}
-use Rattle.register_kinds.specs.Kept.{Linked, Links, is_lent, kept_at, names}
+use Rattle.kind_domain.specs.Leading.{Linked, Links, is_lent, kept_at, names}
 use Rattle.register_kinds.specs.Takes.{seen_at}
 use Rattle.register_kinds.specs.declared.sorting.Wanted.{Wanted}
 use Rattle.register_kinds.specs.declared.sorting.Wanted.TheVariants.{Lost, Loose, Below, Ended}

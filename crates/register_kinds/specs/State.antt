@@ -3,11 +3,11 @@
 -- and, while a cell is taken apart, the heirs that they reach.
 use Rattle.std.specs.Prelude.{ℕ, Bool, List, [], drop, length, Option, None, option_and_then, ◌+◌, ◌==◌}
 use Rattle.std.specs.Prelude.{if◌then◌else◌}
-use Rattle.cell_code.specs.fip_language.Table.{Table}
-use Rattle.fip_base.specs.declared.plain.Param.{Param}
-use Rattle.cell_code.specs.declared.kind.Kind.{Kind}
-use Rattle.code_rules.specs.Codes.{PlainCode, LabelMap}
-use Rattle.code_rules.specs.Handing.{pass_all, hand_all, lend_all, kept_if}
+use Rattle.kind_domain.specs.fip_language.Table.{Table}
+use Rattle.kind_domain.specs.fip_base.declared.plain.Param.{Param}
+use Rattle.kind_domain.specs.cell_code.declared.kind.Kind.{Kind}
+use Rattle.kind_domain.specs.cell_code.Plain.{LabelMap, PlainCode}
+use Rattle.kind_domain.specs.code_rules.Handing.{pass_all, hand_all, lend_all, kept_if}
 
 pub record RegisterState : Type 0 where
   pub kinds : List Kind

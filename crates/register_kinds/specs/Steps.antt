@@ -1,10 +1,10 @@
 -- Only what this crate's steps say: one change of the kinds of some registers, one after another; and what they do to
 -- all kinds.
 use Rattle.std.specs.Prelude.{ℕ, List, [], ◌∷◌, set, if◌then◌else◌, ◌==◌}
-use Rattle.cell_code.specs.declared.kind.Kind.{Kind}
-use Rattle.cell_code.specs.declared.kind.Kind.TheVariants.{Gone}
-use Rattle.code_rules.specs.Kinds.{at, is_lent_of}
-use Rattle.code_rules.specs.Changes.{forget}
+use Rattle.kind_domain.specs.cell_code.declared.kind.Kind.{Kind}
+use Rattle.kind_domain.specs.cell_code.declared.kind.Kind.TheVariants.{Gone}
+use Rattle.kind_domain.specs.code_rules.Kinds.{at, is_lent_of}
+use Rattle.kind_domain.specs.code_rules.Changes.{forget}
 
 abbrev pub each : (Kind → Kind) → List Kind → List ℕ → List Kind
 each f ks [] = ks

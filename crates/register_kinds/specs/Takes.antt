@@ -2,15 +2,15 @@
 -- reach; and what is made of each register in turn.
 use Rattle.std.specs.Prelude.{◌≡◌, ℕ, suc, Bool, true, false, ◌||◌, is_some, List, [], ◌∷◌, Option, Some, None}
 use Rattle.std.specs.Prelude.{◌<◌, length, set, if◌then◌else◌, ◌==◌, nat_lt}
-use Rattle.cell_code.specs.fip_language.Table.{Table}
-use Rattle.cell_code.specs.declared.kind.From.{From}
-use Rattle.cell_code.specs.declared.kind.Kind.{Kind}
-use Rattle.code_rules.specs.Kinds.{at, has, from_of, is_lent_of}
-use Rattle.code_rules.specs.Changes.{forget}
-use Rattle.code_rules.specs.Taking.{Part, Reaches, IsReached, part, is_heir, ends, fate, part_kind, credit}
+use Rattle.kind_domain.specs.fip_language.Table.{Table}
+use Rattle.kind_domain.specs.cell_code.declared.kind.From.{From}
+use Rattle.kind_domain.specs.cell_code.declared.kind.Kind.{Kind}
+use Rattle.kind_domain.specs.code_rules.Kinds.{at, has, from_of, is_lent_of}
+use Rattle.kind_domain.specs.code_rules.Changes.{forget}
+use Rattle.kind_domain.specs.code_rules.Taking.{Part, Reaches, IsReached, part, is_heir, ends, fate, part_kind, credit}
 use Rattle.register_kinds.specs.declared.take.Piece.{Piece}
-use Rattle.register_kinds.specs.Kept.{Gathers, is_lent, kept_at, leads}
-use Rattle.register_kinds.specs.Owners.{root_by, swapped}
+use Rattle.kind_domain.specs.Leading.{Gathers, is_lent, kept_at, leads}
+use Rattle.kind_domain.specs.Owners.{root_by, swapped}
 
 -- the part that a piece stands for
 abbrev pub as_part : Option Piece → Option Part

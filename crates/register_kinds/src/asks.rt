@@ -1,13 +1,13 @@
 // What instructions ask of registers.
 ghost use Rattle.std.specs.Prelude.{◌≡◌, ℕ, ◌∷◌, is_some, IfSome, List};
-ghost use Rattle.cell_code.specs.declared.kind.Kind.TheVariants.{Owned};
-ghost use Rattle.code_rules.specs.Asked.{may_have, known_fields, can_take, are_places};
-ghost use Rattle.code_rules.specs.Handing.{is_lendable};
-ghost use Rattle.code_rules.specs.Kinds.{at, has, is_free, are_free, is_gone, is_scalar_of, is_owned, is_owned_of};
-ghost use Rattle.code_rules.specs.Kinds.{is_credit, is_credit_of};
+ghost use Rattle.kind_domain.specs.cell_code.declared.kind.Kind.TheVariants.{Owned};
+ghost use Rattle.kind_domain.specs.code_rules.Asked.{may_have, known_fields, can_take, are_places};
+ghost use Rattle.kind_domain.specs.code_rules.Handing.{is_lendable};
+ghost use Rattle.kind_domain.specs.code_rules.Kinds.{at, has, is_free, are_free, is_gone, is_scalar_of, is_owned, is_owned_of};
+ghost use Rattle.kind_domain.specs.code_rules.Kinds.{is_credit, is_credit_of};
 
 use crate::registers::Registers;
-use crate::table::Table;
+use kind_domain::table::Table;
 
 impl<'a> Registers<'a> {
     /// Whether a register may be overwritten.

@@ -1,25 +1,25 @@
 // Whether what is known fits a label map.
 ghost use Rattle.std.specs.Prelude.{◌≡◌, ◌&&◌, ℕ, Bool, List, true, Some, IfSome, length, slice_get};
-ghost use Rattle.cell_code.specs.declared.kind.Kind.{Kind as a_kind};
-ghost use Rattle.code_rules.specs.Changes.{tested, without};
-ghost use Rattle.code_rules.specs.Codes.{LabelMap};
-ghost use Rattle.code_rules.specs.Fitting.{fits, fit_all, is_subset, takes_from};
-ghost use Rattle.code_rules.specs.Kinds.{at, set_of};
+ghost use Rattle.kind_domain.specs.cell_code.declared.kind.Kind.{Kind as a_kind};
+ghost use Rattle.kind_domain.specs.code_rules.Changes.{tested, without};
+ghost use Rattle.kind_domain.specs.cell_code.Plain.{LabelMap};
+ghost use Rattle.kind_domain.specs.code_rules.Fitting.{fits, fit_all, is_subset, takes_from};
+ghost use Rattle.kind_domain.specs.code_rules.Kinds.{at, set_of};
 ghost use Rattle.register_kinds.specs.Arrivals.{arrive, each_fits, fits_at, lacked_at, lessened, tested_fits};
-ghost use Rattle.register_kinds.specs.Busy.{AllSay, IsAsked, busy_in, registers_of, says_of};
+ghost use Rattle.kind_domain.specs.Busy.{AllSay, IsAsked, busy_in, registers_of, says_of};
 ghost use Rattle.register_kinds.specs.Kept.{KindsRise};
-ghost use Rattle.register_kinds.specs.declared.label_sets.Origin.{Origin};
-ghost use Rattle.register_kinds.specs.LabelSets.{AreComparable, MapsRise, origin_at, set_at};
-ghost use Rattle.register_kinds.specs.Rising.{Rise, less};
-ghost use Rattle.register_kinds.specs.Views.{constructors_in, kind_of};
+ghost use Rattle.kind_domain.specs.declared.label_sets.Origin.{Origin};
+ghost use Rattle.kind_domain.specs.LabelSets.{AreComparable, MapsRise, origin_at, set_at};
+ghost use Rattle.kind_domain.specs.Rising.{Rise, less};
+ghost use Rattle.kind_domain.specs.Views.{constructors_in, kind_of};
 
-use crate::asked::{Ask, Asked, Says};
-use crate::kinds::Kinds;
-use crate::known::{Known, same_root};
-use crate::label_sets::{LabelSets, Origin};
-use crate::registers::{Registers, map_of};
-use crate::set::Set;
-use cell_code::{From, Kind};
+use crate::registers::Registers;
+use kind_domain::asked::{Ask, Asked, Says};
+use kind_domain::code::{From, Kind};
+use kind_domain::kinds::Kinds;
+use kind_domain::known::{Known, same_root};
+use kind_domain::label_sets::{LabelSets, Origin, map_of};
+use kind_domain::set::Set;
 
 /// A register that was tested, and a constructor that its value doesn't have.
 #[derive(Clone, Copy)]

@@ -1,11 +1,11 @@
 // Registers that are handed over: as the fields of a Put, as results, and as arguments. Each is used up in its turn.
 ghost use Rattle.std.specs.Prelude.{◌≡◌};
-ghost use Rattle.code_rules.specs.Handing.{give, give_all, pass, pass_all, hand, hand_all, lends, lend_all, kept_if};
+ghost use Rattle.kind_domain.specs.code_rules.Handing.{give, give_all, pass, pass_all, hand, hand_all, lends, lend_all, kept_if};
 ghost use Rattle.register_kinds.specs.State.{handed};
 
 use crate::registers::Registers;
-use crate::table::Table;
-use fip_base::plain::Param;
+use kind_domain::base::plain::Param;
+use kind_domain::table::Table;
 
 impl<'a> Registers<'a> {
     /// Gives a register as a value of a type. Whether it was one.

@@ -1,21 +1,22 @@
 // Which trees are whole: the froms of each register that reads one lead to its owner, or to a register that reads it
 // too and has no from; and what came from a register of the tree reads it.
 ghost use Rattle.std.specs.Prelude.{◌≡◌, ◌⊎◌, ℕ, List, true, false, slice_get, Some, None, Option};
-ghost use Rattle.code_rules.specs.Changes.{written};
-ghost use Rattle.code_rules.specs.Kinds.{at, from_of, has};
-ghost use Rattle.cell_code.specs.declared.kind.Kind.{Kind};
-ghost use Rattle.cell_code.specs.declared.kind.From.{From};
+ghost use Rattle.kind_domain.specs.code_rules.Changes.{written};
+ghost use Rattle.kind_domain.specs.code_rules.Kinds.{at, from_of, has};
+ghost use Rattle.kind_domain.specs.cell_code.declared.kind.Kind.{Kind};
+ghost use Rattle.kind_domain.specs.cell_code.declared.kind.From.{From};
 ghost use Rattle.register_kinds.specs.Climbs.{AreKnown, AreKnownOver, AreWhole, HasOwner, IsHeld, IsWhole};
-ghost use Rattle.register_kinds.specs.Climbs.{is_lent_in, tree_of};
-ghost use Rattle.register_kinds.specs.Kept.{Grows, names};
-ghost use Rattle.register_kinds.specs.Views.{kind_of};
+ghost use Rattle.kind_domain.specs.Leading.{is_lent_in};
+ghost use Rattle.register_kinds.specs.Climbs.{tree_of};
+ghost use Rattle.kind_domain.specs.Leading.{Grows, names};
+ghost use Rattle.kind_domain.specs.Views.{kind_of};
 
-use crate::kinds::Kinds;
-use crate::known::{Known, same_root};
-use crate::lents::Lents;
-use crate::marks::Marks;
 use crate::registers::Registers;
-use cell_code::From;
+use kind_domain::code::From;
+use kind_domain::kinds::Kinds;
+use kind_domain::known::{Known, same_root};
+use kind_domain::lents::Lents;
+use kind_domain::marks::Marks;
 
 impl<'a> Registers<'a> {
     // Which trees are torn, where that is known. Until it is set again it isn't.

@@ -3,26 +3,15 @@
 // that it changes, and at those that are lent of it or came from it.
 #![tactic(auto)]
 
-mod asked;
 mod asks;
 mod fits;
 mod handing;
 mod held;
-mod kinds;
-mod known;
-mod label_sets;
-mod lents;
-mod links;
 mod listing;
-mod log;
-mod marks;
-mod missing;
 mod registers;
-mod set;
 mod sorting;
 mod steps;
-mod table;
 mod take;
 
+pub use kind_domain::table::Table;
 pub use registers::Registers;
-pub use table::Table;

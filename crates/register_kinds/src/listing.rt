@@ -1,13 +1,13 @@
 // The registers that a step looks at: those that lead to what it changes.
 ghost use Rattle.std.specs.Prelude.{◌≡◌, ◌<◌, ◌≤◌, ℕ, true, false, [], length, None};
-ghost use Rattle.code_rules.specs.Kinds.{at, from_of, has, is_lent_of};
-ghost use Rattle.register_kinds.specs.Kept.{ClosedBelow, Gathers, Grows, kept_at, leads, names};
-ghost use Rattle.register_kinds.specs.Views.{kind_of};
+ghost use Rattle.kind_domain.specs.code_rules.Kinds.{at, from_of, has, is_lent_of};
+ghost use Rattle.kind_domain.specs.Leading.{ClosedBelow, Gathers, Grows, kept_at, leads, names};
+ghost use Rattle.kind_domain.specs.Views.{kind_of};
 
-use crate::kinds::Kinds;
-use crate::known::Known;
-use crate::lents::Lents;
 use crate::registers::Registers;
+use kind_domain::kinds::Kinds;
+use kind_domain::known::Known;
+use kind_domain::lents::Lents;
 
 impl<'a> Registers<'a> {
     // Lists none.

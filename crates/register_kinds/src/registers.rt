@@ -2,31 +2,32 @@
 ghost use Rattle.std.specs.Prelude.{◌≡◌, ◌<◌, ◌≤◌, ◌++◌, ℕ, true, set, length, Some, None, map};
 ghost use Rattle.std.specs.Prelude.{IfOk, IfSome, OnOk};
 ghost use Rattle.std.specs.Prelude.{slice_get, slice_index};
-ghost use Rattle.cell_code.specs.declared.kind.Kind.TheVariants.{Credit};
-ghost use Rattle.code_rules.specs.Codes.{LabelMap, plain_function, plain_label};
-ghost use Rattle.code_rules.specs.Entry.{entry, gones, param_kind};
-ghost use Rattle.code_rules.specs.Headers.{is_formed};
-ghost use Rattle.code_rules.specs.Kinds.{at, from_of, has, is_lent_of, set_of};
-ghost use Rattle.register_kinds.specs.Kept.{KindsRise, Linked, names};
-ghost use Rattle.register_kinds.specs.declared.label_sets.Origin.{Origin};
-ghost use Rattle.register_kinds.specs.LabelSets.{set_at};
-ghost use Rattle.register_kinds.specs.Rising.{Rise};
+ghost use Rattle.kind_domain.specs.cell_code.declared.kind.Kind.TheVariants.{Credit};
+ghost use Rattle.kind_domain.specs.cell_code.Plain.{LabelMap, plain_label, plain_function};
+ghost use Rattle.kind_domain.specs.code_rules.Entry.{entry, gones, param_kind};
+ghost use Rattle.kind_domain.specs.code_rules.Headers.{is_formed};
+ghost use Rattle.kind_domain.specs.code_rules.Kinds.{at, from_of, has, is_lent_of, set_of};
+ghost use Rattle.register_kinds.specs.Kept.{KindsRise};
+ghost use Rattle.kind_domain.specs.Leading.{Linked, names};
+ghost use Rattle.kind_domain.specs.declared.label_sets.Origin.{Origin};
+ghost use Rattle.kind_domain.specs.LabelSets.{set_at};
+ghost use Rattle.kind_domain.specs.Rising.{Rise};
 ghost use Rattle.register_kinds.specs.State.{of_types};
-ghost use Rattle.register_kinds.specs.Kept.{kept_at};
-ghost use Rattle.register_kinds.specs.Views.{kind_of, kinds_of};
+ghost use Rattle.kind_domain.specs.Leading.{kept_at};
+ghost use Rattle.kind_domain.specs.Views.{kind_of, kinds_of};
 
-use crate::asked::{Asked, asked_by, count_known, recount};
-use crate::kinds::Kinds;
-use crate::known::Known;
-use crate::label_sets::{LabelSets, Origin};
-use crate::lents::Lents;
-use crate::links::Links;
-use crate::log::Log;
-use crate::marks::Marks;
-use crate::set::Set;
-use crate::table::Table;
-use cell_code::{Function, Kind, Label};
-use fip_base::plain::{NoMemory, Param};
+use kind_domain::asked::{Asked, asked_by, count_known, recount};
+use kind_domain::base::plain::{NoMemory, Param};
+use kind_domain::code::{Function, Kind, Label};
+use kind_domain::kinds::Kinds;
+use kind_domain::known::Known;
+use kind_domain::label_sets::{LabelSets, Origin, map_of};
+use kind_domain::lents::Lents;
+use kind_domain::links::Links;
+use kind_domain::log::Log;
+use kind_domain::marks::Marks;
+use kind_domain::set::Set;
+use kind_domain::table::Table;
 use std::alloc::Global;
 use std::marker::Model;
 
@@ -52,7 +53,7 @@ pub struct Registers<'a> {
 
 impl<'a> Model for Registers<'a> {
     ghost use Rattle.std.specs.Prelude.{map};
-    ghost use Rattle.code_rules.specs.Codes.{plain_label};
+    ghost use Rattle.kind_domain.specs.cell_code.Plain.{plain_label};
     ghost use Rattle.register_kinds.specs.Kept.{IsKept};
     ghost use Rattle.register_kinds.specs.State.{RegisterState};
 
@@ -229,18 +230,6 @@ impl<'a> Registers<'a> {
         ensures listed { has self.now.lent result ≡ true }
     {
         self.lents.as_slice()[place]
-    }
-}
-
-// The kinds of the label map of a number.
-pub(crate) fn map_of(labels: &[Label], label: usize) -> Option<&[Kind]>
-    ensures found { IfSome result (λ ks. (m : LabelMap)
-        × (slice_get (map plain_label labels.now) label ≡ Some m) × (m.kinds ≡ ks.now)) }
-    ensures none { result ≡ None → (m : LabelMap) → slice_get (map plain_label labels.now) label ≡ Some m → ⊥ }
-{
-    match labels.get(label) {
-        None => None,
-        Some(found) => Some(&found.kinds),
     }
 }
 

@@ -1,20 +1,20 @@
 // Which registers are listed while a cell is taken apart whose tree is whole: those whose froms or roots change one by
 // one. What else reads the tree reaches the heir that keeps its name.
 ghost use Rattle.std.specs.Prelude.{◌≡◌, ◌⊎◌, ◌<◌, ℕ, ◌&&◌, not, true, false, is_some, IfSome, Option, Some};
-ghost use Rattle.code_rules.specs.Kinds.{at, from_of, has, is_lent_of};
-ghost use Rattle.code_rules.specs.Taking.{is_heir, part};
-ghost use Rattle.register_kinds.specs.Kept.{Grows, kept_at, names};
+ghost use Rattle.kind_domain.specs.code_rules.Kinds.{at, from_of, has, is_lent_of};
+ghost use Rattle.kind_domain.specs.code_rules.Taking.{is_heir, part};
+ghost use Rattle.kind_domain.specs.Leading.{Grows, kept_at, names};
 ghost use Rattle.register_kinds.specs.Sorted.{AreGood, Candidate, IsSorted, IsTakable, Rest, listed_if, listing};
-ghost use Rattle.register_kinds.specs.Views.{kind_of};
+ghost use Rattle.kind_domain.specs.Views.{kind_of};
 
 use crate::held::is_some_of;
-use crate::kinds::Kinds;
-use crate::known::Known;
-use crate::lents::Lents;
-use crate::links::Links;
 use crate::registers::Registers;
-use crate::table::Table;
 use crate::take::{is_heir_by, piece_of};
+use kind_domain::kinds::Kinds;
+use kind_domain::known::Known;
+use kind_domain::lents::Lents;
+use kind_domain::links::Links;
+use kind_domain::table::Table;
 
 /// Which registers are listed.
 #[derive(Clone, Copy)]

@@ -1,24 +1,24 @@
 // What becomes of all registers where one is written, used up, moved or tested.
 ghost use Rattle.std.specs.Prelude.{◌≡◌, ◌==◌, ℕ, [], ◌∷◌, true, Some, map, set};
-ghost use Rattle.cell_code.specs.declared.kind.Kind.TheVariants.{Gone, Scalar, Owned};
-ghost use Rattle.code_rules.specs.Changes.{written, used_up, moved, tested, forget, goes};
-ghost use Rattle.code_rules.specs.Kinds.{at, has, is_lent_of, root_of, set_of};
-ghost use Rattle.register_kinds.specs.Kept.{Gathers, leads};
-ghost use Rattle.register_kinds.specs.declared.label_sets.Origin.{Origin};
-ghost use Rattle.register_kinds.specs.LabelSets.{set_at};
-ghost use Rattle.code_rules.specs.Leaves.{atom_kind, received};
-ghost use Rattle.code_rules.specs.Types.{field_kind, lent_kind};
-ghost use Rattle.register_kinds.specs.Rising.{Rise};
+ghost use Rattle.kind_domain.specs.cell_code.declared.kind.Kind.TheVariants.{Gone, Scalar, Owned};
+ghost use Rattle.kind_domain.specs.code_rules.Changes.{written, used_up, moved, tested, forget, goes};
+ghost use Rattle.kind_domain.specs.code_rules.Kinds.{at, has, is_lent_of, root_of, set_of};
+ghost use Rattle.kind_domain.specs.Leading.{Gathers, leads};
+ghost use Rattle.kind_domain.specs.declared.label_sets.Origin.{Origin};
+ghost use Rattle.kind_domain.specs.LabelSets.{set_at};
+ghost use Rattle.kind_domain.specs.code_rules.Leaves.{atom_kind, received};
+ghost use Rattle.kind_domain.specs.code_rules.Types.{field_kind, lent_kind};
+ghost use Rattle.kind_domain.specs.Rising.{Rise};
 ghost use Rattle.register_kinds.specs.Steps.{forgets, lose};
-ghost use Rattle.register_kinds.specs.Views.{kind_of};
+ghost use Rattle.kind_domain.specs.Views.{kind_of};
 
 use crate::held::mended;
-use crate::known::{Known, atom, part_of, whole};
-use crate::label_sets::Origin;
 use crate::registers::Registers;
-use crate::set::Set;
-use crate::table::Table;
-use cell_code::From;
+use kind_domain::code::From;
+use kind_domain::known::{Known, atom, part_of, whole};
+use kind_domain::label_sets::Origin;
+use kind_domain::set::Set;
+use kind_domain::table::Table;
 
 impl<'a> Registers<'a> {
     // No from names a register any more.

@@ -1,31 +1,31 @@
 // Taking a cell apart: its fields go into registers, and the register that owned it keeps it as a credit.
 ghost use Rattle.std.specs.Prelude.{◌≡◌, ◌⊎◌, ◌<◌, ℕ, List, true, false, None, Some, is_some, set, length, map};
-ghost use Rattle.code_rules.specs.Asked.{known_fields};
-ghost use Rattle.code_rules.specs.Kinds.{at, has, is_lent_of, is_owned};
-ghost use Rattle.code_rules.specs.Taking.{IsTaken, IsReached, part, is_heir, is_field, part_kind, credit, ends};
-ghost use Rattle.code_rules.specs.Taking.{is_heir_by, with_root};
+ghost use Rattle.kind_domain.specs.code_rules.Asked.{known_fields};
+ghost use Rattle.kind_domain.specs.code_rules.Kinds.{at, has, is_lent_of, is_owned};
+ghost use Rattle.kind_domain.specs.code_rules.Taking.{IsTaken, IsReached, part, is_heir, is_field, part_kind, credit, ends};
+ghost use Rattle.kind_domain.specs.code_rules.Taking.{is_heir_by, with_root};
 ghost use Rattle.register_kinds.specs.Takes.{as_part, seen_at, next_at, AreReached, AreSettled, nones};
 ghost use Rattle.register_kinds.specs.Takes.{is_used, forgotten, fated, filled_by, filled_at, emptied, in_turn};
 ghost use Rattle.register_kinds.specs.Takes.{stands_for};
 ghost use Rattle.register_kinds.specs.Climbs.{AreKnown, AreKnownOver, IsWhole};
-ghost use Rattle.cell_code.specs.declared.kind.Kind.{Kind};
-ghost use Rattle.register_kinds.specs.Owners.{rooted};
+ghost use Rattle.kind_domain.specs.cell_code.declared.kind.Kind.{Kind};
+ghost use Rattle.kind_domain.specs.Owners.{rooted};
 ghost use Rattle.register_kinds.specs.Sorted.{IsTakable};
 ghost use Rattle.register_kinds.specs.Takes.{GathersParts, IsPassed};
-ghost use Rattle.register_kinds.specs.Kept.{Grows, kept_at, leads, names};
-ghost use Rattle.register_kinds.specs.declared.label_sets.Origin.{Origin};
-ghost use Rattle.register_kinds.specs.LabelSets.{set_at};
-ghost use Rattle.register_kinds.specs.Rising.{Rise};
-ghost use Rattle.code_rules.specs.Kinds.{set_of};
-ghost use Rattle.register_kinds.specs.Views.{kind_of};
+ghost use Rattle.kind_domain.specs.Leading.{Grows, kept_at, leads, names};
+ghost use Rattle.kind_domain.specs.declared.label_sets.Origin.{Origin};
+ghost use Rattle.kind_domain.specs.LabelSets.{set_at};
+ghost use Rattle.kind_domain.specs.Rising.{Rise};
+ghost use Rattle.kind_domain.specs.code_rules.Kinds.{set_of};
+ghost use Rattle.kind_domain.specs.Views.{kind_of};
 
 use crate::held::{is_whole, mended};
-use crate::known::{Known, whole};
-use crate::label_sets::Origin;
-use crate::marks::Marks;
 use crate::registers::Registers;
-use crate::table::Table;
-use cell_code::From;
+use kind_domain::code::From;
+use kind_domain::known::{Known, whole};
+use kind_domain::label_sets::Origin;
+use kind_domain::marks::Marks;
+use kind_domain::table::Table;
 
 // So few registers get another root one by one: where names change, label maps are looked at anew.
 const FEW: usize = 16;

@@ -1,5 +1,5 @@
 use Rattle.std.proofs.Common.{◌≡◌, drop}
-use Rattle.code_rules.specs.Kinds.{has}
+use Rattle.kind_domain.specs.code_rules.Kinds.{has}
 use Rattle.register_kinds.proofs.asks.stands_in.Given as goal
 
 abbrev pub invariant-loop-other : goal.invariant-loop-other

@@ -1,5 +1,5 @@
 use Rattle.std.proofs.Common.{◌≡◌, drop}
-use Rattle.code_rules.specs.Fitting.{fit_all}
+use Rattle.kind_domain.specs.code_rules.Fitting.{fit_all}
 use Rattle.register_kinds.specs.Arrivals.{arrive}
 use Rattle.register_kinds.proofs.fits.all_fit.Given as goal
 

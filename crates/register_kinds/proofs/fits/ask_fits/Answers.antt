@@ -1,4 +1,4 @@
-use Rattle.register_kinds.specs.Views.{kind_of}
+use Rattle.kind_domain.specs.Views.{kind_of}
 use Rattle.register_kinds.proofs.Sparse.{credit_fits, scalar_fits}
 use Rattle.register_kinds.proofs.fits.ask_fits.Goals as goal
 

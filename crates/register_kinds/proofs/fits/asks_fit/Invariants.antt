@@ -1,6 +1,6 @@
 use Rattle.std.proofs.Common.{◌≡◌, drop}
 use Rattle.register_kinds.specs.Arrivals.{each_fits}
-use Rattle.register_kinds.specs.Busy.{AllSay, registers_of}
+use Rattle.kind_domain.specs.Busy.{AllSay, registers_of}
 use Rattle.register_kinds.proofs.fits.asks_fit.Given as goal
 
 abbrev pub invariant-loop-ask : goal.invariant-loop-ask

@@ -1,11 +1,11 @@
 use Rattle.std.proofs.Common.{sym, ◌∙◌}
-use Rattle.code_rules.specs.Kinds.{set_of}
+use Rattle.kind_domain.specs.code_rules.Kinds.{set_of}
 use Rattle.std.proofs.Common.{subst}
-use Rattle.register_kinds.specs.Rising.{Rise}
-use Rattle.register_kinds.specs.Views.{kind_of}
+use Rattle.kind_domain.specs.Rising.{Rise}
+use Rattle.kind_domain.specs.Views.{kind_of}
 use Rattle.register_kinds.proofs.Arriving.{at_get, fits_from, free_from, rise_kind}
-use Rattle.register_kinds.proofs.Places.{at_past}
-use Rattle.register_kinds.proofs.SetsCompared.{within_is}
+use Rattle.kind_domain.proofs.Places.{at_past}
+use Rattle.kind_domain.proofs.SetsCompared.{within_is}
 use Rattle.register_kinds.proofs.fits.fits_at.Goals as goal
 
 pub fits-requires-clause-known_rises : goal.fits-requires-clause-known_rises

@@ -1,8 +1,8 @@
 use Rattle.std.proofs.Common.{ap, ◌∙◌, sym, inl, inr}
-use Rattle.code_rules.specs.Kinds.{at, from_of}
-use Rattle.register_kinds.specs.Climbs.{is_lent_in}
-use Rattle.register_kinds.specs.Kept.{names}
-use Rattle.register_kinds.proofs.LentLists.{grows_on}
+use Rattle.kind_domain.specs.code_rules.Kinds.{at, from_of}
+use Rattle.kind_domain.specs.Leading.{is_lent_in}
+use Rattle.kind_domain.specs.Leading.{names}
+use Rattle.kind_domain.proofs.LentLists.{grows_on}
 use Rattle.register_kinds.proofs.held.list_alike.Goals as goal
 
 pub loop-other-preserved : goal.loop-other-preserved

@@ -1,8 +1,8 @@
 use Rattle.std.proofs.Common.{◌≡◌, ◌⊎◌, ℕ}
 use Rattle.std.specs.Prelude.{true}
-use Rattle.code_rules.specs.Kinds.{at, from_of, has}
-use Rattle.register_kinds.specs.Climbs.{is_lent_in}
-use Rattle.register_kinds.specs.Kept.{Grows, names}
+use Rattle.kind_domain.specs.code_rules.Kinds.{at, from_of, has}
+use Rattle.kind_domain.specs.Leading.{is_lent_in}
+use Rattle.kind_domain.specs.Leading.{Grows, names}
 use Rattle.register_kinds.proofs.held.list_alike.Given as goal
 
 abbrev pub invariant-loop-other : goal.invariant-loop-other

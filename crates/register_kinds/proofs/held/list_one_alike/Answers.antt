@@ -1,5 +1,5 @@
 use Rattle.std.proofs.Common.{◌∙◌, sym, inl, inr, refl}
-use Rattle.register_kinds.proofs.LentLists.{grows_same}
+use Rattle.kind_domain.proofs.LentLists.{grows_same}
 use Rattle.register_kinds.proofs.held.list_one_alike.Goals as goal
 
 pub returns-then-is_lent_in-clause-only : goal.returns-then-is_lent_in-clause-only

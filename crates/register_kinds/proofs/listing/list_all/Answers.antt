@@ -1,7 +1,7 @@
 use Rattle.std.proofs.Common.{◌≡◌, inl, inr, ◌∙◌, subst, arith}
 use Rattle.std.specs.Prelude.{true}
-use Rattle.code_rules.specs.Kinds.{has}
-use Rattle.register_kinds.proofs.LentLists.{below_next, grows_has, grows_on}
+use Rattle.kind_domain.specs.code_rules.Kinds.{has}
+use Rattle.kind_domain.proofs.LentLists.{below_next, grows_has, grows_on}
 use Rattle.register_kinds.proofs.listing.list_all.Goals as goal
 
 pub loop-register-preserved : goal.loop-register-preserved

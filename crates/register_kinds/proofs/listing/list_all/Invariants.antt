@@ -1,7 +1,7 @@
 use Rattle.std.proofs.Common.{◌≡◌, ℕ, ◌<◌}
 use Rattle.std.specs.Prelude.{true}
-use Rattle.code_rules.specs.Kinds.{has}
-use Rattle.register_kinds.specs.Kept.{Grows}
+use Rattle.kind_domain.specs.code_rules.Kinds.{has}
+use Rattle.kind_domain.specs.Leading.{Grows}
 use Rattle.register_kinds.proofs.listing.list_all.Given as goal
 
 abbrev pub invariant-loop-register : goal.invariant-loop-register

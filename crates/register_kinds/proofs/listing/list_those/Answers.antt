@@ -1,9 +1,9 @@
 use Rattle.std.proofs.Common.{◌≡◌, ◌+◌, inl, inr, sym, ap, ◌∙◌, subst, drop, arith}
 use Rattle.std.specs.Prelude.{true, slice_index}
-use Rattle.code_rules.specs.Kinds.{at, has}
-use Rattle.register_kinds.specs.Kept.{leads}
-use Rattle.register_kinds.proofs.LentLists.{grows_has, grows_on}
-use Rattle.register_kinds.proofs.Places.{drop_index}
+use Rattle.kind_domain.specs.code_rules.Kinds.{at, has}
+use Rattle.kind_domain.specs.Leading.{leads}
+use Rattle.kind_domain.proofs.LentLists.{grows_has, grows_on}
+use Rattle.kind_domain.proofs.Places.{drop_index}
 use Rattle.register_kinds.proofs.Reaching.{one_of}
 use Rattle.register_kinds.proofs.listing.list_those.Goals as goal
 

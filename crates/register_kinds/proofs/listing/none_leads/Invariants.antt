@@ -1,7 +1,7 @@
 use Rattle.std.proofs.Common.{◌≡◌, ◌⊎◌, ℕ, drop}
 use Rattle.std.specs.Prelude.{true, false}
-use Rattle.code_rules.specs.Kinds.{at, has}
-use Rattle.register_kinds.specs.Kept.{leads}
+use Rattle.kind_domain.specs.code_rules.Kinds.{at, has}
+use Rattle.kind_domain.specs.Leading.{leads}
 use Rattle.register_kinds.proofs.listing.none_leads.Given as goal
 
 abbrev pub invariant-loop-other : goal.invariant-loop-other

@@ -1,6 +1,6 @@
 use Rattle.std.proofs.Common.{◌≡◌, ◌++◌, drop, map}
-use Rattle.cell_code.specs.declared.kind.Kind.TheVariants.{Credit}
-use Rattle.register_kinds.specs.Views.{kinds_of}
+use Rattle.kind_domain.specs.cell_code.declared.kind.Kind.TheVariants.{Credit}
+use Rattle.kind_domain.specs.Views.{kinds_of}
 use Rattle.register_kinds.proofs.registers.add_credits.Given as goal
 
 abbrev pub invariant-loop-size : goal.invariant-loop-size

@@ -1,6 +1,6 @@
 use Rattle.std.proofs.Common.{◌∙◌, ◌+◌, ◌-◌, ◌++◌, ap}
-use Rattle.code_rules.specs.Entry.{gones}
-use Rattle.register_kinds.specs.Views.{kinds_of}
+use Rattle.kind_domain.specs.code_rules.Entry.{gones}
+use Rattle.kind_domain.specs.Views.{kinds_of}
 use Rattle.register_kinds.proofs.Entered.{gones_step}
 use Rattle.register_kinds.proofs.registers.add_gones.Goals as goal
 

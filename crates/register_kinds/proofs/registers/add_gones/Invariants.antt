@@ -1,6 +1,6 @@
 use Rattle.std.proofs.Common.{◌≡◌, ◌++◌, ◌-◌}
-use Rattle.code_rules.specs.Entry.{gones}
-use Rattle.register_kinds.specs.Views.{kinds_of}
+use Rattle.kind_domain.specs.code_rules.Entry.{gones}
+use Rattle.kind_domain.specs.Views.{kinds_of}
 use Rattle.register_kinds.proofs.registers.add_gones.Given as goal
 
 abbrev pub invariant-loop-place : goal.invariant-loop-place

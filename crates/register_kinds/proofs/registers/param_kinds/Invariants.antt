@@ -1,6 +1,6 @@
 use Rattle.std.proofs.Common.{◌≡◌, ◌++◌, drop, map}
-use Rattle.code_rules.specs.Entry.{param_kind}
-use Rattle.register_kinds.specs.Views.{kinds_of}
+use Rattle.kind_domain.specs.code_rules.Entry.{param_kind}
+use Rattle.kind_domain.specs.Views.{kinds_of}
 use Rattle.register_kinds.proofs.registers.param_kinds.Given as goal
 
 abbrev pub invariant-loop-param : goal.invariant-loop-param

@@ -1,11 +1,11 @@
 use Rattle.std.proofs.Common.{◌≡◌, ◌+◌, inl, inr, sym, ap, ◌∙◌, subst, drop, arith}
 use Rattle.std.specs.Prelude.{true, slice_index, Some}
-use Rattle.code_rules.specs.Kinds.{at, has}
-use Rattle.code_rules.specs.Taking.{part}
+use Rattle.kind_domain.specs.code_rules.Kinds.{at, has}
+use Rattle.kind_domain.specs.code_rules.Taking.{part}
 use Rattle.register_kinds.specs.Sorted.{listing}
 use Rattle.register_kinds.proofs.Changed.{not_true}
-use Rattle.register_kinds.proofs.LentLists.{grows_has, grows_on}
-use Rattle.register_kinds.proofs.Places.{drop_index}
+use Rattle.kind_domain.proofs.LentLists.{grows_has, grows_on}
+use Rattle.kind_domain.proofs.Places.{drop_index}
 use Rattle.register_kinds.proofs.Reaching.{one_of}
 use Rattle.register_kinds.proofs.sorting.list_some.Goals as goal
 

@@ -1,8 +1,8 @@
 use Rattle.std.proofs.Common.{◌≡◌, ◌⊎◌, ◌<◌, ℕ, drop}
 use Rattle.std.specs.Prelude.{true, false, Option, Some}
-use Rattle.code_rules.specs.Kinds.{at, has}
-use Rattle.code_rules.specs.Taking.{part}
-use Rattle.register_kinds.specs.Kept.{Grows, kept_at}
+use Rattle.kind_domain.specs.code_rules.Kinds.{at, has}
+use Rattle.kind_domain.specs.code_rules.Taking.{part}
+use Rattle.kind_domain.specs.Leading.{Grows, kept_at}
 use Rattle.register_kinds.specs.Sorted.{listing}
 use Rattle.register_kinds.proofs.sorting.list_some.Given as goal
 

@@ -1,7 +1,7 @@
 use Rattle.std.proofs.Common.{sym, ◌∙◌, ap}
-use Rattle.code_rules.specs.Taking.{part}
-use Rattle.register_kinds.specs.Kept.{names}
-use Rattle.register_kinds.specs.Views.{kind_of}
+use Rattle.kind_domain.specs.code_rules.Taking.{part}
+use Rattle.kind_domain.specs.Leading.{names}
+use Rattle.kind_domain.specs.Views.{kind_of}
 use Rattle.register_kinds.proofs.TakenKinds.{no_heir_by}
 use Rattle.register_kinds.proofs.take.is_heir_by.Goals as goal
 

@@ -1,5 +1,5 @@
 use Rattle.std.proofs.Common.{◌≡◌, drop}
-use Rattle.code_rules.specs.Taking.{part, part_from}
+use Rattle.kind_domain.specs.code_rules.Taking.{part, part_from}
 use Rattle.register_kinds.proofs.take.piece_of.Given as goal
 
 abbrev pub invariant-loop-part : goal.invariant-loop-part

@@ -1,5 +1,5 @@
 use Rattle.std.proofs.Common.{◌≡◌, drop}
-use Rattle.code_rules.specs.Asked.{are_places}
+use Rattle.kind_domain.specs.code_rules.Asked.{are_places}
 use Rattle.register_kinds.proofs.registers.Registers.are_places.Given as goal
 
 abbrev pub invariant-loop-place : goal.invariant-loop-place

@@ -1,11 +1,11 @@
 use Rattle.std.proofs.Common.{sym, ap, map, ◌∙◌, ◌+◌, arith}
 use Rattle.std.specs.Prelude.{None}
-use Rattle.code_rules.specs.Codes.{plain_label}
-use Rattle.code_rules.specs.Kinds.{is_free}
-use Rattle.register_kinds.specs.Busy.{held}
+use Rattle.kind_domain.specs.cell_code.Plain.{plain_label}
+use Rattle.kind_domain.specs.code_rules.Kinds.{is_free}
+use Rattle.kind_domain.specs.Busy.{held}
 use Rattle.register_kinds.specs.Kept.{IsKept}
-use Rattle.register_kinds.specs.LabelSets.{set_at}
-use Rattle.register_kinds.specs.Views.{kind_of}
+use Rattle.kind_domain.specs.LabelSets.{set_at}
+use Rattle.kind_domain.specs.Views.{kind_of}
 use Rattle.std.proofs.Common.{subst}
 use Rattle.register_kinds.proofs.Keeps.{keeps_one}
 use Rattle.register_kinds.proofs.Sparse.{busy_few, rest_of}

@@ -1,11 +1,11 @@
 use Rattle.std.proofs.Common.{ap, sym, ◌∙◌, map, refl, subst}
 use Rattle.std.specs.Prelude.{None}
-use Rattle.code_rules.specs.Codes.{plain_label}
+use Rattle.kind_domain.specs.cell_code.Plain.{plain_label}
 use Rattle.register_kinds.specs.Kept.{IsKept}
-use Rattle.register_kinds.specs.Owners.{rooted, swapped}
+use Rattle.kind_domain.specs.Owners.{rooted, swapped}
 use Rattle.register_kinds.specs.Takes.{stands_for}
 use Rattle.register_kinds.proofs.Keeps.{keeps_swapped}
-use Rattle.register_kinds.proofs.Naming.{all_same}
+use Rattle.kind_domain.proofs.Naming.{all_same}
 use Rattle.register_kinds.proofs.registers.Registers.change_names.Goals as goal
 
 pub returns-in-None-clause-kinds : goal.returns-in-None-clause-kinds

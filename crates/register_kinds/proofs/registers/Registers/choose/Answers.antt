@@ -1,5 +1,5 @@
 use Rattle.std.proofs.Common.{◌∙◌, sym, ap}
-use Rattle.code_rules.specs.Kinds.{at, is_owned}
+use Rattle.kind_domain.specs.code_rules.Kinds.{at, is_owned}
 use Rattle.register_kinds.proofs.Climbing.{free_apart}
 use Rattle.register_kinds.proofs.registers.Registers.choose.Goals as goal
 

@@ -1,11 +1,12 @@
 use Rattle.std.proofs.Common.{◌∙◌, sym, ap, subst, map, arith}
 use Rattle.std.specs.Prelude.{Some}
-use Rattle.code_rules.specs.Codes.{plain_function, plain_label}
-use Rattle.register_kinds.specs.Busy.{busy_in}
-use Rattle.register_kinds.specs.Kept.{AreAsked, IsKept}
-use Rattle.register_kinds.specs.Views.{kinds_of}
+use Rattle.kind_domain.specs.cell_code.Plain.{plain_label, plain_function}
+use Rattle.kind_domain.specs.Busy.{busy_in}
+use Rattle.kind_domain.specs.Busy.{AreAsked}
+use Rattle.register_kinds.specs.Kept.{IsKept}
+use Rattle.kind_domain.specs.Views.{kinds_of}
 use Rattle.register_kinds.proofs.Entered.{entered, entered_long}
-use Rattle.register_kinds.proofs.Places.{kinds_long}
+use Rattle.kind_domain.proofs.Places.{kinds_long}
 use Rattle.register_kinds.proofs.registers.Registers.enter.Goals as goal
 
 pub new-requires : goal.new-requires

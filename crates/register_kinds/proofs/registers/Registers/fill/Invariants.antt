@@ -1,6 +1,6 @@
 use Rattle.std.proofs.Common.{◌≡◌, ◌<◌, ℕ, length}
-use Rattle.code_rules.specs.Kinds.{at}
-use Rattle.code_rules.specs.Taking.{part}
+use Rattle.kind_domain.specs.code_rules.Kinds.{at}
+use Rattle.kind_domain.specs.code_rules.Taking.{part}
 use Rattle.register_kinds.specs.Takes.{filled_by}
 use Rattle.register_kinds.proofs.registers.Registers.fill.Given as goal
 

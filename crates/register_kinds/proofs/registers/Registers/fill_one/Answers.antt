@@ -1,6 +1,6 @@
 use Rattle.std.proofs.Common.{sym, ◌∙◌, ap, set, get_or, refl}
-use Rattle.code_rules.specs.Kinds.{at}
-use Rattle.code_rules.specs.Taking.{part_kind}
+use Rattle.kind_domain.specs.code_rules.Kinds.{at}
+use Rattle.kind_domain.specs.code_rules.Taking.{part_kind}
 use Rattle.register_kinds.specs.Takes.{as_part}
 use Rattle.register_kinds.proofs.TakenKinds.{fill_other, fill_put, part_field}
 use Rattle.register_kinds.proofs.registers.Registers.fill_one.Goals as goal

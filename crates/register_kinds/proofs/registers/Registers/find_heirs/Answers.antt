@@ -1,5 +1,5 @@
 use Rattle.std.proofs.Common.{subst}
-use Rattle.code_rules.specs.Taking.{is_heir, part}
+use Rattle.kind_domain.specs.code_rules.Taking.{is_heir, part}
 use Rattle.register_kinds.specs.Takes.{AreReached, AreSettled}
 use Rattle.register_kinds.proofs.Reaching.{all_found}
 use Rattle.register_kinds.proofs.TakenKinds.{heirs_listed}

@@ -1,5 +1,5 @@
 use Rattle.std.proofs.Common.{◌≡◌}
-use Rattle.code_rules.specs.Taking.{is_heir, part}
+use Rattle.kind_domain.specs.code_rules.Taking.{is_heir, part}
 use Rattle.register_kinds.specs.Takes.{AreReached, nones}
 use Rattle.register_kinds.proofs.registers.Registers.find_heirs.Given as goal
 

@@ -1,7 +1,8 @@
 use Rattle.std.proofs.Common.{◌≡◌, ◌<◌, ℕ}
 use Rattle.std.specs.Prelude.{true, false, Some, slice_get}
-use Rattle.code_rules.specs.Kinds.{at, from_of, has}
-use Rattle.register_kinds.specs.Climbs.{is_lent_in, tree_of}
+use Rattle.kind_domain.specs.code_rules.Kinds.{at, from_of, has}
+use Rattle.kind_domain.specs.Leading.{is_lent_in}
+use Rattle.register_kinds.specs.Climbs.{tree_of}
 use Rattle.register_kinds.proofs.registers.Registers.find_torn.Given as goal
 
 abbrev pub invariant-loop-register-2 : goal.invariant-loop-register-2

@@ -1,6 +1,6 @@
 use Rattle.std.proofs.Common.{sym, ◌∙◌, ap, map, slice_get}
-use Rattle.code_rules.specs.Codes.{plain_label}
-use Rattle.code_rules.specs.Fitting.{fit_all}
+use Rattle.kind_domain.specs.cell_code.Plain.{plain_label}
+use Rattle.kind_domain.specs.code_rules.Fitting.{fit_all}
 use Rattle.register_kinds.proofs.Arriving.{arrive_none, keeps_seen}
 use Rattle.register_kinds.proofs.registers.Registers.fit.Goals as goal
 

@@ -1,8 +1,8 @@
 use Rattle.std.proofs.Common.{sym, ◌∙◌, ap, length, slice_get, subst, arith}
-use Rattle.code_rules.specs.Fitting.{fit_all}
+use Rattle.kind_domain.specs.code_rules.Fitting.{fit_all}
 use Rattle.register_kinds.specs.Arrivals.{arrive}
-use Rattle.register_kinds.specs.Busy.{IsAsked}
-use Rattle.register_kinds.proofs.AskedMaps.{got_asked}
+use Rattle.kind_domain.specs.Busy.{IsAsked}
+use Rattle.kind_domain.proofs.AskedMaps.{got_asked}
 use Rattle.register_kinds.proofs.Sparse.{said_by}
 use Rattle.register_kinds.proofs.registers.Registers.fits_anew.Goals as goal
 

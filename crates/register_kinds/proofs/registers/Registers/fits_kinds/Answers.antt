@@ -1,5 +1,5 @@
 use Rattle.std.proofs.Common.{sym, ◌∙◌, ap, refl, slice_get}
-use Rattle.code_rules.specs.Fitting.{fit_all}
+use Rattle.kind_domain.specs.code_rules.Fitting.{fit_all}
 use Rattle.register_kinds.specs.Arrivals.{arrive, each_fits, tested_fits}
 use Rattle.register_kinds.proofs.Arriving.{seen_case}
 use Rattle.register_kinds.proofs.registers.Registers.fits_kinds.Goals as goal

@@ -1,8 +1,9 @@
 use Rattle.std.proofs.Common.{◌≡◌, sym, subst}
 use Rattle.std.specs.Prelude.{Some, true}
-use Rattle.code_rules.specs.Kinds.{from_of}
-use Rattle.register_kinds.specs.Climbs.{IsHeld, is_lent_in, tree_of}
-use Rattle.register_kinds.specs.Views.{constructors_in, kind_of}
+use Rattle.kind_domain.specs.code_rules.Kinds.{from_of}
+use Rattle.register_kinds.specs.Climbs.{IsHeld, tree_of}
+use Rattle.kind_domain.specs.Leading.{is_lent_in}
+use Rattle.kind_domain.specs.Views.{constructors_in, kind_of}
 use Rattle.register_kinds.proofs.Climbing.{held_inside}
 use Rattle.register_kinds.proofs.Torn.{root_lent}
 use Rattle.register_kinds.proofs.registers.Registers.follows.Goals as goal

@@ -1,9 +1,9 @@
 use Rattle.std.proofs.Common.{◌≡◌, sym, ◌∙◌, ◌+◌, ◌∷◌, ap, subst, drop, length, set, arith}
 use Rattle.std.specs.Prelude.{slice_index}
-use Rattle.code_rules.specs.Kinds.{at}
-use Rattle.code_rules.specs.Taking.{part, ends}
+use Rattle.kind_domain.specs.code_rules.Kinds.{at}
+use Rattle.kind_domain.specs.code_rules.Taking.{part, ends}
 use Rattle.register_kinds.specs.Takes.{forgotten, in_turn, seen_at, Alike}
-use Rattle.register_kinds.proofs.Places.{drop_index}
+use Rattle.kind_domain.proofs.Places.{drop_index}
 use Rattle.register_kinds.proofs.TakenKinds.{alike_step, ended_step, turns_done}
 use Rattle.register_kinds.proofs.registers.Registers.forget_ended.Goals as goal
 

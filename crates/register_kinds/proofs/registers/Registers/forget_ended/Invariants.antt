@@ -1,5 +1,5 @@
 use Rattle.std.proofs.Common.{◌≡◌, drop, length}
-use Rattle.code_rules.specs.Taking.{part, ends}
+use Rattle.kind_domain.specs.code_rules.Taking.{part, ends}
 use Rattle.register_kinds.specs.Takes.{forgotten, in_turn, seen_at, Alike}
 use Rattle.register_kinds.proofs.registers.Registers.forget_ended.Given as goal
 

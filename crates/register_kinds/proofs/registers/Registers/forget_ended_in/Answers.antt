@@ -1,6 +1,6 @@
 use Rattle.std.proofs.Common.{sym, ◌∙◌, ap, length}
-use Rattle.code_rules.specs.Kinds.{from_of}
-use Rattle.code_rules.specs.Taking.{part, ends}
+use Rattle.kind_domain.specs.code_rules.Kinds.{from_of}
+use Rattle.kind_domain.specs.code_rules.Taking.{part, ends}
 use Rattle.register_kinds.specs.Takes.{forgotten, seen_at}
 use Rattle.register_kinds.proofs.Changed.{forget_none, forget_kept}
 use Rattle.register_kinds.proofs.TakenKinds.{kept_own, used_forgotten, unused_forgotten}

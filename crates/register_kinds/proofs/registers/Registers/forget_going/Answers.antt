@@ -1,8 +1,9 @@
 use Rattle.std.proofs.Common.{sym, ◌∙◌, ◌+◌, ◌∷◌, ap, drop, arith}
 use Rattle.std.specs.Prelude.{slice_index}
-use Rattle.code_rules.specs.Changes.{forget, goes}
+use Rattle.kind_domain.specs.code_rules.Changes.{forget, goes}
 use Rattle.register_kinds.specs.Steps.{each}
-use Rattle.register_kinds.proofs.Places.{each_done, drop_index}
+use Rattle.register_kinds.proofs.EachPlace.{each_done}
+use Rattle.kind_domain.proofs.Places.{drop_index}
 use Rattle.register_kinds.proofs.Changed.{going_step, goes_still}
 use Rattle.register_kinds.proofs.Gathered.{going_listed}
 use Rattle.register_kinds.proofs.registers.Registers.forget_going.Goals as goal

@@ -1,5 +1,5 @@
 use Rattle.std.proofs.Common.{◌≡◌, ℕ, drop}
-use Rattle.code_rules.specs.Changes.{goes, forget}
+use Rattle.kind_domain.specs.code_rules.Changes.{goes, forget}
 use Rattle.register_kinds.specs.Steps.{each}
 use Rattle.register_kinds.proofs.registers.Registers.forget_going.Given as goal
 

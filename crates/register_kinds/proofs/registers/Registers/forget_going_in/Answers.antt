@@ -1,6 +1,6 @@
 use Rattle.std.proofs.Common.{sym, ◌∙◌, ap}
-use Rattle.code_rules.specs.Changes.{forget, goes}
-use Rattle.code_rules.specs.Kinds.{from_of}
+use Rattle.kind_domain.specs.code_rules.Changes.{forget, goes}
+use Rattle.kind_domain.specs.code_rules.Kinds.{from_of}
 use Rattle.register_kinds.proofs.Changed.{set_own, forget_none, forget_kept}
 use Rattle.register_kinds.proofs.registers.Registers.forget_going_in.Goals as goal
 

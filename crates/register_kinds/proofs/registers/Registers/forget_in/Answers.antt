@@ -1,6 +1,6 @@
 use Rattle.std.proofs.Common.{sym, ◌∙◌, ap}
-use Rattle.code_rules.specs.Kinds.{from_of}
-use Rattle.register_kinds.specs.Kept.{names}
+use Rattle.kind_domain.specs.code_rules.Kinds.{from_of}
+use Rattle.kind_domain.specs.Leading.{names}
 use Rattle.register_kinds.specs.Steps.{forgets}
 use Rattle.register_kinds.proofs.Changed.{set_own, forgets_unnamed}
 use Rattle.register_kinds.proofs.registers.Registers.forget_in.Goals as goal

@@ -1,6 +1,6 @@
 use Rattle.std.proofs.Common.{◌∙◌, arith}
 use Rattle.register_kinds.specs.Steps.{forgets}
-use Rattle.register_kinds.proofs.Places.{each_done}
+use Rattle.register_kinds.proofs.EachPlace.{each_done}
 use Rattle.register_kinds.proofs.Gathered.{forget_listed}
 use Rattle.register_kinds.proofs.registers.Registers.forget_listed.Goals as goal
 

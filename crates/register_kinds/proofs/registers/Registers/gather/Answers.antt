@@ -1,7 +1,7 @@
 use Rattle.std.proofs.Common.{ap, ◌∙◌}
-use Rattle.code_rules.specs.Kinds.{at}
-use Rattle.register_kinds.specs.Kept.{leads}
-use Rattle.register_kinds.proofs.LentLists.{grows_has}
+use Rattle.kind_domain.specs.code_rules.Kinds.{at}
+use Rattle.kind_domain.specs.Leading.{leads}
+use Rattle.kind_domain.proofs.LentLists.{grows_has}
 use Rattle.register_kinds.proofs.registers.Registers.gather.Goals as goal
 
 pub returns-clause-gathered : goal.returns-clause-gathered

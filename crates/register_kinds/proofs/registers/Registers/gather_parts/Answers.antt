@@ -1,8 +1,8 @@
 use Rattle.std.proofs.Common.{sym, ap, ◌∙◌}
-use Rattle.code_rules.specs.Kinds.{at}
-use Rattle.code_rules.specs.Taking.{is_heir, part}
-use Rattle.register_kinds.specs.Kept.{leads}
-use Rattle.register_kinds.proofs.LentLists.{closed_more, grows_has}
+use Rattle.kind_domain.specs.code_rules.Kinds.{at}
+use Rattle.kind_domain.specs.code_rules.Taking.{is_heir, part}
+use Rattle.kind_domain.specs.Leading.{leads}
+use Rattle.kind_domain.proofs.LentLists.{closed_more, grows_has}
 use Rattle.register_kinds.proofs.registers.Registers.gather_parts.Goals as goal
 
 pub list_further-requires-clause-closed : goal.list_further-requires-clause-closed

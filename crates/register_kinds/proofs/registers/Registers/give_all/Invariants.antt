@@ -1,5 +1,5 @@
 use Rattle.std.proofs.Common.{◌≡◌, drop}
-use Rattle.code_rules.specs.Handing.{give_all}
+use Rattle.kind_domain.specs.code_rules.Handing.{give_all}
 use Rattle.register_kinds.proofs.registers.Registers.give_all.Given as goal
 
 abbrev pub invariant-loop-source : goal.invariant-loop-source

@@ -1,5 +1,5 @@
 use Rattle.std.proofs.Common.{◌≡◌, drop}
-use Rattle.code_rules.specs.Handing.{hand_all}
+use Rattle.kind_domain.specs.code_rules.Handing.{hand_all}
 use Rattle.register_kinds.proofs.registers.Registers.hand_all.Given as goal
 
 abbrev pub invariant-loop-size : goal.invariant-loop-size

@@ -1,8 +1,9 @@
 use Rattle.std.proofs.Common.{◌≡◌, ◌∙◌, ap, sym, subst}
 use Rattle.std.specs.Prelude.{true}
-use Rattle.code_rules.specs.Kinds.{from_of}
-use Rattle.register_kinds.specs.Climbs.{IsHeld, is_lent_in}
-use Rattle.register_kinds.specs.Views.{constructors_in, kind_of}
+use Rattle.kind_domain.specs.code_rules.Kinds.{from_of}
+use Rattle.register_kinds.specs.Climbs.{IsHeld}
+use Rattle.kind_domain.specs.Leading.{is_lent_in}
+use Rattle.kind_domain.specs.Views.{constructors_in, kind_of}
 use Rattle.register_kinds.proofs.Climbing.{climb_top, held_lent}
 use Rattle.register_kinds.proofs.registers.Registers.is_top.Goals as goal
 

@@ -1,6 +1,6 @@
 use Rattle.std.proofs.Common.{subst, sym}
-use Rattle.code_rules.specs.Kinds.{set_of}
-use Rattle.register_kinds.specs.Rising.{Rise}
+use Rattle.kind_domain.specs.code_rules.Kinds.{set_of}
+use Rattle.kind_domain.specs.Rising.{Rise}
 use Rattle.register_kinds.proofs.registers.Registers.known.Goals as goal
 
 pub returns-clause-rises : goal.returns-clause-rises

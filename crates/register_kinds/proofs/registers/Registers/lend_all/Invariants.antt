@@ -1,5 +1,5 @@
 use Rattle.std.proofs.Common.{◌≡◌, drop}
-use Rattle.code_rules.specs.Handing.{lend_all}
+use Rattle.kind_domain.specs.code_rules.Handing.{lend_all}
 use Rattle.register_kinds.proofs.registers.Registers.lend_all.Given as goal
 
 abbrev pub invariant-loop-param : goal.invariant-loop-param

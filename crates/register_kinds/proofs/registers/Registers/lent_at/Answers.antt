@@ -1,5 +1,5 @@
 use Rattle.std.proofs.Common.{sym, ◌∙◌, ap, get_or}
-use Rattle.register_kinds.proofs.Sets.{has_at}
+use Rattle.kind_domain.proofs.Sets.{has_at}
 use Rattle.register_kinds.proofs.registers.Registers.lent_at.Goals as goal
 
 pub returns-clause-listed : goal.returns-clause-listed

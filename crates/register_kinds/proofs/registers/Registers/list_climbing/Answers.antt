@@ -1,9 +1,9 @@
 use Rattle.std.proofs.Common.{ap, ◌∙◌, sym, inl, inr, arith}
-use Rattle.code_rules.specs.Kinds.{at, from_of}
-use Rattle.register_kinds.specs.Climbs.{is_lent_in}
-use Rattle.register_kinds.specs.Kept.{names}
+use Rattle.kind_domain.specs.code_rules.Kinds.{at, from_of}
+use Rattle.kind_domain.specs.Leading.{is_lent_in}
+use Rattle.kind_domain.specs.Leading.{names}
 use Rattle.register_kinds.proofs.Climbing.{held_kin}
-use Rattle.register_kinds.proofs.LentLists.{grows_within}
+use Rattle.kind_domain.proofs.LentLists.{grows_within}
 use Rattle.register_kinds.proofs.registers.Registers.list_climbing.Goals as goal
 
 pub returns-then-not-list_kin-clause-held : goal.returns-then-not-list_kin-clause-held

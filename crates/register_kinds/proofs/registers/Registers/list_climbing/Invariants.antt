@@ -1,7 +1,8 @@
 use Rattle.std.proofs.Common.{◌≡◌, ◌≤◌, ◌-◌, ℕ, length}
 use Rattle.std.specs.Prelude.{Option, true}
-use Rattle.code_rules.specs.Kinds.{at, from_of, has}
-use Rattle.register_kinds.specs.Climbs.{IsHeld, is_lent_in}
+use Rattle.kind_domain.specs.code_rules.Kinds.{at, from_of, has}
+use Rattle.register_kinds.specs.Climbs.{IsHeld}
+use Rattle.kind_domain.specs.Leading.{is_lent_in}
 use Rattle.register_kinds.proofs.registers.Registers.list_climbing.Given as goal
 
 abbrev pub invariant-loop-place : goal.invariant-loop-place

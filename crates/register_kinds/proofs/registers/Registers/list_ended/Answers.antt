@@ -1,11 +1,11 @@
 use Rattle.std.proofs.Common.{◌+◌, inl, inr, sym, ap, ◌∙◌, subst, drop, arith}
 use Rattle.std.specs.Prelude.{is_some, slice_index}
-use Rattle.code_rules.specs.Kinds.{at, from_of, has, is_lent_of}
-use Rattle.code_rules.specs.Taking.{is_heir, part}
-use Rattle.register_kinds.specs.Kept.{names}
+use Rattle.kind_domain.specs.code_rules.Kinds.{at, from_of, has, is_lent_of}
+use Rattle.kind_domain.specs.code_rules.Taking.{is_heir, part}
+use Rattle.kind_domain.specs.Leading.{names}
 use Rattle.register_kinds.specs.Sorted.{AreGood, Rest}
-use Rattle.register_kinds.proofs.LentLists.{grows_has, grows_on}
-use Rattle.register_kinds.proofs.Places.{drop_index}
+use Rattle.kind_domain.proofs.LentLists.{grows_has, grows_on}
+use Rattle.kind_domain.proofs.Places.{drop_index}
 use Rattle.register_kinds.proofs.Reaching.{one_of}
 use Rattle.register_kinds.proofs.Sorted.{none_left, part_listed, rest_more}
 use Rattle.register_kinds.proofs.registers.Registers.list_ended.Goals as goal

@@ -1,8 +1,8 @@
 use Rattle.std.proofs.Common.{◌+◌, ◌∷◌, sym, ap, ◌∙◌, drop, arith}
-use Rattle.code_rules.specs.Kinds.{at}
-use Rattle.register_kinds.specs.Kept.{leads}
-use Rattle.register_kinds.proofs.LentLists.{closed_step, grows_on, grows_within}
-use Rattle.register_kinds.proofs.Places.{drop_index}
+use Rattle.kind_domain.specs.code_rules.Kinds.{at}
+use Rattle.kind_domain.specs.Leading.{leads}
+use Rattle.kind_domain.proofs.LentLists.{closed_step, grows_on, grows_within}
+use Rattle.kind_domain.proofs.Places.{drop_index}
 use Rattle.register_kinds.proofs.registers.Registers.list_further.Goals as goal
 
 pub loop-place-preserved : goal.loop-place-preserved

@@ -1,5 +1,5 @@
 use Rattle.std.proofs.Common.{◌≡◌, ◌≤◌, ◌-◌, length}
-use Rattle.register_kinds.specs.Kept.{ClosedBelow, Grows}
+use Rattle.kind_domain.specs.Leading.{ClosedBelow, Grows}
 use Rattle.register_kinds.proofs.registers.Registers.list_further.Given as goal
 
 abbrev pub invariant-loop-place : goal.invariant-loop-place

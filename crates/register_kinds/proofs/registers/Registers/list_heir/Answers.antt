@@ -1,6 +1,6 @@
 use Rattle.std.proofs.Common.{refl, sym, ◌∙◌}
 use Rattle.std.specs.Prelude.{Some}
-use Rattle.code_rules.specs.Taking.{part}
+use Rattle.kind_domain.specs.code_rules.Taking.{part}
 use Rattle.register_kinds.specs.declared.sorting.Wanted.TheVariants.{Below}
 use Rattle.register_kinds.proofs.Sorted.{below_wanted, listed_heir, step_by}
 use Rattle.register_kinds.proofs.registers.Registers.list_heir.Goals as goal

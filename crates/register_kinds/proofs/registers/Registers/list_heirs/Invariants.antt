@@ -1,8 +1,8 @@
 use Rattle.std.proofs.Common.{◌≡◌, ◌⊎◌, ℕ, drop}
 use Rattle.std.specs.Prelude.{true, Some}
-use Rattle.code_rules.specs.Kinds.{at, from_of, has}
-use Rattle.code_rules.specs.Taking.{is_heir, part}
-use Rattle.register_kinds.specs.Kept.{Grows, names}
+use Rattle.kind_domain.specs.code_rules.Kinds.{at, from_of, has}
+use Rattle.kind_domain.specs.code_rules.Taking.{is_heir, part}
+use Rattle.kind_domain.specs.Leading.{Grows, names}
 use Rattle.register_kinds.specs.Sorted.{AreGood}
 use Rattle.register_kinds.proofs.registers.Registers.list_heirs.Given as goal
 

@@ -1,9 +1,9 @@
 use Rattle.std.proofs.Common.{refl, ap, ◌∙◌}
 use Rattle.std.specs.Prelude.{None}
-use Rattle.code_rules.specs.Kinds.{at, from_of, is_lent_of}
-use Rattle.code_rules.specs.Taking.{part}
+use Rattle.kind_domain.specs.code_rules.Kinds.{at, from_of, is_lent_of}
+use Rattle.kind_domain.specs.code_rules.Taking.{part}
 use Rattle.register_kinds.specs.declared.sorting.Wanted.TheVariants.{Lost, Loose}
-use Rattle.register_kinds.proofs.LentLists.{grows_has}
+use Rattle.kind_domain.proofs.LentLists.{grows_has}
 use Rattle.register_kinds.proofs.Sorted.{listed_loose, listed_lost, lost_wanted, loose_wanted, step_by}
 use Rattle.register_kinds.proofs.registers.Registers.list_lost.Goals as goal
 

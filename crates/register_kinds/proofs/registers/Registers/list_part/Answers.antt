@@ -1,7 +1,7 @@
 use Rattle.std.proofs.Common.{inl, inr, refl, sym, ap, ◌∙◌}
 use Rattle.std.specs.Prelude.{is_some}
-use Rattle.code_rules.specs.Taking.{part}
-use Rattle.register_kinds.specs.Kept.{kept_at}
+use Rattle.kind_domain.specs.code_rules.Taking.{part}
+use Rattle.kind_domain.specs.Leading.{kept_at}
 use Rattle.register_kinds.specs.declared.sorting.Wanted.TheVariants.{Ended}
 use Rattle.register_kinds.specs.Takes.{as_part}
 use Rattle.register_kinds.proofs.Sorted.{ended_kept, ended_wanted, listed_ended, step_by}

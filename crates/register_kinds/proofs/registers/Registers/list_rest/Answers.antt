@@ -1,11 +1,11 @@
 use Rattle.std.proofs.Common.{◌+◌, ◌<◌, ◌∷◌, sym, ap, ◌∙◌, subst, drop, length, arith}
-use Rattle.code_rules.specs.Kinds.{at, from_of}
-use Rattle.code_rules.specs.Taking.{part}
-use Rattle.register_kinds.specs.Kept.{names}
+use Rattle.kind_domain.specs.code_rules.Kinds.{at, from_of}
+use Rattle.kind_domain.specs.code_rules.Taking.{part}
+use Rattle.kind_domain.specs.Leading.{names}
 use Rattle.register_kinds.specs.Sorted.{IsGood}
 use Rattle.register_kinds.specs.declared.sorting.Wanted.TheVariants.{Below}
-use Rattle.register_kinds.proofs.LentLists.{grows_on, grows_within}
-use Rattle.register_kinds.proofs.Places.{drop_index}
+use Rattle.kind_domain.proofs.LentLists.{grows_on, grows_within}
+use Rattle.kind_domain.proofs.Places.{drop_index}
 use Rattle.register_kinds.proofs.Sorted.{below_wanted, listed_below, named_step, step_by}
 use Rattle.register_kinds.proofs.registers.Registers.list_rest.Goals as goal
 

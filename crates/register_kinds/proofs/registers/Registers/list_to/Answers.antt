@@ -1,8 +1,8 @@
 use Rattle.std.proofs.Common.{ap, ◌∙◌, inl, inr}
-use Rattle.code_rules.specs.Kinds.{at, from_of, is_lent_of}
-use Rattle.register_kinds.specs.Kept.{names}
+use Rattle.kind_domain.specs.code_rules.Kinds.{at, from_of, is_lent_of}
+use Rattle.kind_domain.specs.Leading.{names}
 use Rattle.register_kinds.proofs.Keeps.{or_cases}
-use Rattle.register_kinds.proofs.LentLists.{grows_has, grows_on}
+use Rattle.kind_domain.proofs.LentLists.{grows_has, grows_on}
 use Rattle.register_kinds.proofs.registers.Registers.list_to.Goals as goal
 
 pub returns-clause-listed : goal.returns-clause-listed

@@ -1,7 +1,7 @@
 use Rattle.std.proofs.Common.{◌≡◌, ◌⊎◌, ℕ, drop}
 use Rattle.std.specs.Prelude.{true}
-use Rattle.code_rules.specs.Kinds.{at, has}
-use Rattle.register_kinds.specs.Kept.{Grows, leads}
+use Rattle.kind_domain.specs.code_rules.Kinds.{at, has}
+use Rattle.kind_domain.specs.Leading.{Grows, leads}
 use Rattle.register_kinds.proofs.registers.Registers.list_to_each.Given as goal
 
 abbrev pub invariant-loop-register : goal.invariant-loop-register

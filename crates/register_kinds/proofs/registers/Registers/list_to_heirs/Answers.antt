@@ -1,11 +1,11 @@
 use Rattle.std.proofs.Common.{◌+◌, inl, inr, sym, ap, ◌∙◌, drop, arith}
 use Rattle.std.specs.Prelude.{slice_index}
-use Rattle.code_rules.specs.Kinds.{at, has}
-use Rattle.code_rules.specs.Taking.{is_heir, part}
-use Rattle.register_kinds.specs.Kept.{leads}
+use Rattle.kind_domain.specs.code_rules.Kinds.{at, has}
+use Rattle.kind_domain.specs.code_rules.Taking.{is_heir, part}
+use Rattle.kind_domain.specs.Leading.{leads}
 use Rattle.register_kinds.proofs.Climbing.{heir_part}
-use Rattle.register_kinds.proofs.LentLists.{grows_has, grows_on}
-use Rattle.register_kinds.proofs.Places.{drop_index}
+use Rattle.kind_domain.proofs.LentLists.{grows_has, grows_on}
+use Rattle.kind_domain.proofs.Places.{drop_index}
 use Rattle.register_kinds.proofs.Reaching.{one_of}
 use Rattle.register_kinds.proofs.Sorted.{none_left, part_listed}
 use Rattle.register_kinds.proofs.registers.Registers.list_to_heirs.Goals as goal

@@ -1,8 +1,8 @@
 use Rattle.std.proofs.Common.{◌≡◌, ◌⊎◌, ℕ, drop}
 use Rattle.std.specs.Prelude.{true}
-use Rattle.code_rules.specs.Kinds.{at, has}
-use Rattle.code_rules.specs.Taking.{is_heir, part}
-use Rattle.register_kinds.specs.Kept.{Grows, leads}
+use Rattle.kind_domain.specs.code_rules.Kinds.{at, has}
+use Rattle.kind_domain.specs.code_rules.Taking.{is_heir, part}
+use Rattle.kind_domain.specs.Leading.{Grows, leads}
 use Rattle.register_kinds.proofs.registers.Registers.list_to_heirs.Given as goal
 
 abbrev pub invariant-loop-heir : goal.invariant-loop-heir

@@ -1,6 +1,6 @@
 use Rattle.std.proofs.Common.{◌∙◌, ap, arith}
-use Rattle.code_rules.specs.Kinds.{at}
-use Rattle.code_rules.specs.Taking.{part}
+use Rattle.kind_domain.specs.code_rules.Kinds.{at}
+use Rattle.kind_domain.specs.code_rules.Taking.{part}
 use Rattle.register_kinds.specs.Sorted.{listing}
 use Rattle.register_kinds.proofs.Sorted.{wanted_linked, wanted_there}
 use Rattle.register_kinds.proofs.registers.Registers.list_wanted.Goals as goal

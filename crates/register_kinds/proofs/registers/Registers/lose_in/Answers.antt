@@ -1,5 +1,5 @@
 use Rattle.std.proofs.Common.{sym, ◌∙◌, ap}
-use Rattle.code_rules.specs.Kinds.{is_lent_of}
+use Rattle.kind_domain.specs.code_rules.Kinds.{is_lent_of}
 use Rattle.register_kinds.specs.Steps.{lose}
 use Rattle.register_kinds.proofs.Changed.{set_own, lose_kept}
 use Rattle.register_kinds.proofs.registers.Registers.lose_in.Goals as goal

@@ -1,6 +1,6 @@
 use Rattle.std.proofs.Common.{◌∙◌, arith}
 use Rattle.register_kinds.specs.Steps.{lose}
-use Rattle.register_kinds.proofs.Places.{each_done}
+use Rattle.register_kinds.proofs.EachPlace.{each_done}
 use Rattle.register_kinds.proofs.Changed.{lose_listed}
 use Rattle.register_kinds.proofs.registers.Registers.lose_listed.Goals as goal
 

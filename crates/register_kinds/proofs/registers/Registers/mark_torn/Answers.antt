@@ -1,6 +1,6 @@
 use Rattle.std.proofs.Common.{ap, sym, ◌∙◌}
-use Rattle.code_rules.specs.Kinds.{has}
-use Rattle.register_kinds.specs.Views.{constructors_in, kind_of}
+use Rattle.kind_domain.specs.code_rules.Kinds.{has}
+use Rattle.kind_domain.specs.Views.{constructors_in, kind_of}
 use Rattle.register_kinds.proofs.Torn.{marked_closed, marked_listed}
 use Rattle.register_kinds.proofs.registers.Registers.mark_torn.Goals as goal
 

@@ -1,7 +1,7 @@
 use Rattle.std.proofs.Common.{◌∙◌, ap, set}
 use Rattle.std.specs.Prelude.{[], ◌∷◌}
-use Rattle.code_rules.specs.Changes.{narrow}
-use Rattle.register_kinds.specs.Views.{kind_of}
+use Rattle.kind_domain.specs.code_rules.Changes.{narrow}
+use Rattle.kind_domain.specs.Views.{kind_of}
 use Rattle.register_kinds.proofs.Changed.{tested_is}
 use Rattle.register_kinds.proofs.Torn.{known_tested}
 use Rattle.register_kinds.proofs.registers.Registers.narrow.Goals as goal

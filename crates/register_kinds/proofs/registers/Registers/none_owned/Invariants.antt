@@ -1,6 +1,6 @@
 use Rattle.std.proofs.Common.{◌≡◌, ◌⊎◌, ℕ, drop}
 use Rattle.std.specs.Prelude.{true, false}
-use Rattle.code_rules.specs.Kinds.{at, has, is_owned}
+use Rattle.kind_domain.specs.code_rules.Kinds.{at, has, is_owned}
 use Rattle.register_kinds.proofs.registers.Registers.none_owned.Given as goal
 
 abbrev pub invariant-loop-register : goal.invariant-loop-register

@@ -1,5 +1,5 @@
 use Rattle.std.proofs.Common.{◌≡◌, drop}
-use Rattle.code_rules.specs.Handing.{pass_all}
+use Rattle.kind_domain.specs.code_rules.Handing.{pass_all}
 use Rattle.register_kinds.proofs.registers.Registers.pass_all.Given as goal
 
 abbrev pub invariant-loop-param : goal.invariant-loop-param

@@ -1,9 +1,9 @@
 use Rattle.std.proofs.Common.{sym, ◌∙◌, ap, refl, subst}
 use Rattle.std.specs.Prelude.{None}
-use Rattle.code_rules.specs.Kinds.{at}
-use Rattle.code_rules.specs.Taking.{part, is_heir, IsReached}
+use Rattle.kind_domain.specs.code_rules.Kinds.{at}
+use Rattle.kind_domain.specs.code_rules.Taking.{part, is_heir, IsReached}
 use Rattle.register_kinds.specs.Takes.{GathersParts, fated, in_turn, seen_at, stands_for, IsPassed}
-use Rattle.register_kinds.proofs.Naming.{all_same}
+use Rattle.kind_domain.proofs.Naming.{all_same}
 use Rattle.register_kinds.proofs.TakenKinds.{passed_is, stands_apart, stands_twice}
 use Rattle.register_kinds.proofs.registers.Registers.pass_all_on.Goals as goal
 

@@ -1,5 +1,5 @@
 use Rattle.std.proofs.Common.{◌≡◌, drop}
-use Rattle.code_rules.specs.Taking.{part}
+use Rattle.kind_domain.specs.code_rules.Taking.{part}
 use Rattle.register_kinds.specs.Takes.{fated, in_turn, stands_for}
 use Rattle.register_kinds.proofs.registers.Registers.pass_on.Given as goal
 

@@ -1,6 +1,6 @@
 use Rattle.std.proofs.Common.{sym, ◌∙◌, ap, set}
-use Rattle.code_rules.specs.Kinds.{at, is_lent_of}
-use Rattle.code_rules.specs.Taking.{part, with_root}
+use Rattle.kind_domain.specs.code_rules.Kinds.{at, is_lent_of}
+use Rattle.kind_domain.specs.code_rules.Taking.{part, with_root}
 use Rattle.register_kinds.specs.Takes.{fated, stands_for}
 use Rattle.register_kinds.proofs.TakenKinds.{kept_own, used_fated, fated_some, fated_gone, fated_kept}
 use Rattle.register_kinds.proofs.registers.Registers.pass_on_in.Goals as goal

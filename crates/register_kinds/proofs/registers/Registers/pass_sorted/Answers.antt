@@ -1,5 +1,5 @@
 use Rattle.std.proofs.Common.{◌≡◌, ◌∙◌, ap, length, subst, arith}
-use Rattle.code_rules.specs.Taking.{ends, part}
+use Rattle.kind_domain.specs.code_rules.Taking.{ends, part}
 use Rattle.register_kinds.specs.Sorted.{IsSorted}
 use Rattle.register_kinds.specs.Takes.{fated, forgotten, in_turn, seen_at, stands_for}
 use Rattle.register_kinds.proofs.Passed.{sorted_passed}

@@ -1,5 +1,5 @@
 use Rattle.std.proofs.Common.{sym, ◌∙◌, ◌+◌, ◌++◌, ap, length, set, take, drop}
-use Rattle.register_kinds.specs.Views.{kind_of}
+use Rattle.kind_domain.specs.Views.{kind_of}
 use Rattle.register_kinds.proofs.Entered.{set_next}
 use Rattle.register_kinds.proofs.registers.Registers.put_all.Goals as goal
 

@@ -1,7 +1,7 @@
 use Rattle.std.proofs.Common.{sym, ◌∙◌, ap, set}
-use Rattle.code_rules.specs.Kinds.{at, is_lent_of}
-use Rattle.code_rules.specs.Taking.{with_root}
-use Rattle.register_kinds.proofs.Places.{set_same}
+use Rattle.kind_domain.specs.code_rules.Kinds.{at, is_lent_of}
+use Rattle.kind_domain.specs.code_rules.Taking.{with_root}
+use Rattle.kind_domain.proofs.Places.{set_same}
 use Rattle.register_kinds.proofs.TakenKinds.{root_kept}
 use Rattle.register_kinds.proofs.registers.Registers.put_root.Goals as goal
 

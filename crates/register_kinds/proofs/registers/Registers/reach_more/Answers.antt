@@ -1,10 +1,10 @@
 use Rattle.std.proofs.Common.{◌≡◌, ◌⊎◌, inl, inr, ◌+◌, ◌∷◌, sym, ◌∙◌, ap, subst, drop, arith}
 use Rattle.std.specs.Prelude.{true, None, slice_index}
-use Rattle.code_rules.specs.Kinds.{has}
-use Rattle.code_rules.specs.Taking.{is_heir, part}
+use Rattle.kind_domain.specs.code_rules.Kinds.{has}
+use Rattle.kind_domain.specs.code_rules.Taking.{is_heir, part}
 use Rattle.register_kinds.specs.Takes.{AreReached, next_at}
-use Rattle.register_kinds.specs.Kept.{kept_at}
-use Rattle.register_kinds.proofs.Places.{drop_index}
+use Rattle.kind_domain.specs.Leading.{kept_at}
+use Rattle.kind_domain.proofs.Places.{drop_index}
 use Rattle.register_kinds.proofs.Reaching.{fewer_by, settled_step, settled_end}
 use Rattle.register_kinds.proofs.registers.Registers.reach_more.Goals as goal
 

@@ -1,9 +1,9 @@
 use Rattle.std.proofs.Common.{◌≡◌, ◌⊎◌, ◌<◌, ◌≤◌, ℕ, drop}
 use Rattle.std.specs.Prelude.{true, false, None}
-use Rattle.code_rules.specs.Kinds.{has}
-use Rattle.code_rules.specs.Taking.{is_heir, part}
+use Rattle.kind_domain.specs.code_rules.Kinds.{has}
+use Rattle.kind_domain.specs.code_rules.Taking.{is_heir, part}
 use Rattle.register_kinds.specs.Takes.{AreReached, next_at, nones}
-use Rattle.register_kinds.specs.Kept.{kept_at}
+use Rattle.kind_domain.specs.Leading.{kept_at}
 use Rattle.register_kinds.proofs.registers.Registers.reach_more.Given as goal
 
 abbrev pub invariant-loop-place : goal.invariant-loop-place

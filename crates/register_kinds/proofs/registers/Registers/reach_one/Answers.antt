@@ -1,7 +1,8 @@
 use Rattle.std.proofs.Common.{◌<◌, sym, ◌∙◌, ap, subst, length, arith}
-use Rattle.code_rules.specs.Taking.{is_heir, part}
+use Rattle.kind_domain.specs.code_rules.Taking.{is_heir, part}
 use Rattle.register_kinds.specs.Takes.{AreReached, nones}
-use Rattle.register_kinds.proofs.Reaching.{reached_more, nones_fewer, next_below, kept_long}
+use Rattle.register_kinds.proofs.Reaching.{reached_more, nones_fewer, next_below}
+use Rattle.kind_domain.proofs.Heirs.{kept_long}
 use Rattle.std.specs.Prelude.{Some}
 use Rattle.register_kinds.proofs.registers.Registers.reach_one.Goals as goal
 

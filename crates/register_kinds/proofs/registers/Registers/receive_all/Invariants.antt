@@ -1,5 +1,5 @@
 use Rattle.std.proofs.Common.{◌≡◌, drop}
-use Rattle.code_rules.specs.Leaves.{received}
+use Rattle.kind_domain.specs.code_rules.Leaves.{received}
 use Rattle.register_kinds.proofs.registers.Registers.receive_all.Given as goal
 
 abbrev pub invariant-loop-destination : goal.invariant-loop-destination

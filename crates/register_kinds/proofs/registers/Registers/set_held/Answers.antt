@@ -1,5 +1,5 @@
 use Rattle.std.proofs.Common.{map, sym, subst}
-use Rattle.code_rules.specs.Codes.{plain_label}
+use Rattle.kind_domain.specs.cell_code.Plain.{plain_label}
 use Rattle.register_kinds.specs.Climbs.{AreKnown}
 use Rattle.register_kinds.proofs.Keeps.{keeps_held}
 use Rattle.register_kinds.proofs.registers.Registers.set_held.Goals as goal

@@ -1,10 +1,10 @@
 use Rattle.std.proofs.Common.{◌≡◌, ◌⊎◌, ℕ, sym, ap, ◌∙◌, subst}
 use Rattle.std.specs.Prelude.{true, Some}
-use Rattle.code_rules.specs.Kinds.{at, from_of, has, is_lent_of}
-use Rattle.code_rules.specs.Taking.{is_heir, part}
-use Rattle.register_kinds.specs.Kept.{kept_at, names}
+use Rattle.kind_domain.specs.code_rules.Kinds.{at, from_of, has, is_lent_of}
+use Rattle.kind_domain.specs.code_rules.Taking.{is_heir, part}
+use Rattle.kind_domain.specs.Leading.{kept_at, names}
 use Rattle.register_kinds.specs.Sorted.{AreGood, IsTakable, Rest}
-use Rattle.register_kinds.proofs.LentLists.{grows_has}
+use Rattle.kind_domain.proofs.LentLists.{grows_has}
 use Rattle.register_kinds.proofs.Sorted.{down_by, good_none, rest_by, rest_more}
 use Rattle.register_kinds.proofs.registers.Registers.sort.Goals as goal
 

@@ -1,6 +1,6 @@
 use Rattle.std.proofs.Common.{ap, sym, ◌∙◌}
-use Rattle.code_rules.specs.Kinds.{is_owned}
-use Rattle.register_kinds.specs.Views.{kind_of}
+use Rattle.kind_domain.specs.code_rules.Kinds.{is_owned}
+use Rattle.kind_domain.specs.Views.{kind_of}
 use Rattle.register_kinds.proofs.Torn.{known_written}
 use Rattle.register_kinds.proofs.registers.Registers.stays_whole.Goals as goal
 

@@ -1,7 +1,7 @@
 use Rattle.std.proofs.Common.{ap, ◌∙◌, sym, subst}
-use Rattle.code_rules.specs.Asked.{known_fields}
-use Rattle.code_rules.specs.Kinds.{at}
-use Rattle.code_rules.specs.Taking.{IsTaken}
+use Rattle.kind_domain.specs.code_rules.Asked.{known_fields}
+use Rattle.kind_domain.specs.code_rules.Kinds.{at}
+use Rattle.kind_domain.specs.code_rules.Taking.{IsTaken}
 use Rattle.register_kinds.specs.Climbs.{AreKnown}
 use Rattle.register_kinds.proofs.Torn.{over_taken}
 use Rattle.register_kinds.proofs.TakenKinds.{taken_is}

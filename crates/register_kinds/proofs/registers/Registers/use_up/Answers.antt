@@ -1,7 +1,7 @@
 use Rattle.std.proofs.Common.{◌∙◌, ap, map, set}
-use Rattle.code_rules.specs.Changes.{forget, goes}
+use Rattle.kind_domain.specs.code_rules.Changes.{forget, goes}
 use Rattle.register_kinds.specs.Steps.{lose}
-use Rattle.cell_code.specs.declared.kind.Kind.TheVariants.{Gone}
+use Rattle.kind_domain.specs.cell_code.declared.kind.Kind.TheVariants.{Gone}
 use Rattle.register_kinds.proofs.Changed.{used_is}
 use Rattle.register_kinds.proofs.Torn.{over_used}
 use Rattle.register_kinds.proofs.registers.Registers.use_up.Goals as goal

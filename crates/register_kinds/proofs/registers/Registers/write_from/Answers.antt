@@ -1,8 +1,8 @@
 use Rattle.std.proofs.Common.{◌∙◌, ap, map, set, sym, subst}
-use Rattle.code_rules.specs.Changes.{written}
+use Rattle.kind_domain.specs.code_rules.Changes.{written}
 use Rattle.register_kinds.specs.Steps.{forgets}
 use Rattle.register_kinds.specs.Climbs.{AreKnown}
-use Rattle.register_kinds.specs.Views.{kind_of}
+use Rattle.kind_domain.specs.Views.{kind_of}
 use Rattle.register_kinds.proofs.Changed.{written_is}
 use Rattle.register_kinds.proofs.registers.Registers.write_from.Goals as goal
 

@@ -1,9 +1,0 @@
-use Rattle.std.proofs.Common.{◌≡◌, ℕ, length}
-use Rattle.register_kinds.specs.Owners.{number_at}
-use Rattle.register_kinds.proofs.kinds.numbers.Given as goal
-
-abbrev pub invariant-loop-number : goal.invariant-loop-number
-invariant-loop-number l = record {
-  long : length l.items.items ≡ l.number;
-  same : (n : ℕ) → number_at l.items.items n ≡ n;
-}

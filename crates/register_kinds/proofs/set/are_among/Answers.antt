@@ -1,5 +1,0 @@
-use Rattle.register_kinds.proofs.Pieces.{rise_drop}
-use Rattle.register_kinds.proofs.set.are_among.Goals as goal
-
-pub after_piece-requires-clause-own_rise : goal.after_piece-requires-clause-own_rise
-after_piece-requires-clause-own_rise c = rise_drop c.loop-start.start 0 c.args.own.now c.requires.own_rise

@@ -1,6 +1,0 @@
-use Rattle.std.proofs.Common.{rules}
-use Rattle.register_kinds.proofs.Sets.{only_none}
-use Rattle.register_kinds.proofs.set.only_of.Goals as goal
-
-pub returns-in_default-clause-other : goal.returns-in_default-clause-other
-returns-in_default-clause-other c = λ e. only_none c.args.count (search rules)

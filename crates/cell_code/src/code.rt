@@ -1,5 +1,6 @@
 // Instructions, functions and codes.
 ghost use Rattle.std.specs.Prelude.{◌≡◌, ℕ, ◌<◌, length, bytes_eq, Some, IfSome, IfNone, slice_get};
+ghost use Rattle.cell_code.specs.CodeKinds as K;
 ghost use Rattle.cell_code.specs.Naming.{IsNamed};
 ghost use Rattle.cell_code.specs.declared.code.Function.{Function as a_function};
 
@@ -98,12 +99,52 @@ pub enum Instr {
     },
 }
 
-/// A function: its kind (fip or fbip), its name (empty where it is no entry), parameters, the sizes of the credits that
+/// The kind of a function that has code.
+#[derive(Clone, Copy, PartialEq, Eq)]
+pub enum CodeKind {
+    Fip,
+    Fbip,
+}
+
+impl CodeKind {
+    /// The kind of the code of a function of the language, where it has code: fip for a fip one, else fbip.
+    pub fn of(kind: FunKind) -> CodeKind
+        ensures is { result ≡ K.code_kind kind }
+    {
+        if kind.is_fip() {
+            CodeKind::Fip
+        } else {
+            CodeKind::Fbip
+        }
+    }
+
+    /// The kind of the language that this kind of code is.
+    pub fn fun_kind(self) -> FunKind
+        ensures is { result ≡ K.fun_kind self }
+    {
+        match self {
+            CodeKind::Fip => FunKind::Fip,
+            CodeKind::Fbip => FunKind::Fbip,
+        }
+    }
+
+    /// Whether functions of this kind make no cell and free none.
+    pub fn is_fip(self) -> bool
+        ensures fip { result ≡ K.is_fip self }
+    {
+        match self {
+            CodeKind::Fip => true,
+            CodeKind::Fbip => false,
+        }
+    }
+}
+
+/// A function: its kind, its name (empty where it is no entry), parameters, the sizes of the credits that
 /// a caller hands over, results' types, the number of its registers (the parameters' and the credits' first), its
 /// instructions, and labels in rising order.
 #[derive(Drop)]
 pub struct Function {
-    pub kind: FunKind,
+    pub kind: CodeKind,
     pub name: Name,
     pub params: Params,
     pub credits: Vec<u8>,

@@ -6,6 +6,6 @@ mod code;
 mod kind;
 mod registers;
 
-pub use code::{Code, Function, Instr, code_registers, named};
+pub use code::{Code, CodeKind, Function, Instr, code_registers, named};
 pub use kind::{Constructors, From, Kind, Label};
 pub use registers::Registers;

@@ -8,7 +8,8 @@ use Rattle.fip_trees.specs.declared.needs.Need.{Need}
 use Rattle.fip_trees.specs.Sizes.{number}
 use Rattle.fip_trees.specs.Tree.{Argument, Pattern, Expression, Match, Block, Clauses, NoClauses, MoreClauses}
 use Rattle.fip_trees.specs.TreeView.{Case}
-use Rattle.lower_frame.specs.code_rules.Codes.{PlainCode, PlainFunction, label_at}
+use Rattle.cell_code.specs.Plain.{PlainFunction, PlainCode}
+use Rattle.lower_frame.specs.code_rules.Codes.{label_at}
 use Rattle.match_knowledge.specs.Known.{Open}
 use Rattle.match_knowledge.specs.Patterns.{IsPattern}
 use Rattle.lower_frame.specs.lowering_relation.declared.held.Held.{Held}

@@ -10,8 +10,9 @@ use Rattle.fip_language.proofs.Plain.{every_so}
 use Rattle.fip_trees.specs.Tree.{Pattern, Expression, Block, Clauses, NoClauses, MoreClauses}
 use Rattle.cell_code.specs.declared.code.Instr.TheVariants as I
 use Rattle.cell_code.specs.declared.kind.Kind.{Kind}
-use Rattle.fip_language.specs.declared.FunKind.TheVariants.{Fun}
-use Rattle.lower_frame.specs.code_rules.Codes.{PlainCode, PlainFunction, LabelMap, label_at}
+use Rattle.cell_code.specs.declared.code.CodeKind.TheVariants.{Fbip}
+use Rattle.cell_code.specs.Plain.{LabelMap, PlainFunction, PlainCode}
+use Rattle.lower_frame.specs.code_rules.Codes.{label_at}
 use Rattle.match_knowledge.specs.Known.{Open}
 use Rattle.lower_frame.specs.lowering_relation.declared.held.Held.{Held}
 use Rattle.lower_frame.specs.lowering_relation.declared.held.Held.TheVariants as H
@@ -503,7 +504,7 @@ module _ (s : Setting) (fip : Bool) (g : Matching) (low n : ℕ) (facts : Facts 
 
       some_function : PlainFunction
       some_function = record {
-        kind = Fun;
+        kind = Fbip;
         name = [];
         params = [];
         credits = [];

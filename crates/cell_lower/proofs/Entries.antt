@@ -7,7 +7,8 @@ use Rattle.std.proofs.lemmas.Option.{slice_get-map}
 use Rattle.fip_language.specs.Table.{Table}
 use Rattle.fip_trees.specs.Tree.{Pattern, BinderPattern, LiteralPattern, ConstructorPattern, Patterns, NoPatterns, MorePatterns}
 use Rattle.cell_code.specs.declared.kind.Kind.{Kind}
-use Rattle.lower_frame.specs.code_rules.Codes.{PlainCode, PlainFunction, label_at}
+use Rattle.cell_code.specs.Plain.{PlainFunction, PlainCode}
+use Rattle.lower_frame.specs.code_rules.Codes.{label_at}
 use Rattle.lower_frame.specs.code_rules.Types.{count, fields}
 use Rattle.match_knowledge.specs.declared.heads.Head.{Head}
 use Rattle.match_knowledge.specs.declared.heads.Head.TheVariants.{Number, Tag}

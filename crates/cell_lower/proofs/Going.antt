@@ -10,7 +10,8 @@ use Rattle.fip_trees.specs.declared.program.Binder.{Binder}
 use Rattle.fip_trees.specs.Tree.{Name, Argument, Arguments, NoArguments, MoreArguments, Expression, Give, Tuple, Operation, Call, Nested, Block, Last, Let, count}
 use Rattle.cell_code.specs.declared.code.Instr.{Instr}
 use Rattle.cell_code.specs.declared.kind.Kind.{Kind}
-use Rattle.lower_frame.specs.code_rules.Codes.{PlainCode, PlainFunction, LabelMap, label_at}
+use Rattle.cell_code.specs.Plain.{LabelMap, PlainFunction, PlainCode}
+use Rattle.lower_frame.specs.code_rules.Codes.{label_at}
 use Rattle.lower_frame.specs.code_rules.Fitting.{fits}
 use Rattle.lower_frame.specs.code_rules.Kinds.{at as kind_at}
 use Rattle.lower_frame.specs.lowering_relation.declared.held.Held.{Held}

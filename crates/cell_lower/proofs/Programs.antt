@@ -8,7 +8,7 @@ use Rattle.fip_trees.specs.Tree.{Instance, Program}
 use Rattle.fip_trees.specs.TreeView.{instance_of, instances}
 use Rattle.cell_code.specs.declared.code.Function.{Function}
 use Rattle.cell_code.specs.declared.code.Instr.{Instr}
-use Rattle.lower_frame.specs.machine_semantics.Codes.{plain_function}
+use Rattle.cell_code.specs.Plain.{plain_function, instrs_of}
 use Rattle.lower_frame.specs.lowering_relation.Known.{Known, joined}
 use Rattle.lower_frame.specs.lowering_relation.Values.{Setting}
 use Rattle.lower_frame.specs.lowering_relation.LoweredBodies.{Return, has_function, one_more, if_function, function_of}
@@ -20,7 +20,7 @@ use Rattle.fip_trees.specs.declared.groups.Member.{Member}
 use Rattle.cell_lower.specs.Limits.{is_ruled, registers}
 use Rattle.cell_lower.specs.Shape.{Header, header_of, headers_from}
 use Rattle.cell_lower.proofs.Headers.{and_if-append}
-use Rattle.cell_lower.specs.Lowered.{instrs_of, function_instrs, IsCodeOf, HaveCodes, AddsCode}
+use Rattle.cell_lower.specs.Lowered.{function_instrs, IsCodeOf, HaveCodes, AddsCode}
 use Rattle.cell_lower.specs.Writing.{WritesBlock}
 use Rattle.fip_language.proofs.Facts.{append_nil as append_none, same_some}
 pub use Rattle.fip_language.proofs.Plain.{every_at as at_place}

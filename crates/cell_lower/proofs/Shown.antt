@@ -5,7 +5,8 @@ use Rattle.std.proofs.lemmas.Bool.{cases_eq, eqb-true}
 use Rattle.fip_language.specs.Table.{Table}
 use Rattle.cell_code.specs.declared.kind.Kind.{Kind}
 use Rattle.cell_code.specs.declared.kind.Kind.TheVariants as K
-use Rattle.lower_frame.specs.code_rules.Codes.{PlainCode, PlainFunction, LabelMap, label_at}
+use Rattle.cell_code.specs.Plain.{LabelMap, PlainFunction, PlainCode}
+use Rattle.lower_frame.specs.code_rules.Codes.{label_at}
 use Rattle.lower_frame.specs.code_rules.Fitting.{fits, is_subset}
 use Rattle.lower_frame.specs.code_rules.Kinds.{at, has}
 use Rattle.lower_frame.specs.code_rules.Types.{all, count}

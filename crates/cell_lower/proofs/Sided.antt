@@ -9,7 +9,8 @@ use Rattle.fip_language.proofs.Plain.{every_append, every_so, every_split}
 use Rattle.fip_language.proofs.Search.{le_or_less}
 use Rattle.cell_code.specs.declared.code.Instr.TheVariants as I
 use Rattle.cell_code.specs.declared.kind.Kind.{Kind}
-use Rattle.lower_frame.specs.code_rules.Codes.{LabelMap, PlainCode, PlainFunction, label_at}
+use Rattle.cell_code.specs.Plain.{LabelMap, PlainFunction, PlainCode}
+use Rattle.lower_frame.specs.code_rules.Codes.{label_at}
 use Rattle.lower_frame.specs.code_rules.Kinds.{at}
 use Rattle.match_knowledge.specs.declared.verdicts.Verdict.TheVariants as D
 use Rattle.match_knowledge.specs.Patterns as M

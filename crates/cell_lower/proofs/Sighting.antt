@@ -7,7 +7,7 @@ use Rattle.fip_language.specs.Table.{Table}
 use Rattle.cell_code.specs.declared.kind.From.{From}
 use Rattle.cell_code.specs.declared.kind.Kind.{Kind}
 use Rattle.cell_code.specs.declared.kind.Kind.TheVariants as K
-use Rattle.lower_frame.specs.code_rules.Codes.{PlainCode, PlainFunction}
+use Rattle.cell_code.specs.Plain.{PlainFunction, PlainCode}
 use Rattle.lower_frame.specs.code_rules.Fitting.{fits, is_subset, takes_from}
 use Rattle.lower_frame.specs.code_rules.Kinds.{at, has, same_root}
 use Rattle.lower_frame.specs.code_rules.Types.{all, count, fields, is_scalar_type, numbers}

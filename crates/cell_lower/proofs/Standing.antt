@@ -4,6 +4,7 @@ use Rattle.std.proofs.lemmas.Option.{none-some, same_Some, slice_get-map}
 use Rattle.std.specs.Prelude.{drop, option_map}
 use Rattle.fip_language.specs.declared.FunKind.{FunKind}
 use Rattle.fip_language.specs.declared.FunKind.TheVariants.{Fip, Fbip, Fun}
+use Rattle.fip_language.specs.Kinds.{is_fip}
 use Rattle.fip_language.proofs.Words.{map_at}
 use Rattle.fip_trees.specs.declared.groups.Member.{Member}
 use Rattle.fip_trees.specs.declared.needs.Need.{Need}
@@ -11,7 +12,10 @@ use Rattle.fip_trees.specs.NeedsView.{needs_of}
 use Rattle.fip_trees.specs.Tree.{Instance, Program}
 use Rattle.cell_code.specs.declared.code.Code.{Code}
 use Rattle.cell_code.specs.declared.code.Function.{Function}
-use Rattle.lower_frame.specs.code_rules.Codes.{PlainCode, PlainFunction, label_at, is_fip, plain, plain_label, plain_function, function_at}
+use Rattle.cell_code.specs.Plain.{PlainFunction, PlainCode, plain_label, plain_function, plain, function_at}
+use Rattle.cell_code.proofs.CodeKinds.{code_is_fip}
+use Rattle.cell_code.specs.CodeKinds as CodeKinds
+use Rattle.lower_frame.specs.code_rules.Codes.{label_at}
 use Rattle.lower_frame.specs.lowering_relation.Known.{Known}
 use Rattle.lower_frame.specs.lowering_relation.Values.{Setting}
 use Rattle.lower_frame.specs.lowering_relation.LoweredBodies.{Return, has_function}
@@ -206,8 +210,8 @@ module _ (p : Program) (s : Setting) (ms : List Member) (nss : List (List Need))
       there = x.of'.there;
       function = so.functions g ∙ x.of'.function;
       kind = sym (ap (λ (f : PlainFunction). f.kind) x.same) ∙ ap (λ (h : Header). h.signature.kind) x.of'.is;
-      laid = subst (λ (f : PlainFunction). FunctionLaid (plain c) s (is_fip f.kind) f d) x.same
-          (subst (λ k. FunctionLaid (plain c) s (is_fip k) (plain_function x.held) d) (sym (ap (λ (h : Header). h.signature.kind) x.of'.is)) (laid_here.by scalars_right well_here asked_here (plain c) same_types));
+      laid = subst (λ (f : PlainFunction). FunctionLaid (plain c) s (CodeKinds.is_fip f.kind) f d) x.same
+          (subst (λ b. FunctionLaid (plain c) s b (plain_function x.held) d) (sym (ap (λ (h : Header). CodeKinds.is_fip h.signature.kind) x.of'.is ∙ code_is_fip d.kind)) (laid_here.by scalars_right well_here asked_here (plain c) same_types));
     }
 
     does_stand : MapsStand f

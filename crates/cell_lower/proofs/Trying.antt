@@ -8,7 +8,7 @@ use Rattle.fip_trees.specs.Tree.{Pattern, BinderPattern, LiteralPattern, Constru
 use Rattle.cell_code.specs.declared.code.Instr.{Instr}
 use Rattle.cell_code.specs.declared.code.Instr.TheVariants as I
 use Rattle.cell_code.specs.declared.kind.Kind.{Kind}
-use Rattle.lower_frame.specs.code_rules.Codes.{PlainCode, PlainFunction}
+use Rattle.cell_code.specs.Plain.{PlainFunction, PlainCode}
 use Rattle.match_knowledge.specs.declared.heads.Head.{Head}
 use Rattle.match_knowledge.specs.declared.heads.Head.TheVariants.{Number, Tag}
 use Rattle.match_knowledge.specs.declared.verdicts.Verdict.{Verdict}

@@ -12,7 +12,8 @@ use Rattle.fip_trees.specs.Tree.{Argument, Variable, Literal, Constructor, Argum
 use Rattle.fip_trees.specs.Tree.{Expression, Give, Tuple, Operation, Call, Match, Nested, Block, Last, Let}
 use Rattle.fip_trees.specs.Tree.{Clauses, NoClauses, MoreClauses}
 use Rattle.cell_code.specs.declared.kind.Kind.{Kind}
-use Rattle.lower_frame.specs.code_rules.Codes.{PlainCode, PlainFunction, label_at}
+use Rattle.cell_code.specs.Plain.{PlainFunction, PlainCode}
+use Rattle.lower_frame.specs.code_rules.Codes.{label_at}
 use Rattle.lower_frame.specs.code_rules.Types as Y
 use Rattle.lower_frame.specs.code_rules.Types.{fields, is_scalar_type}
 use Rattle.lower_frame.specs.lowering_relation.declared.held.Held.{Held}

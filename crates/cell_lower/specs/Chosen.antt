@@ -4,7 +4,8 @@
 use Rattle.std.specs.Prelude.{◌≡◌, ◌≤◌, ◌<◌, ℕ, suc, Bool, true, List, [], ◌∷◌, Some, length, slice_get, is_some}
 use Rattle.fip_language.specs.Every.{Among, Every}
 use Rattle.cell_code.specs.declared.kind.Kind.{Kind}
-use Rattle.lower_frame.specs.code_rules.Codes.{PlainCode, PlainFunction, label_at}
+use Rattle.cell_code.specs.Plain.{PlainFunction, PlainCode}
+use Rattle.lower_frame.specs.code_rules.Codes.{label_at}
 use Rattle.lower_frame.specs.code_rules.Kinds.{at}
 use Rattle.lower_frame.specs.code_rules.Fitting.{fits}
 use Rattle.lower_frame.specs.code_rules.Types.{fields, is_scalar_type}

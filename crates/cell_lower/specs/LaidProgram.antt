@@ -3,12 +3,13 @@
 -- few fields; each instance has a binder for each parameter and header credits of sizes that constructors have, its
 -- constructors are of their types, and what its expressions need is what is reported of them.
 use Rattle.std.specs.Prelude.{◌≡◌, ◌≤◌, ℕ, true, List, length, drop, Some, slice_get}
+use Rattle.fip_language.specs.Kinds.{is_fip}
 use Rattle.fip_language.specs.declared.limits.TheConstants.{MOST_FIELDS}
 use Rattle.fip_trees.specs.declared.needs.Need.{Need}
 use Rattle.fip_trees.specs.NeedsView.{needs_of}
 use Rattle.fip_trees.specs.Tree.{Instance, Program}
 use Rattle.cell_code.specs.declared.code.Function.{Function}
-use Rattle.lower_frame.specs.code_rules.Codes.{PlainCode, PlainFunction, function_at, is_fip, plain_function}
+use Rattle.cell_code.specs.Plain.{PlainFunction, PlainCode, plain_function, function_at}
 use Rattle.lower_frame.specs.lowering_relation.Known.{Known}
 use Rattle.lower_frame.specs.lowering_relation.Values.{Setting}
 use Rattle.lower_frame.specs.lowering_relation.LoweredBodies.{has_function}

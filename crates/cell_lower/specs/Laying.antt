@@ -7,7 +7,8 @@ use Rattle.fip_language.specs.declared.Place.{Place}
 use Rattle.fip_language.specs.Table.{Table}
 use Rattle.fip_trees.specs.Tree.{Argument, Arguments}
 use Rattle.cell_code.specs.declared.kind.Kind.{Kind}
-use Rattle.lower_frame.specs.code_rules.Codes.{PlainCode, PlainFunction, label_at}
+use Rattle.cell_code.specs.Plain.{PlainFunction, PlainCode}
+use Rattle.lower_frame.specs.code_rules.Codes.{label_at}
 use Rattle.lower_frame.specs.lowering_relation.declared.held.Held.{Held}
 use Rattle.lower_frame.specs.lowering_relation.declared.held.Held.TheVariants as H
 use Rattle.lower_frame.specs.lowering_relation.Known.{Known, using}

@@ -12,7 +12,7 @@ use Rattle.fip_language.specs.declared.limits.TheConstants.{MOST_FIELDS}
 use Rattle.fip_trees.specs.Sizes.{no_sizes, number}
 use Rattle.fip_trees.specs.Tree.{Expression}
 use Rattle.fip_trees.specs.declared.needs.Need.{Need}
-use Rattle.lower_frame.specs.code_rules.Codes.{PlainCode, PlainFunction}
+use Rattle.cell_code.specs.Plain.{PlainFunction, PlainCode}
 use Rattle.lower_frame.specs.lowering_relation.declared.held.Held.TheVariants as H
 use Rattle.lower_frame.specs.lowering_relation.Known.{Known, is_owned}
 use Rattle.lower_frame.specs.lowering_relation.Values.{Setting}

@@ -1,21 +1,12 @@
--- The instructions of a code, a list for each of its functions. The other definitions serve the proofs on lowered code:
--- the code of one instance, and of several.
-use Rattle.std.specs.Prelude.{◌≡◌, ◌+◌, ℕ, Bool, true, false, List, [], ◌∷◌, ◌++◌, map, Some, slice_get}
+-- It serves the proofs on lowered code: the instructions of a function, the code of one instance, and of several.
+use Rattle.std.specs.Prelude.{◌≡◌, ◌+◌, ℕ, Bool, true, false, List, [], ◌∷◌, ◌++◌, Some, slice_get}
 use Rattle.fip_trees.specs.Tree.{Instance}
-use Rattle.cell_code.specs.declared.code.Code.{Code}
 use Rattle.cell_code.specs.declared.code.Function.{Function}
 use Rattle.cell_code.specs.declared.code.Instr.{Instr}
-use Rattle.lower_frame.specs.machine_semantics.Codes.{PlainFunction, plain}
 use Rattle.lower_frame.specs.lowering_relation.Values.{Setting}
 use Rattle.lower_frame.specs.lowering_relation.LoweredBodies.{function_of}
 use Rattle.lower_frame.specs.lowering_relation.LoweredFunctions.{IsFunction}
 use Rattle.lower_frame.specs.lowering_relation.WellMatched.{WellMatchedBlock}
-
-abbrev pub instrs_of : PlainFunction → List Instr
-instrs_of f = f.instrs
-
-abbrev pub all_instrs : Code → List (List Instr)
-all_instrs c = map instrs_of (plain c).functions
 
 abbrev pub function_instrs : Function → List Instr
 function_instrs f = f.instrs.items

@@ -5,16 +5,18 @@
 -- Where instance 0 is fip, 1 plain and 2 fbip, the code has two functions: 0 is that of instance 0 and 1 that of
 -- instance 2.
 use Rattle.std.specs.Prelude.{ℕ, suc, Bool, true, false, List, [], ◌∷◌, if◌then◌else◌}
-use Rattle.fip_language.specs.declared.FunKind.{FunKind}
 use Rattle.fip_base.specs.declared.plain.Param.{Param}
 use Rattle.fip_trees.specs.declared.groups.Member.{Member}
 use Rattle.fip_trees.specs.Tree.{Name, Instance}
+use Rattle.cell_code.specs.CodeKinds.{code_kind}
+use Rattle.cell_code.specs.declared.code.CodeKind.{CodeKind}
 use Rattle.cell_code.specs.declared.code.Function.{Function}
+use Rattle.cell_code.specs.Plain.{PlainFunction}
 use Rattle.cell_lower.specs.Limits.{is_ruled, registers}
 
 -- what a caller knows of a function
 pub record Signature : Type 0 where
-  pub kind : FunKind
+  pub kind : CodeKind
   pub params : List Param
   pub credits : List ℕ
   pub results : List ℕ
@@ -32,6 +34,13 @@ header f = record {
   registers = f.registers;
 }
 
+abbrev pub plain_header : PlainFunction → Header
+plain_header f = record {
+  signature = record { kind = f.kind; params = f.params; credits = f.credits; results = f.results };
+  name = f.name;
+  registers = f.registers;
+}
+
 -- the empty name is that of no entry
 abbrev pub entry_name : Instance → Name
 entry_name d = if d.root then d.name else []
@@ -39,7 +48,7 @@ entry_name d = if d.root then d.name else []
 -- the header of the function of an instance with n registers
 abbrev pub header_of : ℕ → Instance → Header
 header_of n d = record {
-  signature = record { kind = d.kind; params = d.params; credits = d.credits; results = d.results };
+  signature = record { kind = code_kind d.kind; params = d.params; credits = d.credits; results = d.results };
   name = entry_name d;
   registers = n;
 }

@@ -12,17 +12,17 @@ ghost use Rattle.lower_frame.specs.lowering_relation.LoweredBodies.{function_of}
 ghost use Rattle.lower_frame.specs.lowering_relation.LoweredFunctions.{AreLowered};
 ghost use Rattle.lower_frame.specs.lowering_relation.Known.{joined};
 ghost use Rattle.lower_frame.specs.lowering_relation.WellMatched.{IsWellMatched};
-ghost use Rattle.cell_lower.specs.Lowered.{AddsCode, HaveCodes, IsCodeOf, all_instrs, function_instrs};
+ghost use Rattle.cell_lower.specs.Lowered.{AddsCode, HaveCodes, IsCodeOf, function_instrs};
 ghost use Rattle.cell_lower.specs.Sizes.{AreSmall};
 ghost use Rattle.cell_lower.specs.Small.{AddsSmall, HaveSmall, IsSmallOf};
 ghost use Rattle.cell_lower.specs.Writing.{setting};
-ghost use Rattle.lower_frame.specs.code_rules.Codes.{plain};
+ghost use Rattle.cell_code.specs.Plain.{plain, all_instrs};
 ghost use Rattle.lower_frame.specs.Spelled.{AreSpelt, IsFunctionSpelt};
 
 use crate::copies::table_of;
 use crate::limits::note_limits;
 use crate::lowerer::{Context, Lowerer, Target};
-use cell_code::{Code, Function};
+use cell_code::{Code, CodeKind, Function};
 use fip_base::plain::{Name, NoMemory};
 use fip_base::refusal::PhaseError;
 use fip_trees::groups::Groups;
@@ -52,7 +52,7 @@ pub fn lower(
     ensures functions { IfOk result (λ c.
         map header c.functions.items ≡ headers groups.now (V.program typed.now.program).instances) }
     ensures lowered { IfOk result (λ c. IsWellMatched (V.program typed.now.program) →
-        AreLowered (V.program typed.now.program) (all_instrs c)) }
+        AreLowered (V.program typed.now.program) (all_instrs (plain c))) }
     ensures bounded { IfOk result (λ c. IsWellMatched (V.program typed.now.program) →
         AreSmall (V.program typed.now.program) groups.now c.functions.items) }
     ensures spelt { IfOk result (λ c. AreSpelt c.functions.items) }
@@ -89,7 +89,7 @@ fn code_of(
     ensures functions { IfOk result (λ c.
         map header c.functions.items ≡ headers groups.now (V.program program.now).instances) }
     ensures lowered { IfOk result (λ c. IsWellMatched (V.program program.now) →
-        AreLowered (V.program program.now) (all_instrs c)) }
+        AreLowered (V.program program.now) (all_instrs (plain c))) }
     ensures bounded { IfOk result (λ c. IsWellMatched (V.program program.now) →
         AreSmall (V.program program.now) groups.now c.functions.items) }
     ensures spelt { IfOk result (λ c. AreSpelt c.functions.items) }
@@ -203,7 +203,7 @@ fn function_of(
     let mut credits = Vec::new(alloc);
     credits.extend_from_slice(instance.credits.as_slice())?;
     Ok(Function {
-        kind: instance.kind,
+        kind: CodeKind::of(instance.kind),
         name: name_of(alloc, instance)?,
         params: instance.params.copy(alloc)?,
         credits,

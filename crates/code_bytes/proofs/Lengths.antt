@@ -4,8 +4,8 @@ use Rattle.std.proofs.Common.{◌≡◌, ◌∙◌, ◌<◌, ◌≤◌, ◌+◌,
 use Rattle.std.proofs.lemmas.Option.{none-some, same_Some}
 use Rattle.std.proofs.lemmas.List.{length-append}
 use Rattle.std.specs.Int.{w16, w32, w64, to_be_bytes}
-use Rattle.fip_language.specs.declared.FunKind.{FunKind}
-use Rattle.fip_language.specs.declared.FunKind.TheVariants.{Fip, Fbip, Fun}
+use Rattle.cell_code.specs.declared.code.CodeKind.{CodeKind}
+use Rattle.cell_code.specs.declared.code.CodeKind.TheVariants.{Fip, Fbip}
 use Rattle.fip_language.specs.declared.Operator.{Operator}
 use Rattle.fip_language.specs.Table.{Shape, Table, shapes, constructors}
 use Rattle.fip_base.specs.declared.plain.Param.{Param}
@@ -14,12 +14,11 @@ use Rattle.cell_code.specs.declared.code.Instr.TheVariants as I
 use Rattle.cell_code.specs.declared.kind.From.{From}
 use Rattle.cell_code.specs.declared.kind.Kind.{Kind}
 use Rattle.cell_code.specs.declared.kind.Kind.TheVariants as K
-use Rattle.code_file.specs.CodeText.{list_text, arguments_text, types_text, shape_text, type_text, table_text, register_text, from_text, set_text, kind_text, label_text, operator_number, instr_text, fun_kind_text, lent_text, param_text, params_text, credit_count_text, size_text, credits_text, instrs_text, labels_text, function_text, functions_text, code_text, version_number}
-use Rattle.code_file.specs.Plain.{PlainLabel, PlainFunction, PlainCode}
+use Rattle.code_file.specs.CodeText.{list_text, arguments_text, types_text, shape_text, type_text, table_text, register_text, from_text, set_text, kind_text, label_text, operator_number, instr_text, code_kind_text, lent_text, param_text, params_text, credit_count_text, size_text, credits_text, instrs_text, labels_text, function_text, functions_text, code_text, version_number}
+use Rattle.cell_code.specs.Plain.{LabelMap, PlainFunction, PlainCode}
 use Rattle.code_file.specs.Spelling.{◌+++◌, each, only, mark, one, two, four, eight, name_text, upper_name_text, function_name_text}
 use Rattle.code_file.specs.declared.tags.Version.TheVariants.{Second}
 use Rattle.separation_kinds.proofs.Basics.{both, below, below_is, equal, refuted, less_or_not}
-use Rattle.code_rules.specs.Codes as S
 use Rattle.code_rules.specs.Headers.{are_rising, is_set, is_good_root, is_good_from, is_good_kind, are_good_kinds, are_good_maps}
 use Rattle.code_rules.specs.Types.{count}
 use Rattle.code_bytes.specs.Operands.{operands, HaveFew}
@@ -244,7 +243,7 @@ kind_short n (K.Credit k) h = shorter (mark 4 +++ one k) 2 (10 + 4 * n) (omega a
 abbrev pub AllHaveFew : ℕ → List Kind → Type 0
 AllHaveFew n ks = (i : ℕ) (k : Kind) → slice_get ks i ≡ Some k → HasFew n k
 
-label_short : (registers n : ℕ) (l : PlainLabel) → AllHaveFew n l.kinds → IsShort (label_text registers l) (label_bytes n registers)
+label_short : (registers n : ℕ) (l : LabelMap) → AllHaveFew n l.kinds → IsShort (label_text registers l) (label_bytes n registers)
 unfolding label_text
 label_short registers n l h = where_true (length l.kinds == registers) (four l.at +++ each kind_text l.kinds) (label_bytes n registers) (λ e.
     let same = ap (λ m. m * (10 + 4 * n)) (equal (length l.kinds) registers e) in
@@ -252,10 +251,10 @@ label_short registers n l h = where_true (length l.kinds == registers) (four l.a
     (together (four l.at) (each kind_text l.kinds) 4 (length l.kinds * (10 + 4 * n)) (four_short l.at)
     (all_short kind_text (10 + 4 * n) l.kinds (λ i k at. kind_short n k (h i k at)))))
 
-abbrev pub LabelsFew : ℕ → List PlainLabel → Type 0
-LabelsFew n ls = (i : ℕ) (l : PlainLabel) → slice_get ls i ≡ Some l → AllHaveFew n l.kinds
+abbrev pub LabelsFew : ℕ → List LabelMap → Type 0
+LabelsFew n ls = (i : ℕ) (l : LabelMap) → slice_get ls i ≡ Some l → AllHaveFew n l.kinds
 
-labels_short : (registers n few : ℕ) (ls : List PlainLabel) → LabelsFew n ls → length ls ≤ few → IsShort (labels_text registers ls) (4 + few * label_bytes n registers)
+labels_short : (registers n few : ℕ) (ls : List LabelMap) → LabelsFew n ls → length ls ≤ few → IsShort (labels_text registers ls) (4 + few * label_bytes n registers)
 unfolding labels_text
 labels_short registers n few ls h le =
     let grows = times_le (length ls) few (label_bytes n registers) le in
@@ -265,10 +264,9 @@ labels_short registers n few ls h le =
 
 -- ---- functions
 
-kind_mark_short : (k : FunKind) → IsShort (fun_kind_text k) 1
+kind_mark_short : (k : CodeKind) → IsShort (code_kind_text k) 1
 kind_mark_short Fip = mark_short 0
 kind_mark_short Fbip = mark_short 1
-kind_mark_short Fun = λ s e. absurd (none-some s e)
 
 lent_short : (b : Bool) → IsShort (lent_text b) 1
 lent_short false = mark_short 0
@@ -303,8 +301,8 @@ function_short f instrs most labels n few in_room small fit =
     let k : Option (List ℕ) = credits_text Second f.credits +++ c in
     let p : Option (List ℕ) = params_text f.params +++ k in
     let m : Option (List ℕ) = function_name_text f.name +++ p in
-    shorter (fun_kind_text f.kind +++ m) (1 + ((4 + length f.name) + ((2 + 3 * length f.params) + ((1 + length f.credits) + ((1 + 2 * length f.results) + (2 + (a + b))))))) (bytes_for f instrs most labels n) (omega arith)
-    (with (fun_kind_text f.kind) m 1 ((4 + length f.name) + ((2 + 3 * length f.params) + ((1 + length f.credits) + ((1 + 2 * length f.results) + (2 + (a + b)))))) (kind_mark_short f.kind)
+    shorter (code_kind_text f.kind +++ m) (1 + ((4 + length f.name) + ((2 + 3 * length f.params) + ((1 + length f.credits) + ((1 + 2 * length f.results) + (2 + (a + b))))))) (bytes_for f instrs most labels n) (omega arith)
+    (with (code_kind_text f.kind) m 1 ((4 + length f.name) + ((2 + 3 * length f.params) + ((1 + length f.credits) + ((1 + 2 * length f.results) + (2 + (a + b)))))) (kind_mark_short f.kind)
     (with (function_name_text f.name) p (4 + length f.name) ((2 + 3 * length f.params) + ((1 + length f.credits) + ((1 + 2 * length f.results) + (2 + (a + b))))) (function_name_short f.name)
     (with (params_text f.params) k (2 + 3 * length f.params) ((1 + length f.credits) + ((1 + 2 * length f.results) + (2 + (a + b)))) (params_short f.params)
     (with (credits_text Second f.credits) c (1 + length f.credits) ((1 + 2 * length f.results) + (2 + (a + b))) (credits_short f.credits)
@@ -371,14 +369,14 @@ kinds_few tb ms j (x ∷ ks) e zero k at = subst (HasFew (most_constructors tb))
 kinds_few tb ms j (x ∷ ks) e (suc i) k at = kinds_few tb ms (suc j) ks (both (is_good_kind tb ms j x) (are_good_kinds tb ms (suc j) ks) e).1 i k at
 
 -- a map that is formed, and those after it
-map_parts : (tb : Table) (f : S.PlainFunction) (low : ℕ) (m : S.LabelMap) (ms : List S.LabelMap) → are_good_maps tb f low (m ∷ ms) ≡ true → (are_good_kinds tb m.kinds 0 m.kinds ≡ true) × (are_good_maps tb f m.at ms ≡ true)
+map_parts : (tb : Table) (f : PlainFunction) (low : ℕ) (m : LabelMap) (ms : List LabelMap) → are_good_maps tb f low (m ∷ ms) ≡ true → (are_good_kinds tb m.kinds 0 m.kinds ≡ true) × (are_good_maps tb f m.at ms ≡ true)
 map_parts tb f low m ms e =
     let a = both (nat_lt low m.at) (nat_lt m.at (length f.instrs) && ((length m.kinds == f.registers) && (are_good_kinds tb m.kinds 0 m.kinds && are_good_maps tb f m.at ms))) e in
     let b = both (nat_lt m.at (length f.instrs)) ((length m.kinds == f.registers) && (are_good_kinds tb m.kinds 0 m.kinds && are_good_maps tb f m.at ms)) a.1 in
     let d = both (length m.kinds == f.registers) (are_good_kinds tb m.kinds 0 m.kinds && are_good_maps tb f m.at ms) b.1 in
     both (are_good_kinds tb m.kinds 0 m.kinds) (are_good_maps tb f m.at ms) d.1
 
-pub maps_few : (tb : Table) (f : S.PlainFunction) (low : ℕ) (ls : List S.LabelMap) → are_good_maps tb f low ls ≡ true → (i : ℕ) (l : S.LabelMap) → slice_get ls i ≡ Some l → AllHaveFew (most_constructors tb) l.kinds
+pub maps_few : (tb : Table) (f : PlainFunction) (low : ℕ) (ls : List LabelMap) → are_good_maps tb f low ls ≡ true → (i : ℕ) (l : LabelMap) → slice_get ls i ≡ Some l → AllHaveFew (most_constructors tb) l.kinds
 maps_few tb f low [] e i l at = absurd (none-some l at)
-maps_few tb f low (m ∷ ms) e zero l at = subst (λ (x : S.LabelMap). AllHaveFew (most_constructors tb) x.kinds) (same_Some m l at) (kinds_few tb m.kinds 0 m.kinds (map_parts tb f low m ms e).0)
+maps_few tb f low (m ∷ ms) e zero l at = subst (λ (x : LabelMap). AllHaveFew (most_constructors tb) x.kinds) (same_Some m l at) (kinds_few tb m.kinds 0 m.kinds (map_parts tb f low m ms e).0)
 maps_few tb f low (m ∷ ms) e (suc i) l at = maps_few tb f m.at ms (map_parts tb f low m ms e).1 i l at

@@ -2,7 +2,8 @@
 use Rattle.std.proofs.Common.{◌≡◌, ◌∙◌, ◌≤◌, ℕ, zero, suc, max, List, [], ◌∷◌, length, Some, slice_get, sym, ap, subst, arith}
 use Rattle.std.proofs.lemmas.Option.{none-some, same_Some}
 use Rattle.fip_trees.specs.Tree.{Instance, Program}
-use Rattle.code_rules.specs.Codes.{PlainCode, PlainFunction, function_at, is_fip}
+use Rattle.cell_code.specs.Plain.{PlainFunction, PlainCode, function_at}
+use Rattle.code_rules.specs.Codes.{is_fip}
 use Rattle.lowering_relation.specs.LoweredBodies.{function_of}
 use Rattle.lowering_relation.specs.Values.{Setting}
 use Rattle.lowering_soundness.proofs.Grouped.{function_once}

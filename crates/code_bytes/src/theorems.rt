@@ -7,7 +7,7 @@ ghost use Rattle.instance_semantics.specs.Example.{lists, rev};
 ghost use Rattle.lowering_relation.specs.LaidFunctions.{AreLaid};
 ghost use Rattle.lowering_relation.specs.LoweredBodies.{function_of};
 ghost use Rattle.lowering_relation.specs.Values.{Setting};
-ghost use Rattle.code_rules.specs.Codes.{PlainCode, PlainFunction, function_at};
+ghost use Rattle.cell_code.specs.Plain.{PlainFunction, PlainCode, function_at};
 
 /// No instruction of a function, reached or not, lists more registers than its instance's width allows, where its code
 /// is laid out as the instances of a program ask. For who bounds a code file.

@@ -6,7 +6,7 @@ use Rattle.std.proofs.lemmas.Bool.{eq-eqb, ltb-true}
 use Rattle.std.proofs.lemmas.Int.{of_z-to_z}
 use Rattle.fip_language.specs.Character.{is_upper}
 use Rattle.fip_language.specs.Table.{Shape, Table}
-use Rattle.fip_language.specs.declared.FunKind.{FunKind}
+use Rattle.cell_code.specs.declared.code.CodeKind.{CodeKind}
 use Rattle.fip_language.specs.declared.Operator.{Operator}
 use Rattle.fip_base.specs.declared.plain.Param.{Param}
 use Rattle.cell_code.specs.declared.kind.From.{From}
@@ -16,11 +16,11 @@ use Rattle.cell_code.specs.declared.code.Instr.{Instr}
 use Rattle.cell_code.specs.declared.code.Instr.TheVariants as I
 use Rattle.code_file.specs.declared.tags.Version.{Version}
 use Rattle.code_file.specs.declared.tags.Version.TheVariants.{First, Second}
-use Rattle.code_file.specs.Plain.{PlainLabel, PlainFunction, PlainCode}
+use Rattle.cell_code.specs.Plain.{LabelMap, PlainFunction, PlainCode}
 use Rattle.code_file.specs.Reading.{Reader, Give, ◌>>=◌, Answer, Got, Stop, read, with_front, is_byte, byte, any, two_reader, four_reader, eight_reader, times, list_reader, arguments_reader, set_reader, length_reader, is_name_byte, upper_name_reader, name_on, function_name_reader}
 use Rattle.code_file.specs.Reading.{shape_reader, type_reader, table_reader, register_reader, from_body, from_reader, owned_reader, lent_reader, scalar_reader, credit_reader, kind_body, kind_reader, label_reader, operator_at, operator_reader}
 use Rattle.code_file.specs.Reading.{const_reader, atom_reader, move_reader, arith_reader, test_reader, test_int_reader, peek_reader, take_reader, put_reader, drop_reader, free_reader, call_reader, tail_reader, ret_reader, jump_reader, instr_body, instr_reader}
-use Rattle.code_file.specs.Reading.{fun_kind_reader, param_reader, params_reader, size_reader, credits_reader, instrs_reader, labels_reader, function_reader, functions_reader, exactly, magic_reader, code_reader}
+use Rattle.code_file.specs.Reading.{code_kind_reader, param_reader, params_reader, size_reader, credits_reader, instrs_reader, labels_reader, function_reader, functions_reader, exactly, magic_reader, code_reader}
 use Rattle.code_file.proofs.Readers.{read_bind, bind_got, bind_stop}
 use Rattle.code_file.proofs.Parts.{part1, part2, part3, part4, part5, part6, part7, part8}
 use Rattle.code_file.proofs.Steps.{differs, kind_last, instr_last}
@@ -636,7 +636,7 @@ unfolding size_reader
 size_is bs = refl
 
 -- a label
-abbrev label_of : ℕ → List Kind → PlainLabel
+abbrev label_of : ℕ → List Kind → LabelMap
 label_of at kinds = record { at = at; kinds = kinds }
 
 pub label_got : (registers : ℕ) (b0 b1 b2 : List ℕ) (at : ℕ) (kinds : List Kind) → read four_reader b0 ≡ Got at b1 → read (times registers kind_reader) b1 ≡ Got kinds b2 → read (label_reader registers) b0 ≡ Got (label_of at kinds) b2
@@ -798,10 +798,10 @@ pub magic_second : (b0 b1 b2 b3 b4 b5 b6 : List ℕ) (x1 x2 x3 x4 x5 x6 : ℕ) �
 magic_second b0 b1 b2 b3 b4 b5 b6 x1 x2 x3 x4 x5 x6 h0 h1 h2 h3 h4 h5 e = magic_got b0 b1 b2 b3 b4 b5 b6 x1 x2 x3 x4 x5 x6 h0 h1 h2 h3 h4 h5 ∙ ap (λ t. Got (if t then First else Second) b6) (differs x6 1 e)
 
 -- a function
-pub function_got : (v : Version) (b0 b1 b2 b3 b4 b5 b6 b7 b8 : List ℕ) (kind : FunKind) (name : List ℕ) (params : List Param) (credits : List ℕ) (results : List ℕ) (registers : ℕ) (instrs : List Instr) (labels : List PlainLabel) → read fun_kind_reader b0 ≡ Got kind b1 → read function_name_reader b1 ≡ Got name b2 → read params_reader b2 ≡ Got params b3 → read (credits_reader v) b3 ≡ Got credits b4 → read list_reader b4 ≡ Got results b5 → read two_reader b5 ≡ Got registers b6 → read instrs_reader b6 ≡ Got instrs b7 → read (labels_reader registers) b7 ≡ Got labels b8 → read (function_reader v) b0 ≡ Got (record { kind = kind; name = name; params = params; credits = credits; results = results; registers = registers; instrs = instrs; labels = labels }) b8
+pub function_got : (v : Version) (b0 b1 b2 b3 b4 b5 b6 b7 b8 : List ℕ) (kind : CodeKind) (name : List ℕ) (params : List Param) (credits : List ℕ) (results : List ℕ) (registers : ℕ) (instrs : List Instr) (labels : List LabelMap) → read code_kind_reader b0 ≡ Got kind b1 → read function_name_reader b1 ≡ Got name b2 → read params_reader b2 ≡ Got params b3 → read (credits_reader v) b3 ≡ Got credits b4 → read list_reader b4 ≡ Got results b5 → read two_reader b5 ≡ Got registers b6 → read instrs_reader b6 ≡ Got instrs b7 → read (labels_reader registers) b7 ≡ Got labels b8 → read (function_reader v) b0 ≡ Got (record { kind = kind; name = name; params = params; credits = credits; results = results; registers = registers; instrs = instrs; labels = labels }) b8
 unfolding function_reader
 function_got v b0 b1 b2 b3 b4 b5 b6 b7 b8 kind name params credits results registers instrs labels h0 h1 h2 h3 h4 h5 h6 h7 =
-    bind_got fun_kind_reader (part1 v) b0 kind b1 h0
+    bind_got code_kind_reader (part1 v) b0 kind b1 h0
     ∙ bind_got function_name_reader (part2 v kind) b1 name b2 h1
     ∙ bind_got params_reader (part3 v kind name) b2 params b3 h2
     ∙ bind_got (credits_reader v) (part4 v kind name params) b3 credits b4 h3
@@ -810,55 +810,55 @@ function_got v b0 b1 b2 b3 b4 b5 b6 b7 b8 kind name params credits results regis
     ∙ bind_got instrs_reader (part7 v kind name params credits results registers) b6 instrs b7 h6
     ∙ bind_got (labels_reader registers) (part8 v kind name params credits results registers instrs) b7 labels b8 h7
 
-pub function_stop1 : (v : Version) (b0 : List ℕ) (left : ℕ) → read fun_kind_reader b0 ≡ Stop left → read (function_reader v) b0 ≡ Stop left
+pub function_stop1 : (v : Version) (b0 : List ℕ) (left : ℕ) → read code_kind_reader b0 ≡ Stop left → read (function_reader v) b0 ≡ Stop left
 unfolding function_reader
 function_stop1 v b0 left h0 =
-    bind_stop fun_kind_reader (part1 v) b0 left h0
+    bind_stop code_kind_reader (part1 v) b0 left h0
 
-pub function_stop2 : (v : Version) (b0 b1 : List ℕ) (kind : FunKind) (left : ℕ) → read fun_kind_reader b0 ≡ Got kind b1 → read function_name_reader b1 ≡ Stop left → read (function_reader v) b0 ≡ Stop left
+pub function_stop2 : (v : Version) (b0 b1 : List ℕ) (kind : CodeKind) (left : ℕ) → read code_kind_reader b0 ≡ Got kind b1 → read function_name_reader b1 ≡ Stop left → read (function_reader v) b0 ≡ Stop left
 unfolding function_reader
 function_stop2 v b0 b1 kind left h0 h1 =
-    bind_got fun_kind_reader (part1 v) b0 kind b1 h0
+    bind_got code_kind_reader (part1 v) b0 kind b1 h0
     ∙ bind_stop function_name_reader (part2 v kind) b1 left h1
 
-pub function_stop3 : (v : Version) (b0 b1 b2 : List ℕ) (kind : FunKind) (name : List ℕ) (left : ℕ) → read fun_kind_reader b0 ≡ Got kind b1 → read function_name_reader b1 ≡ Got name b2 → read params_reader b2 ≡ Stop left → read (function_reader v) b0 ≡ Stop left
+pub function_stop3 : (v : Version) (b0 b1 b2 : List ℕ) (kind : CodeKind) (name : List ℕ) (left : ℕ) → read code_kind_reader b0 ≡ Got kind b1 → read function_name_reader b1 ≡ Got name b2 → read params_reader b2 ≡ Stop left → read (function_reader v) b0 ≡ Stop left
 unfolding function_reader
 function_stop3 v b0 b1 b2 kind name left h0 h1 h2 =
-    bind_got fun_kind_reader (part1 v) b0 kind b1 h0
+    bind_got code_kind_reader (part1 v) b0 kind b1 h0
     ∙ bind_got function_name_reader (part2 v kind) b1 name b2 h1
     ∙ bind_stop params_reader (part3 v kind name) b2 left h2
 
-pub function_stop4 : (v : Version) (b0 b1 b2 b3 : List ℕ) (kind : FunKind) (name : List ℕ) (params : List Param) (left : ℕ) → read fun_kind_reader b0 ≡ Got kind b1 → read function_name_reader b1 ≡ Got name b2 → read params_reader b2 ≡ Got params b3 → read (credits_reader v) b3 ≡ Stop left → read (function_reader v) b0 ≡ Stop left
+pub function_stop4 : (v : Version) (b0 b1 b2 b3 : List ℕ) (kind : CodeKind) (name : List ℕ) (params : List Param) (left : ℕ) → read code_kind_reader b0 ≡ Got kind b1 → read function_name_reader b1 ≡ Got name b2 → read params_reader b2 ≡ Got params b3 → read (credits_reader v) b3 ≡ Stop left → read (function_reader v) b0 ≡ Stop left
 unfolding function_reader
 function_stop4 v b0 b1 b2 b3 kind name params left h0 h1 h2 h3 =
-    bind_got fun_kind_reader (part1 v) b0 kind b1 h0
+    bind_got code_kind_reader (part1 v) b0 kind b1 h0
     ∙ bind_got function_name_reader (part2 v kind) b1 name b2 h1
     ∙ bind_got params_reader (part3 v kind name) b2 params b3 h2
     ∙ bind_stop (credits_reader v) (part4 v kind name params) b3 left h3
 
-pub function_stop5 : (v : Version) (b0 b1 b2 b3 b4 : List ℕ) (kind : FunKind) (name : List ℕ) (params : List Param) (credits : List ℕ) (left : ℕ) → read fun_kind_reader b0 ≡ Got kind b1 → read function_name_reader b1 ≡ Got name b2 → read params_reader b2 ≡ Got params b3 → read (credits_reader v) b3 ≡ Got credits b4 → read list_reader b4 ≡ Stop left → read (function_reader v) b0 ≡ Stop left
+pub function_stop5 : (v : Version) (b0 b1 b2 b3 b4 : List ℕ) (kind : CodeKind) (name : List ℕ) (params : List Param) (credits : List ℕ) (left : ℕ) → read code_kind_reader b0 ≡ Got kind b1 → read function_name_reader b1 ≡ Got name b2 → read params_reader b2 ≡ Got params b3 → read (credits_reader v) b3 ≡ Got credits b4 → read list_reader b4 ≡ Stop left → read (function_reader v) b0 ≡ Stop left
 unfolding function_reader
 function_stop5 v b0 b1 b2 b3 b4 kind name params credits left h0 h1 h2 h3 h4 =
-    bind_got fun_kind_reader (part1 v) b0 kind b1 h0
+    bind_got code_kind_reader (part1 v) b0 kind b1 h0
     ∙ bind_got function_name_reader (part2 v kind) b1 name b2 h1
     ∙ bind_got params_reader (part3 v kind name) b2 params b3 h2
     ∙ bind_got (credits_reader v) (part4 v kind name params) b3 credits b4 h3
     ∙ bind_stop list_reader (part5 v kind name params credits) b4 left h4
 
-pub function_stop6 : (v : Version) (b0 b1 b2 b3 b4 b5 : List ℕ) (kind : FunKind) (name : List ℕ) (params : List Param) (credits : List ℕ) (results : List ℕ) (left : ℕ) → read fun_kind_reader b0 ≡ Got kind b1 → read function_name_reader b1 ≡ Got name b2 → read params_reader b2 ≡ Got params b3 → read (credits_reader v) b3 ≡ Got credits b4 → read list_reader b4 ≡ Got results b5 → read two_reader b5 ≡ Stop left → read (function_reader v) b0 ≡ Stop left
+pub function_stop6 : (v : Version) (b0 b1 b2 b3 b4 b5 : List ℕ) (kind : CodeKind) (name : List ℕ) (params : List Param) (credits : List ℕ) (results : List ℕ) (left : ℕ) → read code_kind_reader b0 ≡ Got kind b1 → read function_name_reader b1 ≡ Got name b2 → read params_reader b2 ≡ Got params b3 → read (credits_reader v) b3 ≡ Got credits b4 → read list_reader b4 ≡ Got results b5 → read two_reader b5 ≡ Stop left → read (function_reader v) b0 ≡ Stop left
 unfolding function_reader
 function_stop6 v b0 b1 b2 b3 b4 b5 kind name params credits results left h0 h1 h2 h3 h4 h5 =
-    bind_got fun_kind_reader (part1 v) b0 kind b1 h0
+    bind_got code_kind_reader (part1 v) b0 kind b1 h0
     ∙ bind_got function_name_reader (part2 v kind) b1 name b2 h1
     ∙ bind_got params_reader (part3 v kind name) b2 params b3 h2
     ∙ bind_got (credits_reader v) (part4 v kind name params) b3 credits b4 h3
     ∙ bind_got list_reader (part5 v kind name params credits) b4 results b5 h4
     ∙ bind_stop two_reader (part6 v kind name params credits results) b5 left h5
 
-pub function_stop7 : (v : Version) (b0 b1 b2 b3 b4 b5 b6 : List ℕ) (kind : FunKind) (name : List ℕ) (params : List Param) (credits : List ℕ) (results : List ℕ) (registers : ℕ) (left : ℕ) → read fun_kind_reader b0 ≡ Got kind b1 → read function_name_reader b1 ≡ Got name b2 → read params_reader b2 ≡ Got params b3 → read (credits_reader v) b3 ≡ Got credits b4 → read list_reader b4 ≡ Got results b5 → read two_reader b5 ≡ Got registers b6 → read instrs_reader b6 ≡ Stop left → read (function_reader v) b0 ≡ Stop left
+pub function_stop7 : (v : Version) (b0 b1 b2 b3 b4 b5 b6 : List ℕ) (kind : CodeKind) (name : List ℕ) (params : List Param) (credits : List ℕ) (results : List ℕ) (registers : ℕ) (left : ℕ) → read code_kind_reader b0 ≡ Got kind b1 → read function_name_reader b1 ≡ Got name b2 → read params_reader b2 ≡ Got params b3 → read (credits_reader v) b3 ≡ Got credits b4 → read list_reader b4 ≡ Got results b5 → read two_reader b5 ≡ Got registers b6 → read instrs_reader b6 ≡ Stop left → read (function_reader v) b0 ≡ Stop left
 unfolding function_reader
 function_stop7 v b0 b1 b2 b3 b4 b5 b6 kind name params credits results registers left h0 h1 h2 h3 h4 h5 h6 =
-    bind_got fun_kind_reader (part1 v) b0 kind b1 h0
+    bind_got code_kind_reader (part1 v) b0 kind b1 h0
     ∙ bind_got function_name_reader (part2 v kind) b1 name b2 h1
     ∙ bind_got params_reader (part3 v kind name) b2 params b3 h2
     ∙ bind_got (credits_reader v) (part4 v kind name params) b3 credits b4 h3
@@ -866,10 +866,10 @@ function_stop7 v b0 b1 b2 b3 b4 b5 b6 kind name params credits results registers
     ∙ bind_got two_reader (part6 v kind name params credits results) b5 registers b6 h5
     ∙ bind_stop instrs_reader (part7 v kind name params credits results registers) b6 left h6
 
-pub function_stop8 : (v : Version) (b0 b1 b2 b3 b4 b5 b6 b7 : List ℕ) (kind : FunKind) (name : List ℕ) (params : List Param) (credits : List ℕ) (results : List ℕ) (registers : ℕ) (instrs : List Instr) (left : ℕ) → read fun_kind_reader b0 ≡ Got kind b1 → read function_name_reader b1 ≡ Got name b2 → read params_reader b2 ≡ Got params b3 → read (credits_reader v) b3 ≡ Got credits b4 → read list_reader b4 ≡ Got results b5 → read two_reader b5 ≡ Got registers b6 → read instrs_reader b6 ≡ Got instrs b7 → read (labels_reader registers) b7 ≡ Stop left → read (function_reader v) b0 ≡ Stop left
+pub function_stop8 : (v : Version) (b0 b1 b2 b3 b4 b5 b6 b7 : List ℕ) (kind : CodeKind) (name : List ℕ) (params : List Param) (credits : List ℕ) (results : List ℕ) (registers : ℕ) (instrs : List Instr) (left : ℕ) → read code_kind_reader b0 ≡ Got kind b1 → read function_name_reader b1 ≡ Got name b2 → read params_reader b2 ≡ Got params b3 → read (credits_reader v) b3 ≡ Got credits b4 → read list_reader b4 ≡ Got results b5 → read two_reader b5 ≡ Got registers b6 → read instrs_reader b6 ≡ Got instrs b7 → read (labels_reader registers) b7 ≡ Stop left → read (function_reader v) b0 ≡ Stop left
 unfolding function_reader
 function_stop8 v b0 b1 b2 b3 b4 b5 b6 b7 kind name params credits results registers instrs left h0 h1 h2 h3 h4 h5 h6 h7 =
-    bind_got fun_kind_reader (part1 v) b0 kind b1 h0
+    bind_got code_kind_reader (part1 v) b0 kind b1 h0
     ∙ bind_got function_name_reader (part2 v kind) b1 name b2 h1
     ∙ bind_got params_reader (part3 v kind name) b2 params b3 h2
     ∙ bind_got (credits_reader v) (part4 v kind name params) b3 credits b4 h3

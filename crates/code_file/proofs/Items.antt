@@ -10,7 +10,7 @@ use Rattle.cell_code.specs.declared.kind.Kind.{Kind}
 use Rattle.cell_code.specs.declared.kind.Kind.TheVariants as K
 use Rattle.cell_code.specs.declared.code.Instr.{Instr}
 use Rattle.cell_code.specs.declared.code.Instr.TheVariants as I
-use Rattle.code_file.specs.Plain.{PlainLabel}
+use Rattle.cell_code.specs.Plain.{LabelMap}
 use Rattle.code_file.specs.Spelling.{◌+++◌, each, mark, only, one, two, four, eight}
 use Rattle.code_file.specs.CodeText.{list_text, arguments_text, set_text, register_text, from_text, kind_text, label_text, operator_number, instr_text}
 use Rattle.code_file.specs.Reading.{Reader, Give, Byte, ◌>>=◌, byte, any, two_reader, four_reader, eight_reader, times, list_reader, arguments_reader, set_reader}
@@ -199,18 +199,18 @@ pub field_kind : IsField kind_reader kind_text
 field_kind = record { takes = kind_takes; gives = kind_gives; alive = kind_alive }
 
 -- labels
-label_takes : (registers : ℕ) (bs : List ℕ) (y : PlainLabel) (rest : List ℕ) → Takes (label_reader registers) bs y rest → Front (label_text registers y) bs rest
+label_takes : (registers : ℕ) (bs : List ℕ) (y : LabelMap) (rest : List ℕ) → Takes (label_reader registers) bs y rest → Front (label_text registers y) bs rest
 unfolding label_reader label_text
 label_takes registers bs y rest h =
     let p = bind_takes four_reader (λ at. times registers kind_reader >>= λ kinds. Give (record { at = at; kinds = kinds })) bs y rest h in
     let q = bind_takes (times registers kind_reader) (λ kinds. Give (record { at = p.0; kinds = kinds })) p.1 y rest p.3 in
     let t = takes_times kind_reader kind_text field_kind registers p.1 q.0 q.1 q.2 in
     let e = q.3 in
-    subst (λ (y : PlainLabel). Front (only (length y.kinds == registers) (four y.at +++ each kind_text y.kinds)) bs rest) e.1
+    subst (λ (y : LabelMap). Front (only (length y.kinds == registers) (four y.at +++ each kind_text y.kinds)) bs rest) e.1
     (only_front (length q.0 == registers) (four p.0 +++ each kind_text q.0) bs rest (eq-eqb (length q.0) registers t.1)
     (front_join (four p.0) (each kind_text q.0) bs p.1 rest (field_four.takes bs p.0 p.1 p.2) (subst (λ m. Front (each kind_text q.0) p.1 m) e.0 t.0)))
 
-label_gives : (registers : ℕ) (bs : List ℕ) (y : PlainLabel) (rest : List ℕ) → Front (label_text registers y) bs rest → Takes (label_reader registers) bs y rest
+label_gives : (registers : ℕ) (bs : List ℕ) (y : LabelMap) (rest : List ℕ) → Front (label_text registers y) bs rest → Takes (label_reader registers) bs y rest
 unfolding label_reader label_text
 label_gives registers bs y rest h =
     let k = front_only (length y.kinds == registers) (four y.at +++ each kind_text y.kinds) bs rest h in

@@ -5,8 +5,8 @@ use Rattle.std.specs.Int.{w32, from_be_bytes, is_in_range}
 use Rattle.std.proofs.lemmas.Bool.{lt-ltb, eqb-true, eq-eqb}
 use Rattle.std.proofs.lemmas.List.{map-append}
 use Rattle.fip_language.specs.Prefix.{IsPlace}
-use Rattle.fip_language.specs.declared.FunKind.{FunKind}
-use Rattle.fip_language.specs.declared.FunKind.TheVariants.{Fip, Fbip}
+use Rattle.cell_code.specs.declared.code.CodeKind.{CodeKind}
+use Rattle.cell_code.specs.declared.code.CodeKind.TheVariants.{Fip, Fbip}
 use Rattle.fip_language.specs.declared.Operator.TheVariants as O
 use Rattle.cell_code.specs.declared.kind.Kind.{Kind}
 use Rattle.cell_code.specs.declared.kind.Label.{Label}
@@ -17,11 +17,11 @@ use Rattle.code_file.specs.declared.tags.Version.{Version}
 use Rattle.code_file.specs.declared.tags.Version.TheVariants.{First, Second}
 use Rattle.code_file.specs.declared.error.ReadStop.{ReadStop}
 use Rattle.code_file.specs.declared.error.ReadStop.TheVariants as E
-use Rattle.code_file.specs.Plain.{PlainLabel, PlainFunction, PlainCode, plain_label, plain_function, plain_code}
+use Rattle.cell_code.specs.Plain.{PlainCode, plain}
 use Rattle.code_file.specs.Spelling.{is_keyword}
 use Rattle.code_file.specs.CodeText.{CodeText, IsFileOf}
 use Rattle.code_file.specs.Reading.{Reader, Give, Byte, ◌>>=◌, Answer, Got, Stop, read, and_then, with_front, whole, read_all, Reads, ReadsFile, is_byte, byte, any, two_reader, four_reader, times, length_reader}
-use Rattle.code_file.specs.Reading.{may_follow, may_stand, name_on, register_at, register_reader, operator_at, kind_body, credit_reader, instr_body, jump_reader, fun_kind_reader, exactly, magic_reader, code_reader}
+use Rattle.code_file.specs.Reading.{may_follow, may_stand, name_on, register_at, register_reader, operator_at, kind_body, credit_reader, instr_body, jump_reader, code_kind_reader, exactly, magic_reader, code_reader}
 use Rattle.code_file.proofs.Readers.{read_bind, bind_got, bind_stop, times_got, times_stop, times_done}
 use Rattle.code_file.proofs.Whole.{read_text, text_read, read_place}
 use Rattle.fip_language.proofs.Facts.{unequal_test_at as differs_at}
@@ -238,19 +238,19 @@ register_stop bs left e = bind_stop two_reader (λ r. Give (register_at r)) bs l
 pub ruleset registers = (register_none, register_some, register_stop)
 
 -- the kind of a function
-pub kind_fip : (bs rest : List ℕ) (b : ℕ) → read (byte (is_in_range 0 1)) bs ≡ Got b rest → b ≡ 0 → read fun_kind_reader bs ≡ Got Fip rest
-unfolding fun_kind_reader
+pub kind_fip : (bs rest : List ℕ) (b : ℕ) → read (byte (is_in_range 0 1)) bs ≡ Got b rest → b ≡ 0 → read code_kind_reader bs ≡ Got Fip rest
+unfolding code_kind_reader
 kind_fip bs rest b e h = bind_got (byte (is_in_range 0 1)) (λ b. Give (if b == 0 then Fip else Fbip)) bs b rest e ∙ ap (λ t. Got (if t then Fip else Fbip) rest) (eq-eqb b 0 h)
 
-pub kind_fbip : (bs rest : List ℕ) (b : ℕ) → read (byte (is_in_range 0 1)) bs ≡ Got b rest → b ≢ 0 → read fun_kind_reader bs ≡ Got Fbip rest
-unfolding fun_kind_reader
+pub kind_fbip : (bs rest : List ℕ) (b : ℕ) → read (byte (is_in_range 0 1)) bs ≡ Got b rest → b ≢ 0 → read code_kind_reader bs ≡ Got Fbip rest
+unfolding code_kind_reader
 kind_fbip bs rest b e h = bind_got (byte (is_in_range 0 1)) (λ b. Give (if b == 0 then Fip else Fbip)) bs b rest e ∙ ap (λ t. Got (if t then Fip else Fbip) rest) (differs b 0 h)
 
-pub kind_stop : (bs : List ℕ) (left : ℕ) → read (byte (is_in_range 0 1)) bs ≡ Stop left → read fun_kind_reader bs ≡ Stop left
-unfolding fun_kind_reader
+pub kind_stop : (bs : List ℕ) (left : ℕ) → read (byte (is_in_range 0 1)) bs ≡ Stop left → read code_kind_reader bs ≡ Stop left
+unfolding code_kind_reader
 kind_stop bs left e = bind_stop (byte (is_in_range 0 1)) (λ b. Give (if b == 0 then Fip else Fbip)) bs left e
 
-pub ruleset fun_kinds = (kind_fip, kind_fbip, kind_stop)
+pub ruleset code_kinds = (kind_fip, kind_fbip, kind_stop)
 
 -- choices where the number is none of those before
 if_not : {A : Type 0} → (a b : ℕ) (x y : A) → a ≢ b → (if a == b then x else y) ≡ y
@@ -308,11 +308,11 @@ got_code : (v w : Version) (c d : PlainCode) (rest more : List ℕ) → ◌≡�
 got_code v w c d rest more e = ap (λ (p : Version × PlainCode). p.1) (got_same (v, c) (w, d) rest more e)
 
 -- What is found is spelled so, and what is spelled so is found.
-pub file_text : (bs : List ℕ) (c : Code) → ReadsFile (Ok c) bs → IsFileOf bs (plain_code c)
-file_text bs c h = (h.0, read_text bs [] (h.0, plain_code c) h.1)
+pub file_text : (bs : List ℕ) (c : Code) → ReadsFile (Ok c) bs → IsFileOf bs (plain c)
+file_text bs c h = (h.0, read_text bs [] (h.0, plain c) h.1)
 
-pub file_only : (bs : List ℕ) (c : Code) (v : Version) (d : PlainCode) → ReadsFile (Ok c) bs → CodeText bs v d → plain_code c ≡ d
-file_only bs c v d h t = let k = text_read bs v d t in got_code h.0 v (plain_code c) d [] k.0 (sym h.1 ∙ k.1)
+pub file_only : (bs : List ℕ) (c : Code) (v : Version) (d : PlainCode) → ReadsFile (Ok c) bs → CodeText bs v d → plain c ≡ d
+file_only bs c v d h t = let k = text_read bs v d t in got_code h.0 v (plain c) d [] k.0 (sym h.1 ∙ k.1)
 
 pub file_stops : {B : Type 0} → (bs : List ℕ) (left : ℕ) (v : Version) (d : PlainCode) → read_all code_reader bs ≡ Stop left → CodeText bs v d → B
 file_stops bs left v d e t = let k = text_read bs v d t in let g = sym e ∙ k.1 in cc

@@ -6,16 +6,16 @@ use Rattle.std.proofs.lemmas.Bool.{le-leb}
 use Rattle.std.proofs.lemmas.List.{append-nil}
 use Rattle.fip_language.specs.Prefix.{Begins, IsPlace}
 use Rattle.fip_language.specs.Table.{Shape, Table}
-use Rattle.fip_language.specs.declared.FunKind.{FunKind}
-use Rattle.fip_language.specs.declared.FunKind.TheVariants.{Fip, Fbip, Fun}
+use Rattle.cell_code.specs.declared.code.CodeKind.{CodeKind}
+use Rattle.cell_code.specs.declared.code.CodeKind.TheVariants.{Fip, Fbip}
 use Rattle.fip_base.specs.declared.plain.Param.{Param}
 use Rattle.cell_code.specs.declared.code.Instr.{Instr}
 use Rattle.code_file.specs.declared.tags.Version.{Version}
 use Rattle.code_file.specs.declared.tags.Version.TheVariants.{First, Second}
-use Rattle.code_file.specs.Plain.{PlainLabel, PlainFunction, PlainCode}
+use Rattle.cell_code.specs.Plain.{PlainFunction, PlainCode}
 use Rattle.code_file.specs.Spelling.{◌+++◌, each, mark, only, one, two, four, upper_name_text, function_name_text}
-use Rattle.code_file.specs.CodeText.{types_text, shape_text, type_text, table_text, fun_kind_text, lent_text, param_text, params_text, credit_count_text, size_text, credits_text, instr_text, instrs_text, label_text, labels_text, function_text, functions_text, version_number, code_text, CodeText, IsFileOf}
-use Rattle.code_file.specs.Reading.{Reader, Give, Byte, ◌>>=◌, Answer, Got, Stop, read, whole, read_all, byte, any, two_reader, four_reader, times, counted, list_reader, upper_name_reader, function_name_reader, shape_reader, type_reader, table_reader, fun_kind_reader, param_reader, params_reader, size_reader, credits_reader, instr_reader, instrs_reader, label_reader, labels_reader, function_reader, functions_reader, exactly, magic_reader, code_reader}
+use Rattle.code_file.specs.CodeText.{types_text, shape_text, type_text, table_text, code_kind_text, lent_text, param_text, params_text, credit_count_text, size_text, credits_text, instr_text, instrs_text, label_text, labels_text, function_text, functions_text, version_number, code_text, CodeText, IsFileOf}
+use Rattle.code_file.specs.Reading.{Reader, Give, Byte, ◌>>=◌, Answer, Got, Stop, read, whole, read_all, byte, any, two_reader, four_reader, times, counted, list_reader, upper_name_reader, function_name_reader, shape_reader, type_reader, table_reader, code_kind_reader, param_reader, params_reader, size_reader, credits_reader, instr_reader, instrs_reader, label_reader, labels_reader, function_reader, functions_reader, exactly, magic_reader, code_reader}
 use Rattle.code_file.proofs.Readers.{Takes, Alive, Front, IsField, Spells, stop_place, got_spells, spells_got, bind_takes, bind_gives, then_alive, front_join, front_split, takes1, gives1, alive1, takes2, gives2, alive2, field_counted}
 use Rattle.code_file.proofs.Fields.{and_both, both_and, front_only, only_front, field_test, field_any, field_two, field_four, field_types}
 use Rattle.code_file.proofs.NameFields.{field_upper_name, field_function_name}
@@ -56,29 +56,28 @@ either zero e P x y = x
 either (suc zero) e P x y = y
 either (suc (suc b)) e P x y = let k = in_range 0 1 (suc (suc b)) e in absurd (omega (arith, k.1))
 
-abbrev fun_kind_at : ℕ → FunKind
-fun_kind_at b = if b == 0 then Fip else Fbip
+abbrev code_kind_at : ℕ → CodeKind
+code_kind_at b = if b == 0 then Fip else Fbip
 
-fun_kind_takes : (bs : List ℕ) (y : FunKind) (rest : List ℕ) → Takes fun_kind_reader bs y rest → Front (fun_kind_text y) bs rest
-unfolding fun_kind_reader
-fun_kind_takes bs y rest h =
-    let p = tag_takes (is_in_range 0 1) (λ b. Give (fun_kind_at b)) bs y rest h in
+code_kind_takes : (bs : List ℕ) (y : CodeKind) (rest : List ℕ) → Takes code_kind_reader bs y rest → Front (code_kind_text y) bs rest
+unfolding code_kind_reader
+code_kind_takes bs y rest h =
+    let p = tag_takes (is_in_range 0 1) (λ b. Give (code_kind_at b)) bs y rest h in
     let e = p.4 in
-    subst (λ y. Front (fun_kind_text y) bs rest) e.1
-    (either p.0 p.2 (λ b. bs ≡ b ∷ rest → Front (fun_kind_text (fun_kind_at b)) bs rest) (λ q. q) (λ q. q) (p.3 ∙ ap (λ r. p.0 ∷ r) e.0))
+    subst (λ y. Front (code_kind_text y) bs rest) e.1
+    (either p.0 p.2 (λ b. bs ≡ b ∷ rest → Front (code_kind_text (code_kind_at b)) bs rest) (λ q. q) (λ q. q) (p.3 ∙ ap (λ r. p.0 ∷ r) e.0))
 
-fun_kind_gives : (bs : List ℕ) (y : FunKind) (rest : List ℕ) → Front (fun_kind_text y) bs rest → Takes fun_kind_reader bs y rest
-unfolding fun_kind_reader byte
-fun_kind_gives bs Fip rest h = subst (λ bs. Takes (byte (is_in_range 0 1) >>= λ b. Give (fun_kind_at b)) bs Fip rest) (sym h) (refl, (refl, refl))
-fun_kind_gives bs Fbip rest h = subst (λ bs. Takes (byte (is_in_range 0 1) >>= λ b. Give (fun_kind_at b)) bs Fbip rest) (sym h) (refl, (refl, refl))
-fun_kind_gives bs Fun rest h = absurd h
+code_kind_gives : (bs : List ℕ) (y : CodeKind) (rest : List ℕ) → Front (code_kind_text y) bs rest → Takes code_kind_reader bs y rest
+unfolding code_kind_reader byte
+code_kind_gives bs Fip rest h = subst (λ bs. Takes (byte (is_in_range 0 1) >>= λ b. Give (code_kind_at b)) bs Fip rest) (sym h) (refl, (refl, refl))
+code_kind_gives bs Fbip rest h = subst (λ bs. Takes (byte (is_in_range 0 1) >>= λ b. Give (code_kind_at b)) bs Fbip rest) (sym h) (refl, (refl, refl))
 
-fun_kind_alive : Alive fun_kind_reader
-unfolding fun_kind_reader
-fun_kind_alive = tag_alive (is_in_range 0 1) (λ b. Give (fun_kind_at b)) 0 refl (λ b. tt)
+code_kind_alive : Alive code_kind_reader
+unfolding code_kind_reader
+code_kind_alive = tag_alive (is_in_range 0 1) (λ b. Give (code_kind_at b)) 0 refl (λ b. tt)
 
-field_fun_kind : IsField fun_kind_reader fun_kind_text
-field_fun_kind = record { takes = fun_kind_takes; gives = fun_kind_gives; alive = fun_kind_alive }
+field_code_kind : IsField code_kind_reader code_kind_text
+field_code_kind = record { takes = code_kind_takes; gives = code_kind_gives; alive = code_kind_alive }
 
 abbrev pub param_at : ℕ → ℕ → Param
 param_at b ty = record { ty = ty; lent = b == 1 }
@@ -161,7 +160,7 @@ field_labels registers = field_counted (label_reader registers) (label_text regi
 function_takes : (v : Version) (bs : List ℕ) (y : PlainFunction) (rest : List ℕ) → Takes (function_reader v) bs y rest → Front (function_text v y) bs rest
 unfolding function_reader function_text
 function_takes v bs y rest h =
-    let p0 = bind_takes fun_kind_reader (part1 v) bs y rest h in
+    let p0 = bind_takes code_kind_reader (part1 v) bs y rest h in
     let p1 = bind_takes function_name_reader (part2 v p0.0) p0.1 y rest p0.3 in
     let p2 = bind_takes params_reader (part3 v p0.0 p1.0) p1.1 y rest p1.3 in
     let p3 = bind_takes (credits_reader v) (part4 v p0.0 p1.0 p2.0) p2.1 y rest p2.3 in
@@ -177,20 +176,20 @@ function_takes v bs y rest h =
     let from3 = front_join (credits_text v p3.0) (types_text p4.0 +++ two p5.0 +++ instrs_text p6.0 +++ labels_text p5.0 p7.0) p2.1 p3.1 rest ((field_credits v).takes p2.1 p3.0 p3.1 p3.2) from4 in
     let from2 = front_join (params_text p2.0) (credits_text v p3.0 +++ types_text p4.0 +++ two p5.0 +++ instrs_text p6.0 +++ labels_text p5.0 p7.0) p1.1 p2.1 rest (field_params.takes p1.1 p2.0 p2.1 p2.2) from3 in
     let from1 = front_join (function_name_text p1.0) (params_text p2.0 +++ credits_text v p3.0 +++ types_text p4.0 +++ two p5.0 +++ instrs_text p6.0 +++ labels_text p5.0 p7.0) p0.1 p1.1 rest (field_function_name.takes p0.1 p1.0 p1.1 p1.2) from2 in
-    let from0 = front_join (fun_kind_text p0.0) (function_name_text p1.0 +++ params_text p2.0 +++ credits_text v p3.0 +++ types_text p4.0 +++ two p5.0 +++ instrs_text p6.0 +++ labels_text p5.0 p7.0) bs p0.1 rest (field_fun_kind.takes bs p0.0 p0.1 p0.2) from1 in
-    subst (λ (y : PlainFunction). Front (fun_kind_text y.kind +++ function_name_text y.name +++ params_text y.params +++ credits_text v y.credits +++ types_text y.results +++ two y.registers +++ instrs_text y.instrs +++ labels_text y.registers y.labels) bs rest) e.1 from0
+    let from0 = front_join (code_kind_text p0.0) (function_name_text p1.0 +++ params_text p2.0 +++ credits_text v p3.0 +++ types_text p4.0 +++ two p5.0 +++ instrs_text p6.0 +++ labels_text p5.0 p7.0) bs p0.1 rest (field_code_kind.takes bs p0.0 p0.1 p0.2) from1 in
+    subst (λ (y : PlainFunction). Front (code_kind_text y.kind +++ function_name_text y.name +++ params_text y.params +++ credits_text v y.credits +++ types_text y.results +++ two y.registers +++ instrs_text y.instrs +++ labels_text y.registers y.labels) bs rest) e.1 from0
 
 function_gives : (v : Version) (bs : List ℕ) (y : PlainFunction) (rest : List ℕ) → Front (function_text v y) bs rest → Takes (function_reader v) bs y rest
 unfolding function_reader function_text
 function_gives v bs y rest h =
-    let p0 = front_split (fun_kind_text y.kind) (function_name_text y.name +++ params_text y.params +++ credits_text v y.credits +++ types_text y.results +++ two y.registers +++ instrs_text y.instrs +++ labels_text y.registers y.labels) bs rest h in
+    let p0 = front_split (code_kind_text y.kind) (function_name_text y.name +++ params_text y.params +++ credits_text v y.credits +++ types_text y.results +++ two y.registers +++ instrs_text y.instrs +++ labels_text y.registers y.labels) bs rest h in
     let p1 = front_split (function_name_text y.name) (params_text y.params +++ credits_text v y.credits +++ types_text y.results +++ two y.registers +++ instrs_text y.instrs +++ labels_text y.registers y.labels) p0.0 rest p0.2 in
     let p2 = front_split (params_text y.params) (credits_text v y.credits +++ types_text y.results +++ two y.registers +++ instrs_text y.instrs +++ labels_text y.registers y.labels) p1.0 rest p1.2 in
     let p3 = front_split (credits_text v y.credits) (types_text y.results +++ two y.registers +++ instrs_text y.instrs +++ labels_text y.registers y.labels) p2.0 rest p2.2 in
     let p4 = front_split (types_text y.results) (two y.registers +++ instrs_text y.instrs +++ labels_text y.registers y.labels) p3.0 rest p3.2 in
     let p5 = front_split (two y.registers) (instrs_text y.instrs +++ labels_text y.registers y.labels) p4.0 rest p4.2 in
     let p6 = front_split (instrs_text y.instrs) (labels_text y.registers y.labels) p5.0 rest p5.2 in
-    bind_gives fun_kind_reader (part1 v) bs p0.0 y.kind y rest (field_fun_kind.gives bs y.kind p0.0 p0.1)
+    bind_gives code_kind_reader (part1 v) bs p0.0 y.kind y rest (field_code_kind.gives bs y.kind p0.0 p0.1)
     (bind_gives function_name_reader (part2 v y.kind) p0.0 p1.0 y.name y rest (field_function_name.gives p0.0 y.name p1.0 p1.1)
     (bind_gives params_reader (part3 v y.kind y.name) p1.0 p2.0 y.params y rest (field_params.gives p1.0 y.params p2.0 p2.1)
     (bind_gives (credits_reader v) (part4 v y.kind y.name y.params) p2.0 p3.0 y.credits y rest ((field_credits v).gives p2.0 y.credits p3.0 p3.1)
@@ -202,7 +201,7 @@ function_gives v bs y rest h =
 function_alive : (v : Version) → Alive (function_reader v)
 unfolding function_reader
 function_alive v =
-    then_alive fun_kind_reader (part1 v) field_fun_kind.alive (λ kind.
+    then_alive code_kind_reader (part1 v) field_code_kind.alive (λ kind.
     then_alive function_name_reader (part2 v kind) field_function_name.alive (λ name.
     then_alive params_reader (part3 v kind name) field_params.alive (λ params.
     then_alive (credits_reader v) (part4 v kind name params) (field_credits v).alive (λ credits.

@@ -9,7 +9,7 @@ use Rattle.fip_language.specs.Table.{Shape, Table, constructors, shapes}
 use Rattle.cell_code.specs.declared.kind.Label.{Label}
 use Rattle.cell_code.specs.declared.code.Function.{Function}
 use Rattle.code_file.specs.declared.tags.Version.TheVariants.{Second}
-use Rattle.code_file.specs.Plain.{plain_label, plain_function}
+use Rattle.cell_code.specs.Plain.{plain_label, plain_function}
 use Rattle.code_file.specs.Spelling.{◌+++◌, each, two, four}
 use Rattle.code_file.specs.CodeText.{label_text, labels_text, function_text, functions_text}
 use Rattle.code_file.specs.Written.{Written, after, Writes, second_text, label_in}

@@ -5,8 +5,8 @@
 use Rattle.std.specs.Prelude.{◌≡◌, ℕ, Bool, true, false, ◌&&◌, ◌==◌, nat_lt, nat_le, codes}
 use Rattle.std.specs.Prelude.{List, [], ◌∷◌, length, Option, Some, None}
 use Rattle.std.specs.Int.{is_in_range}
-use Rattle.fip_language.specs.declared.FunKind.{FunKind}
-use Rattle.fip_language.specs.declared.FunKind.TheVariants.{Fip, Fbip, Fun}
+use Rattle.cell_code.specs.declared.code.CodeKind.{CodeKind}
+use Rattle.cell_code.specs.declared.code.CodeKind.TheVariants.{Fip, Fbip}
 use Rattle.fip_language.specs.declared.Operator.{Operator}
 use Rattle.fip_language.specs.declared.Operator.TheVariants as O
 use Rattle.fip_language.specs.declared.limits.TheConstants.{MOST_CREDITS, MOST_FIELDS}
@@ -19,7 +19,7 @@ use Rattle.cell_code.specs.declared.code.Instr.{Instr}
 use Rattle.cell_code.specs.declared.code.Instr.TheVariants as I
 use Rattle.code_file.specs.declared.tags.Version.{Version}
 use Rattle.code_file.specs.declared.tags.Version.TheVariants.{First, Second}
-use Rattle.code_file.specs.Plain.{PlainLabel, PlainFunction, PlainCode}
+use Rattle.cell_code.specs.Plain.{LabelMap, PlainFunction, PlainCode}
 use Rattle.code_file.specs.Spelling.{◌+++◌, each, only, mark, one, two, four, eight}
 use Rattle.code_file.specs.Spelling.{upper_name_text, function_name_text}
 
@@ -70,7 +70,7 @@ kind_text (K.Scalar ty) = mark 3 +++ two ty
 kind_text (K.Credit size) = mark 4 +++ one size
 
 -- a label of a function with so many registers, for each of which it says something
-unfoldable pub label_text : ℕ → PlainLabel → Option (List ℕ)
+unfoldable pub label_text : ℕ → LabelMap → Option (List ℕ)
 label_text registers label =
     only (length label.kinds == registers) (four label.at +++ each kind_text label.kinds)
 
@@ -108,11 +108,10 @@ instr_text (I.Tail function arguments) = mark 13 +++ four function +++ arguments
 instr_text (I.Ret results) = mark 14 +++ list_text results
 instr_text (I.Jump target) = mark 15 +++ four target
 
--- a function is fip or fbip; a plain one has no text
-abbrev pub fun_kind_text : FunKind → Option (List ℕ)
-fun_kind_text Fip = mark 0
-fun_kind_text Fbip = mark 1
-fun_kind_text Fun = None
+-- a function is fip or fbip
+abbrev pub code_kind_text : CodeKind → Option (List ℕ)
+code_kind_text Fip = mark 0
+code_kind_text Fbip = mark 1
 
 abbrev pub lent_text : Bool → Option (List ℕ)
 lent_text false = mark 0
@@ -142,12 +141,12 @@ credits_text Second sizes = credit_count_text (length sizes) +++ each size_text 
 unfoldable pub instrs_text : List Instr → Option (List ℕ)
 instrs_text instrs = four (length instrs) +++ each instr_text instrs
 
-unfoldable pub labels_text : ℕ → List PlainLabel → Option (List ℕ)
+unfoldable pub labels_text : ℕ → List LabelMap → Option (List ℕ)
 labels_text registers labels = four (length labels) +++ each (label_text registers) labels
 
 unfoldable pub function_text : Version → PlainFunction → Option (List ℕ)
 function_text version f =
-    fun_kind_text f.kind +++ function_name_text f.name +++ params_text f.params +++ credits_text version f.credits
+    code_kind_text f.kind +++ function_name_text f.name +++ params_text f.params +++ credits_text version f.credits
     +++ types_text f.results +++ two f.registers +++ instrs_text f.instrs +++ labels_text f.registers f.labels
 
 unfoldable pub functions_text : Version → List PlainFunction → Option (List ℕ)

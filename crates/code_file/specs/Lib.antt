@@ -1,4 +1,3 @@
-pub mod Plain
 pub mod Spelling
 pub mod CodeText
 pub mod Written

@@ -5,8 +5,8 @@ use Rattle.std.specs.Prelude.{◌≡◌, ℕ, zero, suc, ◌-◌, ℤ, Bool, tru
 use Rattle.std.specs.Prelude.{List, [], ◌∷◌, ◌++◌, length, Option, Some, None, Result, Ok, Err}
 use Rattle.std.specs.Int.{w16, w32, w64, from_be_bytes, cast_signed, is_in_range}
 use Rattle.fip_language.specs.Character.{is_upper, is_digit, is_letter}
-use Rattle.fip_language.specs.declared.FunKind.{FunKind}
-use Rattle.fip_language.specs.declared.FunKind.TheVariants.{Fip, Fbip}
+use Rattle.cell_code.specs.declared.code.CodeKind.{CodeKind}
+use Rattle.cell_code.specs.declared.code.CodeKind.TheVariants.{Fip, Fbip}
 use Rattle.fip_language.specs.declared.Operator.{Operator}
 use Rattle.fip_language.specs.declared.Operator.TheVariants as O
 use Rattle.fip_language.specs.declared.limits.TheConstants.{MOST_CREDITS, MOST_FIELDS}
@@ -22,7 +22,7 @@ use Rattle.code_file.specs.declared.tags.Version.TheVariants.{First, Second}
 use Rattle.code_file.specs.declared.error.ReadStop.{ReadStop}
 use Rattle.code_file.specs.declared.error.ReadStop.TheVariants as E
 use Rattle.cell_code.specs.declared.code.Code.{Code}
-use Rattle.code_file.specs.Plain.{PlainLabel, PlainFunction, PlainCode, plain_code}
+use Rattle.cell_code.specs.Plain.{LabelMap, PlainFunction, PlainCode, plain}
 use Rattle.code_file.specs.Spelling.{is_lower, is_keyword}
 
 pub data Reader (A : Type 0) : Type 0 where
@@ -189,7 +189,7 @@ kind_body tag =
 unfoldable pub kind_reader : Reader Kind
 kind_reader = byte (is_in_range 0 4) >>= kind_body
 
-unfoldable pub label_reader : ℕ → Reader PlainLabel
+unfoldable pub label_reader : ℕ → Reader LabelMap
 label_reader registers =
     four_reader >>= λ at. times registers kind_reader >>= λ kinds. Give (record { at = at; kinds = kinds })
 
@@ -291,8 +291,8 @@ instr_body op =
 unfoldable pub instr_reader : Reader Instr
 instr_reader = byte (is_in_range 1 15) >>= instr_body
 
-unfoldable pub fun_kind_reader : Reader FunKind
-fun_kind_reader = byte (is_in_range 0 1) >>= λ b. Give (if b == 0 then Fip else Fbip)
+unfoldable pub code_kind_reader : Reader CodeKind
+code_kind_reader = byte (is_in_range 0 1) >>= λ b. Give (if b == 0 then Fip else Fbip)
 
 unfoldable pub param_reader : Reader Param
 param_reader = byte (is_in_range 0 1) >>= λ b. two_reader >>= λ ty. Give (record { ty = ty; lent = b == 1 })
@@ -310,12 +310,12 @@ credits_reader Second = counted (byte (is_in_range 0 MOST_CREDITS)) size_reader
 unfoldable pub instrs_reader : Reader (List Instr)
 instrs_reader = counted four_reader instr_reader
 
-unfoldable pub labels_reader : ℕ → Reader (List PlainLabel)
+unfoldable pub labels_reader : ℕ → Reader (List LabelMap)
 labels_reader registers = counted four_reader (label_reader registers)
 
 unfoldable pub function_reader : Version → Reader PlainFunction
 function_reader version =
-    fun_kind_reader >>= λ kind. function_name_reader >>= λ name. params_reader >>= λ params.
+    code_kind_reader >>= λ kind. function_name_reader >>= λ name. params_reader >>= λ params.
     credits_reader version >>= λ credits. list_reader >>= λ results. two_reader >>= λ registers.
     instrs_reader >>= λ instrs. labels_reader registers >>= λ labels.
     Give (record {
@@ -349,6 +349,6 @@ code_reader =
 
 -- what a function returned that reads a whole file
 abbrev pub ReadsFile : Result Code ReadStop → List ℕ → Type 0
-ReadsFile (Ok c) bs = (version : Version) × (read_all code_reader bs ≡ Got (version, plain_code c) [])
+ReadsFile (Ok c) bs = (version : Version) × (read_all code_reader bs ≡ Got (version, plain c) [])
 ReadsFile (Err E.NoMemory) bs = Unit {0}
 ReadsFile (Err (E.Left left)) bs = read_all code_reader bs ≡ Stop left

@@ -4,7 +4,7 @@ use Rattle.std.specs.Prelude.{Result, Ok, Err}
 use Rattle.cell_code.specs.declared.kind.Label.{Label}
 use Rattle.cell_code.specs.declared.code.Function.{Function}
 use Rattle.code_file.specs.declared.tags.Version.TheVariants.{Second}
-use Rattle.code_file.specs.Plain.{plain_label, plain_function}
+use Rattle.cell_code.specs.Plain.{plain_label, plain_function}
 use Rattle.code_file.specs.CodeText.{label_text, function_text}
 use Rattle.code_file.specs.declared.error.WriteError.{WriteError}
 use Rattle.code_file.specs.declared.error.WriteError.TheVariants as E

@@ -1,6 +1,6 @@
 // Labels, and what they say of registers.
 ghost use Rattle.std.specs.Prelude.{◌≡◌, vec_items};
-ghost use Rattle.code_file.specs.Plain.{plain_label};
+ghost use Rattle.cell_code.specs.Plain.{plain_label};
 ghost use Rattle.code_file.specs.Reading.{Reads, read, same, times, label_reader, kind_reader, owned_reader};
 ghost use Rattle.code_file.specs.Reading.{lent_reader, scalar_reader, credit_reader, from_reader, set_reader};
 ghost use Rattle.code_file.specs.Reading.{four_reader};

@@ -3,18 +3,18 @@ ghost use Rattle.std.specs.Prelude.{◌≡◌, ℕ, List, map, vec_items, vec_le
 ghost use Rattle.fip_language.specs.Prefix.{IsPlace};
 ghost use Rattle.code_file.specs.declared.tags.Version.{Version as a_version};
 ghost use Rattle.code_file.specs.declared.error.ReadCodeError.TheVariants.{BadCode, NoMemory};
-ghost use Rattle.code_file.specs.Plain.{PlainCode, plain_code, plain_function, plain_label};
+ghost use Rattle.cell_code.specs.Plain.{PlainCode, plain_label, plain_function, plain};
 ghost use Rattle.code_file.specs.CodeText.{CodeText, IsFileOf};
 ghost use Rattle.code_file.specs.Reading.{ReadsFile, Reads, read, same, times, shape_reader, type_reader, table_reader};
-ghost use Rattle.code_file.specs.Reading.{fun_kind_reader, param_reader, params_reader, size_reader, credits_reader};
+ghost use Rattle.code_file.specs.Reading.{code_kind_reader, param_reader, params_reader, size_reader, credits_reader};
 ghost use Rattle.code_file.specs.Reading.{instr_reader, instrs_reader, label_reader, labels_reader, function_reader};
 ghost use Rattle.code_file.specs.Reading.{functions_reader, magic_reader, code_reader};
 
 use crate::error::{ReadCodeError, ReadStop};
 use crate::reader::Reader;
 use crate::tags::{FBIP, FIP, LENT_PARAM, OWNED_PARAM, VERSION_1, VERSION_2, Version};
-use cell_code::{Code, Function, Instr, Label};
-use fip_base::plain::{FunKind, Param, Params};
+use cell_code::{Code, CodeKind, Function, Instr, Label};
+use fip_base::plain::{Param, Params};
 use fip_base::table::{Constructor, DataType, TypeTable};
 use fip_language::limits::{MOST_CREDITS, MOST_FIELDS};
 use std::alloc::Global;
@@ -23,10 +23,10 @@ use std::alloc::Global;
 /// was read, not for what a count announces.
 pub fn read_code(alloc: Global, bytes: &[u8]) -> Result<Code, ReadCodeError>
     // What is read is spelled so.
-    ensures text { IfOk result (λ c. IsFileOf bytes.now (plain_code c)) }
+    ensures text { IfOk result (λ c. IsFileOf bytes.now (plain c)) }
     // What is spelled so is read, unless memory runs out.
     ensures only { (v : a_version) (c : PlainCode) → CodeText bytes.now v c →
-        MatchResult result (λ d. plain_code d ≡ c) (λ e. e ≡ NoMemory) }
+        MatchResult result (λ d. plain d ≡ c) (λ e. e ≡ NoMemory) }
     // Else the place is the least with which no file begins.
     ensures place { (at : ℕ) → result ≡ Err (BadCode at) → IsPlace IsFileOf bytes.now at }
 {
@@ -55,7 +55,7 @@ fn whole(alloc: Global, bytes: &[u8]) -> Result<Code, ReadStop>
 impl<'a> Reader<'a> {
     #[tactic(auto, using(crate::proofs::Got::of_code))]
     fn code(&mut self) -> Result<(Version, Code), ReadStop>
-        ensures { Reads (λ p. (p.0, plain_code p.1)) result self.new (read code_reader self.old) }
+        ensures { Reads (λ p. (p.0, plain p.1)) result self.new (read code_reader self.old) }
     {
         let version = self.version()?;
         let types = self.type_table()?;
@@ -151,7 +151,7 @@ impl<'a> Reader<'a> {
     fn function(&mut self, version: Version) -> Result<Function, ReadStop>
         ensures { Reads plain_function result self.new (read (function_reader version) self.old) }
     {
-        let kind = self.fun_kind()?;
+        let kind = self.code_kind()?;
         let name = self.function_name()?;
         let params = self.params()?;
         let credits = self.credits(version)?;
@@ -171,14 +171,14 @@ impl<'a> Reader<'a> {
         })
     }
 
-    #[tactic(auto, using(crate::proofs::Steps::fun_kinds))]
-    fn fun_kind(&mut self) -> Result<FunKind, ReadStop>
-        ensures { Reads same result self.new (read fun_kind_reader self.old) }
+    #[tactic(auto, using(crate::proofs::Steps::code_kinds))]
+    fn code_kind(&mut self) -> Result<CodeKind, ReadStop>
+        ensures { Reads same result self.new (read code_kind_reader self.old) }
     {
         if self.byte_in(FIP, FBIP)? == FIP {
-            Ok(FunKind::Fip)
+            Ok(CodeKind::Fip)
         } else {
-            Ok(FunKind::Fbip)
+            Ok(CodeKind::Fbip)
         }
     }
 

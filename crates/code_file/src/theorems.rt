@@ -1,7 +1,7 @@
 // The theorems of code files. Each is the contract of a function that does nothing.
 ghost use Rattle.std.specs.Prelude.{◌≡◌, ℕ, List, [], ◌++◌};
 ghost use Rattle.code_file.specs.declared.tags.Version.{Version as a_version};
-ghost use Rattle.code_file.specs.Plain.{PlainCode};
+ghost use Rattle.cell_code.specs.Plain.{PlainCode};
 ghost use Rattle.code_file.specs.CodeText.{CodeText};
 
 /// A code has one code file at most in each version, and a code file is that of one code, in one version. For who

@@ -2,9 +2,9 @@
 ghost use Rattle.std.specs.Prelude.{◌≡◌, ◌<◌, ◌≤◌, ℕ, List, length, map, Some, Err, IfOk};
 ghost use Rattle.code_file.specs.declared.tags.Version.TheVariants.{Second};
 ghost use Rattle.code_file.specs.declared.error.WriteError.TheVariants.{NotSpelled};
-ghost use Rattle.code_file.specs.Plain.{plain_code, plain_function, plain_label};
+ghost use Rattle.cell_code.specs.Plain.{plain_label, plain_function, plain};
 ghost use Rattle.code_file.specs.Spelling.{each};
-ghost use Rattle.code_file.specs.CodeText.{CodeText, shape_text, type_text, types_text, table_text, fun_kind_text};
+ghost use Rattle.code_file.specs.CodeText.{CodeText, shape_text, type_text, types_text, table_text, code_kind_text};
 ghost use Rattle.code_file.specs.CodeText.{param_text, params_text, credit_count_text, size_text, credits_text};
 ghost use Rattle.code_file.specs.CodeText.{function_text, functions_text, instr_text, instrs_text, label_text};
 ghost use Rattle.code_file.specs.CodeText.{labels_text, code_text};
@@ -13,8 +13,8 @@ ghost use Rattle.code_file.specs.Written.{Writes, after, second_text, label_in};
 use crate::error::WriteError;
 use crate::tags::{FBIP, FIP, LENT_PARAM, MAGIC, OWNED_PARAM, VERSION_2};
 use crate::writer::Writer;
-use cell_code::{Code, Function, Instr, Label};
-use fip_base::plain::{FunKind, Param};
+use cell_code::{Code, CodeKind, Function, Instr, Label};
+use fip_base::plain::Param;
 use fip_base::table::{Constructor, TypeTable};
 use fip_language::limits::{MOST_CREDITS, MOST_FIELDS};
 use std::alloc::Global;
@@ -23,10 +23,10 @@ use std::alloc::Global;
 #[tactic(auto, using(crate::proofs::Writing::ends))]
 pub fn write_code(alloc: Global, code: &Code, limit: usize) -> Result<Vec<u8>, WriteError>
     // What is written spells the code.
-    ensures text { IfOk result (λ v. CodeText v.items Second (plain_code code.now)) }
+    ensures text { IfOk result (λ v. CodeText v.items Second (plain code.now)) }
     ensures short { IfOk result (λ v. length v.items ≤ limit) }
     // It refuses only a code that no file spells, or too long a one.
-    ensures refused { result ≡ Err NotSpelled → (bytes : List ℕ) → CodeText bytes Second (plain_code code.now) →
+    ensures refused { result ≡ Err NotSpelled → (bytes : List ℕ) → CodeText bytes Second (plain code.now) →
         limit < length bytes }
 {
     let mut writer = Writer::new(alloc, limit);
@@ -39,7 +39,7 @@ pub fn write_code(alloc: Global, code: &Code, limit: usize) -> Result<Vec<u8>, W
 impl Writer {
     #[tactic(auto, unfolding(crate::specs::CodeText::code_text), using(crate::proofs::Writing::joins))]
     fn code(&mut self, code: &Code) -> Result<(), WriteError>
-        ensures { Writes result self.new (after self.old (code_text Second (plain_code code.now))) }
+        ensures { Writes result self.new (after self.old (code_text Second (plain code.now))) }
     {
         self.bytes(MAGIC)?;
         self.bytes(&[0, VERSION_2])?;
@@ -117,7 +117,7 @@ impl Writer {
     fn function(&mut self, function: &Function) -> Result<(), WriteError>
         ensures { Writes result self.new (after self.old (function_text Second (plain_function function.now))) }
     {
-        self.fun_kind(function.kind)?;
+        self.code_kind(function.kind)?;
         self.function_name(function.name.as_slice())?;
         self.params(function.params.as_slice())?;
         self.credits(&function.credits)?;
@@ -128,13 +128,12 @@ impl Writer {
     }
 
     #[tactic(auto, using(crate::proofs::Writing::after_missing))]
-    fn fun_kind(&mut self, kind: FunKind) -> Result<(), WriteError>
-        ensures { Writes result self.new (after self.old (fun_kind_text kind)) }
+    fn code_kind(&mut self, kind: CodeKind) -> Result<(), WriteError>
+        ensures { Writes result self.new (after self.old (code_kind_text kind)) }
     {
         match kind {
-            FunKind::Fip => self.byte(FIP),
-            FunKind::Fbip => self.byte(FBIP),
-            FunKind::Fun => Err(WriteError::NotSpelled),
+            CodeKind::Fip => self.byte(FIP),
+            CodeKind::Fbip => self.byte(FBIP),
         }
     }
 

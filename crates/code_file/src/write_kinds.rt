@@ -1,7 +1,7 @@
 // Writing labels, and what they say of registers.
 ghost use Rattle.std.specs.Prelude.{◌≡◌, length};
 ghost use Rattle.cell_code.specs.declared.kind.Kind.TheVariants as K;
-ghost use Rattle.code_file.specs.Plain.{plain_label};
+ghost use Rattle.cell_code.specs.Plain.{plain_label};
 ghost use Rattle.code_file.specs.Spelling.{each, four};
 ghost use Rattle.code_file.specs.CodeText.{label_text, kind_text, from_text, set_text};
 ghost use Rattle.code_file.specs.Written.{Writes, after};

@@ -1,20 +1,21 @@
 -- Along lists, place by place.
 use Rattle.std.proofs.Common.{◌≡◌, ◌⊎◌, inl, inr, ℕ, zero, suc, ◌+◌, ◌<◌, ◌≤◌, Bool, true, false, ◌&&◌, not, List, [], ◌∷◌, length, map, drop, set, get_or, replicate, Option, Some, None, slice_get, option_map, if◌then◌else◌, ◌==◌, is_some, refl, sym, ap, ◌∙◌, subst, true≢false, arith}
 use Rattle.std.proofs.lemmas.Bool.{eqb-true, eq-eqb, ne_eqb, cases_eq}
-use Rattle.std.proofs.lemmas.Option.{same_Some, none-some, slice_get-map, slice_get_within}
+use Rattle.std.proofs.lemmas.Option.{same_Some, none-some, slice_get-map, slice_get_within, slice_get_read}
 use Rattle.std.proofs.lemmas.List.{length-set, get_or-set_same, get_or-set_other}
 use Rattle.fip_language.specs.Table.{Table}
 use Rattle.cell_code.specs.declared.code.Function.{Function}
 use Rattle.cell_code.specs.declared.kind.Kind.{Kind}
 use Rattle.cell_code.specs.declared.kind.Label.{Label}
-use Rattle.code_rules.specs.Codes.{PlainFunction, LabelMap, plain_label, plain_function, label_at}
+use Rattle.cell_code.specs.Plain.{LabelMap, PlainFunction, plain_label, plain_function}
+use Rattle.code_rules.specs.Codes.{label_at}
 use Rattle.std.specs.Prelude.{nat_lt}
 use Rattle.code_rules.specs.Headers.{are_good_maps, are_good_kinds, are_params, are_sizes, are_types, is_formed}
 use Rattle.code_rules.specs.Limits.{most_credits, most_results, most_registers}
 use Rattle.register_kinds.specs.State.{of_types}
 use Rattle.code_rules.specs.Asked.{same_types}
 use Rattle.code_rules.specs.Handing.{kept_if}
-use Rattle.code_rows.specs.Numbering.{IsNumber, IsNumberFrom, AreNumbers, AreBelow, is_good_label, are_good_labels, has_registers, has_few, has_types}
+use Rattle.code_rows.specs.Numbering.{IsNumber, IsNumberFrom, AreNumbers, AreBelow, SaysAlike, is_good_label, are_good_labels, has_registers, has_few, has_types}
 
 -- ---- label maps by instruction
 
@@ -69,26 +70,26 @@ drop_of (k ∷ maps) (suc j) m e = drop_of maps j m e
 label_before : (maps : List LabelMap) (j i : ℕ) (m : LabelMap) → slice_get maps j ≡ Some m → label_at (drop j maps) i ≡ (if m.at == i then Some m.kinds else label_at (drop (suc j) maps) i)
 label_before maps j i m e = ap (λ ms. label_at ms i) (drop_of maps j m e)
 
-put_same : (maps : List LabelMap) (j i : ℕ) (m : LabelMap) → slice_get maps j ≡ Some m → m.at ≡ i → IsNumberFrom maps j i (Some j)
-put_same maps j i m e h = (m, e, label_before maps j i m e ∙ ap (λ b. if b then Some m.kinds else label_at (drop (suc j) maps) i) (eq-eqb m.at i h))
+put_same : (maps : List LabelMap) (j k i : ℕ) (m n : LabelMap) → slice_get maps j ≡ Some m → slice_get maps k ≡ Some n → n.kinds ≡ m.kinds → m.at ≡ i → IsNumberFrom maps j i (Some k)
+put_same maps j k i m n e f q h = (n, f, label_before maps j i m e ∙ ap (λ b. if b then Some m.kinds else label_at (drop (suc j) maps) i) (eq-eqb m.at i h) ∙ ap Some (sym q))
 
 put_other : (maps : List LabelMap) (j i : ℕ) (m : LabelMap) (o : Option ℕ) → slice_get maps j ≡ Some m → (m.at ≡ i → ⊥) → IsNumberFrom maps (suc j) i o → IsNumberFrom maps j i o
 put_other maps j i m None e h x = label_before maps j i m e ∙ ap (λ b. if b then Some m.kinds else label_at (drop (suc j) maps) i) (ne_eqb m.at i h) ∙ x
 put_other maps j i m (Some n) e h x = (x.0, x.1, label_before maps j i m e ∙ ap (λ b. if b then Some m.kinds else label_at (drop (suc j) maps) i) (ne_eqb m.at i h) ∙ x.2)
 
-pub number_put : (maps : List LabelMap) (numbers : List (Option ℕ)) (j n : ℕ) (m : LabelMap) → suc j ≡ n → slice_get maps j ≡ Some m → ((i : ℕ) → i < length numbers → IsNumberFrom maps n i (get_or numbers i None)) → (i : ℕ) → i < length (set numbers m.at (Some j)) → IsNumberFrom maps j i (get_or (set numbers m.at (Some j)) i None)
-number_put maps numbers j n m s e h i l = by (cases_eq i m.at)
+pub number_put : (maps : List LabelMap) (numbers : List (Option ℕ)) (j k n : ℕ) (m p : LabelMap) → suc j ≡ n → slice_get maps j ≡ Some m → slice_get maps k ≡ Some p → p.kinds ≡ m.kinds → ((i : ℕ) → i < length numbers → IsNumberFrom maps n i (get_or numbers i None)) → (i : ℕ) → i < length (set numbers m.at (Some k)) → IsNumberFrom maps j i (get_or (set numbers m.at (Some k)) i None)
+number_put maps numbers j k n m p s e f same h i l = by (cases_eq i m.at)
   where
-    long : length (set numbers m.at (Some j)) ≡ length numbers
-    long = length-set numbers m.at (Some j)
+    long : length (set numbers m.at (Some k)) ≡ length numbers
+    long = length-set numbers m.at (Some k)
 
-    by : (i ≡ m.at) ⊎ (i ≡ m.at → ⊥) → IsNumberFrom maps j i (get_or (set numbers m.at (Some j)) i None)
+    by : (i ≡ m.at) ⊎ (i ≡ m.at → ⊥) → IsNumberFrom maps j i (get_or (set numbers m.at (Some k)) i None)
     by (inl q) =
-        let k : m.at < length numbers = (let g = long in omega (arith, g, l, q)) in
-        subst (IsNumberFrom maps j i) (sym (ap (λ x. get_or (set numbers m.at (Some j)) x None) q ∙ get_or-set_same numbers m.at (Some j) None k)) (put_same maps j i m e (sym q))
+        let w : m.at < length numbers = (let g = long in omega (arith, g, l, q)) in
+        subst (IsNumberFrom maps j i) (sym (ap (λ x. get_or (set numbers m.at (Some k)) x None) q ∙ get_or-set_same numbers m.at (Some k) None w)) (put_same maps j k i m p e f same (sym q))
     by (inr q) =
-        let k : i < length numbers = (let g = long in omega (arith, g, l)) in
-        subst (IsNumberFrom maps j i) (sym (get_or-set_other numbers m.at i (Some j) None q)) (put_other maps j i m (get_or numbers i None) e (λ z. q (sym z)) (subst (λ x. IsNumberFrom maps x i (get_or numbers i None)) (sym s) (h i k)))
+        let w : i < length numbers = (let g = long in omega (arith, g, l)) in
+        subst (IsNumberFrom maps j i) (sym (get_or-set_other numbers m.at i (Some k) None q)) (put_other maps j i m (get_or numbers i None) e (λ z. q (sym z)) (subst (λ x. IsNumberFrom maps x i (get_or numbers i None)) (sym s) (h i w)))
 
 pub numbers_from : (labels : List Label) (count : ℕ) (numbers : List (Option ℕ)) → AreBelow count labels → length numbers ≡ count → ((i : ℕ) → i < length numbers → IsNumberFrom (map plain_label labels) 0 i (get_or numbers i None)) → AreNumbers (map plain_label labels) numbers
 numbers_from labels count numbers b e h = record { within = within; are = λ i l. whole i (get_or numbers i None) (h i l) }
@@ -152,3 +153,11 @@ kept_some false ks o e = ap is_some e
 pub kept_is : (b : Bool) (ks : List Kind) (o : Option (List Kind)) → kept_if b ks ≡ o → b ≡ true → o ≡ Some ks
 kept_is true ks o e t = sym e
 kept_is false ks o e t = absurd (true≢false (sym t))
+
+-- ---- label maps that say the same
+
+pub alike_at : (labels : List Label) (j k : ℕ) (m n : Label) → j < length labels → k < length labels → m ≡ get_or labels j m → n ≡ get_or labels k n → n.kinds.items ≡ m.kinds.items → SaysAlike labels j k
+alike_at labels j k m n lj lk e f q p g =
+    let there = slice_get_read labels (length labels) k n refl lk f in
+    let same = same_Some m p (sym (slice_get_read labels (length labels) j m refl lj e) ∙ g) in
+    (n, there, q ∙ ap (λ (l : Label). l.kinds.items) same)

@@ -4,7 +4,8 @@ use Rattle.std.specs.Prelude.{◌≡◌, ℕ, ◌<◌, suc, ◌+◌, Bool, true,
 use Rattle.std.specs.Prelude.{slice_get, get_or, length, drop, ◌==◌, nat_lt}
 use Rattle.fip_language.specs.Table.{Table}
 use Rattle.cell_code.specs.declared.kind.Label.{Label}
-use Rattle.code_rules.specs.Codes.{PlainFunction, LabelMap, label_at}
+use Rattle.cell_code.specs.Plain.{LabelMap, PlainFunction}
+use Rattle.code_rules.specs.Codes.{label_at}
 use Rattle.code_rules.specs.Headers.{are_good_kinds, are_params, are_sizes, are_types}
 use Rattle.code_rules.specs.Limits.{most_credits, most_results, most_registers}
 
@@ -23,6 +24,11 @@ IsNumberFrom maps n i (Some j) =
 pub record AreNumbers (maps : List LabelMap) (numbers : List (Option ℕ)) : Type 0 where
   pub within : (j : ℕ) (m : LabelMap) → slice_get maps j ≡ Some m → m.at < length numbers
   pub are : (i : ℕ) → i < length numbers → IsNumber maps i (get_or numbers i None)
+
+-- Label map k says of each register what label map j says.
+abbrev pub SaysAlike : List Label → ℕ → ℕ → Type 0
+SaysAlike labels j k =
+    (m : Label) → slice_get labels j ≡ Some m → (n : Label) × (slice_get labels k ≡ Some n) × (n.kinds.items ≡ m.kinds.items)
 
 -- The label maps stand at instructions below a number.
 abbrev pub AreBelow : ℕ → List Label → Type 0

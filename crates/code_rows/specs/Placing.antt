@@ -3,7 +3,7 @@
 use Rattle.std.specs.Prelude.{List, map}
 use Rattle.fip_language.specs.Table.{Table}
 use Rattle.cell_code.specs.declared.code.Function.{Function}
-use Rattle.code_rules.specs.Codes.{PlainCode, PlainFunction, LabelMap, plain_function}
+use Rattle.cell_code.specs.Plain.{LabelMap, PlainFunction, PlainCode, plain_function}
 use Rattle.code_rows.specs.declared.place.Place.{Place}
 
 abbrev pub code_in : Table → List Function → PlainCode

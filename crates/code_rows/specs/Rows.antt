@@ -6,7 +6,8 @@ use Rattle.cell_code.specs.declared.code.Instr.TheVariants as I
 use Rattle.cell_code.specs.declared.kind.Kind.{Kind}
 use Rattle.code_rules.specs.declared.rule.SoundRule.{SoundRule}
 use Rattle.code_rules.specs.declared.rule.SoundRule.TheVariants.{S2, S3, S5, S6}
-use Rattle.code_rules.specs.Codes.{PlainCode, PlainFunction, LabelMap, label_at}
+use Rattle.cell_code.specs.Plain.{LabelMap, PlainFunction, PlainCode}
+use Rattle.code_rules.specs.Codes.{label_at}
 use Rattle.code_rules.specs.Kinds.{at, set_of}
 use Rattle.code_rules.specs.Changes.{tested, without}
 use Rattle.code_rules.specs.Fitting.{fit_all}

@@ -1,6 +1,7 @@
 // What a code says of a function that is called. A number that is no function's has nothing.
 ghost use Rattle.std.specs.Prelude.{◌≡◌, map};
-ghost use Rattle.code_rules.specs.Codes.{params, credits, results};
+ghost use Rattle.cell_code.specs.Plain.{results};
+ghost use Rattle.code_rules.specs.Codes.{params, credits};
 ghost use Rattle.code_rules.specs.Codes as codes;
 ghost use Rattle.code_rows.specs.Placing.{code_of};
 

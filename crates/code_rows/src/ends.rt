@@ -7,17 +7,12 @@ ghost use Rattle.code_rows.specs.Placing.{code_of};
 use crate::calls::is_weaker;
 use crate::place::Place;
 use cell_code::{Function, Instr};
-use fip_base::plain::FunKind;
 
 /// Whether a function is fip.
 pub fn is_fip(function: &Function) -> bool
     ensures { result ≡ codes.is_fip function.now.kind }
 {
-    match function.kind {
-        FunKind::Fip => true,
-        FunKind::Fbip => false,
-        FunKind::Fun => false,
-    }
+    function.kind.is_fip()
 }
 
 /// Whether no instruction follows an instruction.

@@ -1,7 +1,7 @@
 // S9: a function's header and label maps.
 ghost use Rattle.std.specs.Prelude.{◌≡◌, ℕ, length};
 ghost use Rattle.code_rules.specs.Asked.{known_fields, only_fields};
-ghost use Rattle.code_rules.specs.Codes.{plain_function, plain_label};
+ghost use Rattle.cell_code.specs.Plain.{plain_function};
 ghost use Rattle.code_rules.specs.Headers as h;
 ghost use Rattle.code_rules.specs.Kinds.{at, root_of};
 ghost use Rattle.code_rules.specs.Kinds as k;

@@ -1,14 +1,17 @@
 // The label maps of a function, by instruction.
 ghost use Rattle.std.specs.Prelude.{◌≡◌, Some, is_some, set, replicate, length, map, IfOk};
-ghost use Rattle.code_rules.specs.Codes.{plain_label, plain_function, label_at};
+ghost use Rattle.cell_code.specs.Plain.{plain_label, plain_function};
+ghost use Rattle.code_rules.specs.Codes.{label_at};
 ghost use Rattle.code_rows.specs.Numbering.{IsNumber, AreNumbers, AreBelow};
 
+use crate::alike::alike_or_own;
 use cell_code::{Function, Label};
 use fip_base::plain::NoMemory;
 use std::alloc::Global;
 use std::marker::Model;
 
-/// The label maps of a function, with the number of the one of each instruction.
+/// The label maps of a function, and for each instruction that has one the number of one that says the same, so that
+/// maps which say the same count as one where it is kept which of them were seen to fit.
 #[derive(Drop)]
 pub struct Labels<'a> {
     labels: &'a [Label],
@@ -17,7 +20,7 @@ pub struct Labels<'a> {
 
 impl<'a> Model for Labels<'a> {
     ghost use Rattle.std.specs.Prelude.{List, map};
-    ghost use Rattle.code_rules.specs.Codes.{LabelMap, plain_label};
+    ghost use Rattle.cell_code.specs.Plain.{LabelMap, plain_label};
     ghost use Rattle.code_rows.specs.Numbering.{AreNumbers};
 
     ghost Value = { List LabelMap };
@@ -38,7 +41,7 @@ impl<'a> Labels<'a> {
         Ok(Labels { labels, numbers })
     }
 
-    /// The number of the label map of an instruction; none where it has none.
+    /// The number of a label map that says what the one of an instruction says; none where it has none.
     pub fn find(&self, at: usize) -> Option<usize>
         ensures is { IsNumber self.now at result }
     {
@@ -57,14 +60,17 @@ impl<'a> Labels<'a> {
     }
 }
 
-// For each of so many instructions the number of its label map.
+// For each of so many instructions the number of a label map that says what its own says: where those that follow one
+// another say the same, the last of them.
 fn numbers_of(alloc: Global, labels: &[Label], count: usize) -> Result<Vec<Option<usize>>, NoMemory>
     requires within { AreBelow count labels.now }
     ensures { IfOk result (λ v. AreNumbers (map plain_label labels.now) v.items) }
 {
     let mut numbers = none_of(alloc, count)?;
+    let mut alike = labels.len();
     for number in (0..labels.len()).rev() {
-        put(&mut numbers, labels[number].at as usize, number);
+        alike = alike_or_own(labels, alike, number);
+        put(&mut numbers, labels[number].at as usize, alike);
     }
     Ok(numbers)
 }

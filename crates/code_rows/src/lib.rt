@@ -2,6 +2,7 @@
 // instruction are in range, and what an instruction asks of registers and leaves behind it. What is broken is noted.
 #![tactic(auto)]
 
+mod alike;
 mod asked_row;
 mod calls;
 mod ends;

@@ -3,7 +3,7 @@ use Rattle.std.proofs.Common.{◌≡◌, ℕ, zero, suc, ◌+◌, ◌≤◌, Boo
 use Rattle.std.proofs.lemmas.Option.{same_Some, none-some}
 use Rattle.cell_code.specs.declared.code.Instr.{Instr}
 use Rattle.call_groups.specs.Stacks.{charge}
-use Rattle.code_rules.specs.Codes.{PlainFunction}
+use Rattle.cell_code.specs.Plain.{PlainFunction}
 use Rattle.code_rules.specs.Flow.{IsInstr}
 use Rattle.code_rules.specs.Calls.{IsCall, Calls}
 use Rattle.code_rules.specs.StackNumbers.{words_at, HasStack}

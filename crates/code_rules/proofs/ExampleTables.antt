@@ -4,7 +4,7 @@ use Rattle.std.specs.Prelude.{codes}
 use Rattle.std.proofs.lemmas.Option.{same_Some, none-some}
 use Rattle.cell_code.specs.fip_language.Table.{Table, Shape}
 use Rattle.cell_code.specs.fip_language.Values.{Node, End}
-use Rattle.code_rules.specs.Codes.{PlainFunction}
+use Rattle.cell_code.specs.Plain.{PlainFunction}
 use Rattle.code_rules.specs.Tables.{bare, IsSoundShape, IsSoundType, AreSoundTables}
 use Rattle.code_rules.specs.Example.{ints, types, code_of}
 

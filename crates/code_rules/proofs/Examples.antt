@@ -9,7 +9,7 @@ use Rattle.cell_code.specs.declared.kind.Kind.{Kind}
 use Rattle.cell_code.specs.declared.kind.Kind.TheVariants.{Scalar}
 use Rattle.code_rules.specs.declared.rule.SoundRule.{SoundRule}
 use Rattle.code_rules.specs.declared.rule.SoundRule.TheVariants.{S0, S1, S2, S3, S4, S5, S6, S7, S8, S9}
-use Rattle.code_rules.specs.Codes.{PlainFunction}
+use Rattle.cell_code.specs.Plain.{PlainFunction}
 use Rattle.code_rules.specs.Headers.{is_formed}
 use Rattle.code_rules.specs.Flow.{IsReachedAt}
 use Rattle.code_rules.specs.Breaks.{BreaksWithin, BreaksFunction, Breaks, IsSound}

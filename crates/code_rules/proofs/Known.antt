@@ -6,7 +6,8 @@ use Rattle.cell_code.specs.declared.code.Instr.{Instr}
 use Rattle.cell_code.specs.declared.code.Instr.TheVariants as I
 use Rattle.cell_code.specs.declared.kind.Kind.{Kind}
 use Rattle.cell_code.specs.declared.kind.Kind.TheVariants.{Gone, Scalar, Owned}
-use Rattle.code_rules.specs.Codes.{PlainCode, PlainFunction, label_at, results}
+use Rattle.cell_code.specs.Plain.{PlainFunction, PlainCode, results}
+use Rattle.code_rules.specs.Codes.{label_at}
 use Rattle.code_rules.specs.Types.{fields, lent_kind}
 use Rattle.code_rules.specs.Kinds.{at, root_of}
 use Rattle.code_rules.specs.Changes.{written, used_up, moved, tested}

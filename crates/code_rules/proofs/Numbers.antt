@@ -4,7 +4,7 @@ use Rattle.cell_code.specs.fip_base.declared.plain.Stack.{Stack}
 use Rattle.call_groups.specs.declared.search.Call.{Call}
 use Rattle.call_groups.specs.CallGraph as G
 use Rattle.call_groups.specs.Stacks.{LeastSolution}
-use Rattle.code_rules.specs.Codes.{PlainCode}
+use Rattle.cell_code.specs.Plain.{PlainCode}
 use Rattle.code_rules.specs.Calls.{Path, SameGroup, AreRows}
 use Rattle.code_rules.specs.StackNumbers.{IsStack, HasStack}
 

@@ -7,7 +7,8 @@ use Rattle.cell_code.specs.declared.code.Instr.TheVariants as I
 use Rattle.cell_code.specs.declared.kind.From.{From}
 use Rattle.cell_code.specs.declared.kind.Kind.{Kind}
 use Rattle.cell_code.specs.declared.kind.Kind.TheVariants.{Owned}
-use Rattle.code_rules.specs.Codes.{PlainCode, PlainFunction, label_at, results}
+use Rattle.cell_code.specs.Plain.{PlainFunction, PlainCode, results}
+use Rattle.code_rules.specs.Codes.{label_at}
 use Rattle.code_rules.specs.Types.{lent_kind}
 use Rattle.code_rules.specs.Kinds.{at, from_of, root_of}
 use Rattle.code_rules.specs.Changes.{written}

@@ -2,7 +2,7 @@
 use Rattle.std.proofs.Common.{◌≡◌, ℕ, zero, suc, ◌<◌, ◌≤◌, ◌⊎◌, inl, inr, refl, sym, ap, ◌∙◌, arith}
 use Rattle.code_rules.specs.declared.rule.SoundRule.{SoundRule}
 use Rattle.code_rules.specs.declared.rule.SoundRule.TheVariants.{S0, S1, S2, S3, S4, S5, S6, S7, S8, S9}
-use Rattle.code_rules.specs.Codes.{PlainCode}
+use Rattle.cell_code.specs.Plain.{PlainCode}
 use Rattle.code_rules.specs.Breaks.{digit, IsBefore, IsLeast}
 
 abbrev rule_of : ℕ → SoundRule

@@ -10,7 +10,7 @@ use Rattle.cell_code.specs.declared.code.Instr.{Instr}
 use Rattle.cell_code.specs.declared.code.Instr.TheVariants as I
 use Rattle.cell_code.specs.declared.kind.Kind.{Kind}
 use Rattle.cell_code.specs.declared.kind.Kind.TheVariants.{Gone, Scalar, Owned, Lent, Credit}
-use Rattle.code_rules.specs.Codes.{PlainCode, PlainFunction, results}
+use Rattle.cell_code.specs.Plain.{PlainFunction, PlainCode, results}
 use Rattle.code_rules.specs.Types.{fields}
 use Rattle.code_rules.specs.Kinds.{has, at, is_free, is_gone, is_scalar_of, is_owned, is_credit, is_credit_of}
 use Rattle.code_rules.specs.Ranges.{is_constructor}

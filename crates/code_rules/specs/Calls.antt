@@ -9,7 +9,7 @@ use Rattle.cell_code.specs.declared.code.Instr.TheVariants as I
 use Rattle.cell_code.specs.declared.kind.Kind.{Kind}
 use Rattle.call_groups.specs.declared.search.Call.{Call}
 use Rattle.call_groups.specs.CallGraph as G
-use Rattle.code_rules.specs.Codes.{PlainCode, PlainFunction, function_at}
+use Rattle.cell_code.specs.Plain.{PlainFunction, PlainCode, function_at}
 use Rattle.code_rules.specs.Headers.{is_formed}
 use Rattle.code_rules.specs.Flow.{IsReachedAt}
 

@@ -6,7 +6,8 @@ use Rattle.std.specs.Prelude.{Bool, true, false, List, Option, Some, None}
 use Rattle.cell_code.specs.declared.code.Instr.{Instr}
 use Rattle.cell_code.specs.declared.code.Instr.TheVariants as I
 use Rattle.cell_code.specs.declared.kind.Kind.{Kind}
-use Rattle.code_rules.specs.Codes.{PlainCode, PlainFunction, is_weaker}
+use Rattle.cell_code.specs.Plain.{PlainFunction, PlainCode}
+use Rattle.code_rules.specs.Codes.{is_weaker}
 use Rattle.code_rules.specs.Kinds.{are_free}
 use Rattle.code_rules.specs.Handing.{give_all}
 use Rattle.code_rules.specs.Asked.{tail_left}

@@ -6,7 +6,7 @@ use Rattle.cell_code.specs.fip_language.Table.{Table}
 use Rattle.cell_code.specs.fip_base.declared.plain.Param.{Param}
 use Rattle.cell_code.specs.declared.kind.Kind.{Kind}
 use Rattle.cell_code.specs.declared.kind.Kind.TheVariants.{Gone, Scalar, Owned, Lent, Credit}
-use Rattle.code_rules.specs.Codes.{PlainCode, PlainFunction}
+use Rattle.cell_code.specs.Plain.{PlainFunction, PlainCode}
 use Rattle.code_rules.specs.Types.{is_scalar_type, all}
 
 abbrev pub param_kind : Table → Param → Kind

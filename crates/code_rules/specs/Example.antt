@@ -6,14 +6,14 @@
 -- leaves as a credit in register 0, holds the new Cons, and the frame goes on with t and that.
 use Rattle.std.specs.Prelude.{◌≡◌, ◌↔◌, ℕ, false, List, [], ◌∷◌, codes, pos}
 use Rattle.cell_code.specs.fip_language.Table.{Table, Shape}
-use Rattle.cell_code.specs.fip_language.declared.FunKind.TheVariants.{Fip}
+use Rattle.cell_code.specs.declared.code.CodeKind.TheVariants.{Fip}
 use Rattle.cell_code.specs.fip_base.declared.plain.Param.{Param}
 use Rattle.cell_code.specs.declared.code.Instr.{Instr}
 use Rattle.cell_code.specs.declared.code.Instr.TheVariants as I
 use Rattle.cell_code.specs.declared.kind.Kind.{Kind}
 use Rattle.cell_code.specs.declared.kind.Kind.TheVariants.{Gone, Scalar, Owned}
 use Rattle.code_rules.specs.declared.rule.SoundRule.{SoundRule}
-use Rattle.code_rules.specs.Codes.{PlainCode, PlainFunction, LabelMap}
+use Rattle.cell_code.specs.Plain.{LabelMap, PlainFunction, PlainCode}
 use Rattle.code_rules.specs.Tables.{bare, bool_shapes}
 use Rattle.code_rules.specs.Breaks.{Breaks}
 

@@ -12,7 +12,8 @@ use Rattle.cell_code.specs.fip_language.Table.{Table}
 use Rattle.cell_code.specs.fip_base.declared.plain.Param.{Param}
 use Rattle.cell_code.specs.declared.kind.Kind.{Kind}
 use Rattle.cell_code.specs.declared.kind.Kind.TheVariants.{Gone, Scalar, Owned, Lent, Credit}
-use Rattle.code_rules.specs.Codes.{PlainCode, params, credits}
+use Rattle.cell_code.specs.Plain.{PlainCode}
+use Rattle.code_rules.specs.Codes.{params, credits}
 use Rattle.code_rules.specs.Types.{is_scalar_type}
 use Rattle.code_rules.specs.Kinds.{at, is_scalar_of, is_owned_of, is_credit_of}
 use Rattle.code_rules.specs.Changes.{written, used_up}

@@ -15,7 +15,7 @@ use Rattle.cell_code.specs.declared.kind.From.{From}
 use Rattle.cell_code.specs.declared.kind.Kind.{Kind}
 use Rattle.cell_code.specs.declared.kind.Kind.TheVariants.{Gone, Scalar, Owned, Lent, Credit}
 use Rattle.code_rules.specs.Limits.{most_fields, most_credits, most_results, most_registers}
-use Rattle.code_rules.specs.Codes.{PlainCode, PlainFunction, LabelMap}
+use Rattle.cell_code.specs.Plain.{LabelMap, PlainFunction, PlainCode}
 use Rattle.code_rules.specs.Types.{is_type, count}
 use Rattle.code_rules.specs.Kinds.{at, is_owned, same_root, root_of}
 use Rattle.code_rules.specs.Asked.{known_fields}

@@ -10,7 +10,7 @@ use Rattle.cell_code.specs.declared.code.Instr.{Instr}
 use Rattle.cell_code.specs.declared.code.Instr.TheVariants as I
 use Rattle.cell_code.specs.declared.kind.Kind.{Kind}
 use Rattle.cell_code.specs.declared.kind.Kind.TheVariants.{Gone, Scalar, Owned}
-use Rattle.code_rules.specs.Codes.{PlainCode, results}
+use Rattle.cell_code.specs.Plain.{PlainCode, results}
 use Rattle.code_rules.specs.Types.{fields, is_scalar_type, field_kind, lent_kind}
 use Rattle.code_rules.specs.Kinds.{at, set_of, root_of}
 use Rattle.code_rules.specs.Changes.{written, used_up, moved, tested, without}

@@ -7,7 +7,8 @@ use Rattle.std.specs.Prelude.{ℕ, Bool, true, ◌&&◌, is_some, List, [], ◌�
 use Rattle.cell_code.specs.fip_language.Table.{Table}
 use Rattle.cell_code.specs.declared.code.Instr.{Instr}
 use Rattle.cell_code.specs.declared.code.Instr.TheVariants as I
-use Rattle.code_rules.specs.Codes.{PlainCode, PlainFunction, label_at}
+use Rattle.cell_code.specs.Plain.{PlainFunction, PlainCode}
+use Rattle.code_rules.specs.Codes.{label_at}
 use Rattle.code_rules.specs.Types.{count}
 
 abbrev pub are_below : ℕ → List ℕ → Bool

@@ -9,7 +9,8 @@ use Rattle.std.specs.Prelude.{◌≡◌, ℕ, ◌+◌, Bool, true, Option, Some,
 use Rattle.cell_code.specs.fip_base.declared.plain.Stack.{Stack}
 use Rattle.call_groups.specs.Stacks.{LeastSolution, base_frames, own_frames}
 use Rattle.code_rules.specs.Limits.{frame_words}
-use Rattle.code_rules.specs.Codes.{PlainCode, PlainFunction, function_at, is_fip}
+use Rattle.cell_code.specs.Plain.{PlainFunction, PlainCode, function_at}
+use Rattle.code_rules.specs.Codes.{is_fip}
 use Rattle.code_rules.specs.Calls.{Calls}
 
 -- Function n is there and fip.

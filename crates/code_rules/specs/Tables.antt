@@ -7,7 +7,7 @@ use Rattle.std.specs.Prelude.{◌≡◌, ℕ, ◌<◌, ◌≤◌, List, [], ◌�
 use Rattle.cell_code.specs.fip_language.Table.{Table, Shape, constructors, HasType}
 use Rattle.cell_code.specs.fip_language.Values.{Value}
 use Rattle.code_rules.specs.Limits.{most_types, most_functions, most_fields}
-use Rattle.code_rules.specs.Codes.{PlainCode, PlainFunction, function_at}
+use Rattle.cell_code.specs.Plain.{PlainFunction, PlainCode, function_at}
 
 -- a constructor without fields
 abbrev pub bare : List ℕ → Shape

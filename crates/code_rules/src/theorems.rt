@@ -6,7 +6,7 @@ ghost use Rattle.cell_code.specs.declared.kind.Kind.{Kind};
 ghost use Rattle.call_groups.specs.declared.search.Call.{Call};
 ghost use Rattle.call_groups.specs.CallGraph as G;
 ghost use Rattle.code_rules.specs.declared.rule.SoundRule.{SoundRule};
-ghost use Rattle.code_rules.specs.Codes.{PlainCode, PlainFunction};
+ghost use Rattle.cell_code.specs.Plain.{PlainFunction, PlainCode};
 ghost use Rattle.code_rules.specs.Leaves.{Leaves};
 ghost use Rattle.code_rules.specs.Flow.{KnownAt};
 ghost use Rattle.code_rules.specs.Calls.{SameGroup, AreRows};

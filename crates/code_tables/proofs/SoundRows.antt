@@ -10,7 +10,7 @@ use Rattle.fip_language.specs.Table.{Table, Shape, shapes, constructors, no_fiel
 use Rattle.cell_code.specs.declared.code.Code.{Code}
 use Rattle.cell_code.specs.declared.code.Function.{Function}
 use Rattle.code_rules.specs.Limits.{most_types, most_functions, most_fields}
-use Rattle.code_rules.specs.Codes.{PlainFunction, plain, plain_function, function_at}
+use Rattle.cell_code.specs.Plain.{PlainFunction, plain_function, plain, function_at}
 use Rattle.code_rules.specs.Headers.{are_types}
 use Rattle.code_rules.specs.Tables.{bare, bool_shapes, IsSoundShape, IsSoundType, AreSoundTables}
 use Rattle.code_tables.specs.Apart.{none_met, is_any_name, is_some_name, apart, shape_name, shape_names, function_name, function_names}

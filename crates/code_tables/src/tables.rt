@@ -1,7 +1,7 @@
 // The tables of a code.
 ghost use Rattle.std.specs.Prelude.{◌≡◌, ◌↔◌, ◌≤◌, ◌^◌, ◌<◌, IfOk, IsTrue, length, map};
 ghost use Rattle.fip_language.specs.Table.{constructors};
-ghost use Rattle.code_rules.specs.Codes.{plain, plain_function};
+ghost use Rattle.cell_code.specs.Plain.{plain};
 ghost use Rattle.code_rules.specs.Headers.{are_types};
 ghost use Rattle.code_rules.specs.Tables.{AreSoundTables};
 ghost use Rattle.code_tables.specs.Apart.{none_met, is_any_name, is_some_name, apart, shape_names, function_names};

@@ -6,7 +6,8 @@ use Rattle.cell_code.specs.declared.code.Instr.{Instr}
 use Rattle.cell_code.specs.declared.kind.Kind.{Kind}
 use Rattle.code_rules.specs.declared.rule.SoundRule.{SoundRule}
 use Rattle.code_rules.specs.declared.rule.SoundRule.TheVariants.{S0, S1, S2, S3, S4, S5, S6, S7, S8, S9}
-use Rattle.code_rules.specs.Codes.{PlainCode, PlainFunction, LabelMap, label_at, is_fip}
+use Rattle.cell_code.specs.Plain.{LabelMap, PlainFunction, PlainCode}
+use Rattle.code_rules.specs.Codes.{label_at, is_fip}
 use Rattle.code_rules.specs.Fitting.{fit_all}
 use Rattle.code_rules.specs.Ranges.{in_range}
 use Rattle.code_rules.specs.Asked.{sources, destinations}

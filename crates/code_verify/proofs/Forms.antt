@@ -6,7 +6,7 @@ use Rattle.std.proofs.lemmas.Option.{same_Some, none-some}
 use Rattle.fip_language.specs.Table.{Table}
 use Rattle.cell_code.specs.declared.kind.Label.{Label}
 use Rattle.code_rules.specs.Limits.{most_credits, most_results, most_registers}
-use Rattle.code_rules.specs.Codes.{PlainCode, PlainFunction, plain_label}
+use Rattle.cell_code.specs.Plain.{PlainFunction, PlainCode, plain_label}
 use Rattle.code_rules.specs.Headers.{are_params, are_sizes, are_types, are_good_kinds, are_good_maps, is_formed}
 
 -- the parts that are used

@@ -5,7 +5,8 @@ use Rattle.cell_code.specs.declared.code.Code.{Code}
 use Rattle.cell_code.specs.declared.code.Function.{Function}
 use Rattle.cell_code.specs.declared.code.Instr.{Instr}
 use Rattle.cell_code.specs.declared.kind.Kind.{Kind}
-use Rattle.code_rules.specs.Codes.{PlainCode, PlainFunction, LabelMap, plain, plain_function, label_at}
+use Rattle.cell_code.specs.Plain.{LabelMap, PlainFunction, PlainCode, plain_function, plain}
+use Rattle.code_rules.specs.Codes.{label_at}
 use Rattle.code_rules.specs.Entry.{entry}
 use Rattle.code_rules.specs.Flow.{IsInstr}
 use Rattle.code_rules.specs.Handing.{kept_if}

@@ -10,7 +10,8 @@ use Rattle.call_groups.specs.declared.search.Call.{Call}
 use Rattle.call_groups.specs.declared.search.Partition.{Partition}
 use Rattle.code_rules.specs.declared.rule.SoundRule.{SoundRule}
 use Rattle.code_rules.specs.declared.rule.SoundRule.TheVariants.{S0, S1, S2, S3, S4, S5, S6, S7, S8, S9}
-use Rattle.code_rules.specs.Codes.{PlainCode, PlainFunction, function_at, is_fip}
+use Rattle.cell_code.specs.Plain.{PlainFunction, PlainCode, function_at}
+use Rattle.code_rules.specs.Codes.{is_fip}
 use Rattle.code_rules.specs.Headers.{is_formed}
 use Rattle.code_rules.specs.Tables.{AreSoundTables}
 use Rattle.code_rules.specs.Calls.{Calls, CallsAt, SameGroup, AreRows}

@@ -2,7 +2,7 @@
 use Rattle.std.proofs.Common.{◌≡◌, ℕ, Result, Ok, Err, ap, subst}
 use Rattle.code_rules.specs.declared.rule.SoundRule.{SoundRule}
 use Rattle.code_rules.specs.declared.rule.SoundRule.TheVariants.{S0}
-use Rattle.code_rules.specs.Codes.{PlainCode}
+use Rattle.cell_code.specs.Plain.{PlainCode}
 use Rattle.code_rules.specs.Breaks.{IsLeast}
 use Rattle.code_verify.specs.declared.accept.VerifyError.{VerifyError}
 use Rattle.code_verify.specs.declared.accept.VerifyError.TheVariants.{Unsound, NoMemory}

@@ -18,7 +18,8 @@ use Rattle.cell_code.specs.Runnable.{body_of, AreBelow, AreOthers, CanCall, Cove
 use Rattle.code_rules.specs.declared.rule.SoundRule.TheVariants.{S1, S2, S3, S4, S9}
 use Rattle.code_rules.specs.Limits.{most_fields}
 use Rattle.code_rules.specs.Types.{fields, fields_of, count}
-use Rattle.code_rules.specs.Codes.{PlainCode, PlainFunction, plain, plain_function, function_at, params, credits, results, params_of, credits_of, label_at, is_fip}
+use Rattle.cell_code.specs.Plain.{PlainFunction, PlainCode, plain_function, plain, function_at, results}
+use Rattle.code_rules.specs.Codes.{params, credits, params_of, credits_of, label_at, is_fip}
 use Rattle.code_rules.specs.Kinds.{at, has}
 use Rattle.code_rules.specs.Tables.{AreSoundTables}
 use Rattle.code_rules.specs.Headers.{is_formed}

@@ -15,7 +15,8 @@ use Rattle.cell_code.specs.declared.code.Instr.{Instr}
 use Rattle.cell_code.specs.declared.code.Instr.TheVariants as I
 use Rattle.code_rules.specs.declared.rule.SoundRule.TheVariants.{S7, S8}
 use Rattle.code_rules.specs.Limits as limits
-use Rattle.code_rules.specs.Codes.{PlainCode, PlainFunction, plain, plain_function, function_at, is_fip, is_weak, is_weaker}
+use Rattle.cell_code.specs.Plain.{PlainFunction, PlainCode, plain_function, plain, function_at}
+use Rattle.code_rules.specs.Codes.{is_fip, is_weak, is_weaker}
 use Rattle.code_rules.specs.Headers.{is_formed}
 use Rattle.code_rules.specs.Tables.{AreSoundTables}
 use Rattle.code_rules.specs.Endings.{releases}

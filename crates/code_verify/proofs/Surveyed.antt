@@ -9,7 +9,7 @@ use Rattle.call_groups.specs.CallGraph.{In}
 use Rattle.call_groups.specs.declared.search.Call.{Call}
 use Rattle.code_rules.specs.declared.rule.SoundRule.{SoundRule}
 use Rattle.code_rules.specs.declared.rule.SoundRule.TheVariants.{S0, S1, S2, S3, S4, S5, S6, S7, S8, S9}
-use Rattle.code_rules.specs.Codes.{PlainCode, PlainFunction, function_at}
+use Rattle.cell_code.specs.Plain.{PlainFunction, PlainCode, function_at}
 use Rattle.code_rules.specs.Headers.{is_formed}
 use Rattle.code_rules.specs.Flow.{is_as_asked, IsInstr, IsReachedAt}
 use Rattle.code_rules.specs.Calls.{Calls, CallsAt}

@@ -9,7 +9,8 @@ use Rattle.cell_code.specs.declared.code.Instr.TheVariants as I
 use Rattle.cell_code.specs.declared.kind.Kind.{Kind}
 use Rattle.code_rules.specs.declared.rule.SoundRule.{SoundRule}
 use Rattle.code_rules.specs.declared.rule.SoundRule.TheVariants.{S1, S5}
-use Rattle.code_rules.specs.Codes.{PlainCode, PlainFunction, label_at}
+use Rattle.cell_code.specs.Plain.{PlainFunction, PlainCode}
+use Rattle.code_rules.specs.Codes.{label_at}
 use Rattle.code_rules.specs.Handing.{kept_if}
 use Rattle.code_rules.specs.Ranges.{in_range}
 use Rattle.code_rules.specs.Leaves.{Leaves}

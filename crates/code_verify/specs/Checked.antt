@@ -3,7 +3,7 @@
 use Rattle.std.specs.Prelude.{◌≡◌, ℕ, ℤ, true, List, Option, Some, None, slice_get, FitsSigned}
 use Rattle.std.specs.Int.{w64}
 use Rattle.fip_base.specs.declared.plain.Stack.{Stack}
-use Rattle.code_rules.specs.Codes.{PlainCode, PlainFunction, function_at}
+use Rattle.cell_code.specs.Plain.{PlainFunction, PlainCode, function_at}
 use Rattle.code_rules.specs.Headers.{is_formed}
 use Rattle.code_rules.specs.StackNumbers.{HasStack}
 use Rattle.cell_code.specs.declared.code.Instr.{Instr}

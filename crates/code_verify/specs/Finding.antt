@@ -7,7 +7,7 @@ use Rattle.cell_code.specs.declared.code.Instr.{Instr}
 use Rattle.cell_code.specs.declared.kind.Kind.{Kind}
 use Rattle.code_rules.specs.declared.rule.SoundRule.{SoundRule}
 use Rattle.code_rules.specs.declared.rule.SoundRule.TheVariants.{S0, S1, S2, S3, S4, S5, S6, S7, S8, S9}
-use Rattle.code_rules.specs.Codes.{PlainCode, PlainFunction}
+use Rattle.cell_code.specs.Plain.{PlainFunction, PlainCode}
 use Rattle.code_rules.specs.Leaves.{Leaves}
 use Rattle.code_rules.specs.Flow.{is_as_asked, IsInstr, Comes, KnownAt, IsReachedAt}
 use Rattle.code_rules.specs.Endings.{is_end}

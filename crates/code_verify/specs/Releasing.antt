@@ -7,7 +7,7 @@ use Rattle.call_groups.specs.CallGraph.{In}
 use Rattle.cell_code.specs.Runnable.{IsRunnable}
 use Rattle.cell_code.specs.declared.code.Code.{Code}
 use Rattle.cell_code.specs.declared.code.Function.{Function}
-use Rattle.code_rules.specs.Codes.{PlainCode, plain}
+use Rattle.cell_code.specs.Plain.{PlainCode, plain}
 use Rattle.code_rules.specs.Tables.{AreSoundTables}
 use Rattle.code_rules.specs.Breaks.{IsSound}
 use Rattle.code_verify.specs.declared.walk.DropType.{DropType}

@@ -8,7 +8,8 @@ use Rattle.cell_code.specs.declared.kind.Kind.{Kind}
 use Rattle.cell_code.specs.declared.kind.Kind.TheVariants.{Gone, Scalar, Owned, Lent, Credit}
 use Rattle.code_rules.specs.declared.rule.SoundRule.{SoundRule}
 use Rattle.code_rules.specs.declared.rule.SoundRule.TheVariants.{S1, S4, S5, S7}
-use Rattle.code_rules.specs.Codes.{PlainCode, PlainFunction, is_fip}
+use Rattle.cell_code.specs.Plain.{PlainFunction, PlainCode}
+use Rattle.code_rules.specs.Codes.{is_fip}
 use Rattle.code_rules.specs.Kinds.{at}
 use Rattle.code_rules.specs.Ranges.{in_range}
 use Rattle.code_rules.specs.Leaves.{Leaves}

@@ -11,7 +11,8 @@ use Rattle.cell_code.specs.declared.code.Instr.{Instr}
 use Rattle.cell_code.specs.declared.kind.Kind.{Kind}
 use Rattle.code_rules.specs.declared.rule.SoundRule.{SoundRule}
 use Rattle.code_rules.specs.declared.rule.SoundRule.TheVariants.{S8, S9}
-use Rattle.code_rules.specs.Codes.{PlainCode, PlainFunction, function_at, is_fip}
+use Rattle.cell_code.specs.Plain.{PlainFunction, PlainCode, function_at}
+use Rattle.code_rules.specs.Codes.{is_fip}
 use Rattle.code_rules.specs.Limits.{frame_words}
 use Rattle.code_rules.specs.Headers.{is_formed}
 use Rattle.code_rules.specs.Leaves.{Leaves}

@@ -1,15 +1,16 @@
 // Verifying a code.
-ghost use Rattle.std.specs.Prelude.{◌≡◌, ◌<◌, ◌==◌, not, ℕ, [], length, map, slice_get, Some, Err, IfOk, IsTrue};
+ghost use Rattle.std.specs.Prelude.{◌≡◌, ◌<◌, ◌==◌, not, ℕ, [], length, map, slice_get, Some, Err, IfOk, OnOk, IsTrue};
 ghost use Rattle.std.specs.Prelude.{if◌then◌else◌};
 ghost use Rattle.call_groups.specs.CallGraph.{group_number};
 ghost use Rattle.code_rules.specs.declared.rule.SoundRule.{SoundRule};
 ghost use Rattle.code_rules.specs.declared.rule.SoundRule.TheVariants.{S8, S9};
 ghost use Rattle.code_rules.specs.Breaks.{IsLeast, IsSound};
-ghost use Rattle.code_rules.specs.Codes.{plain, is_fip};
+ghost use Rattle.cell_code.specs.Plain.{plain};
+ghost use Rattle.code_rules.specs.Codes.{is_fip};
 ghost use Rattle.code_rules.specs.Tables.{AreSoundTables};
 ghost use Rattle.code_rows.specs.Noting.{broken, noted_unless, Answers};
 ghost use Rattle.code_verify.specs.Surveying.{IsFoundOf, OwnBelow, own_noted, row_at, frame_of};
-ghost use Rattle.code_verify.specs.Survey.{IsSurvey};
+ghost use Rattle.code_verify.specs.Survey.{IsSurvey, IsWalked};
 ghost use Rattle.code_verify.specs.Releasing.{AreShort};
 ghost use Rattle.code_verify.specs.Checked.{HaveStacks};
 ghost use Rattle.code_verify.specs.declared.accept.VerifyError.TheVariants.{Unsound};
@@ -55,37 +56,73 @@ pub fn verify(alloc: Global, code: Code) -> Result<Verified, VerifyError>
 {
     match examine(alloc, &code) {
         Ok(survey) => match stacks_of(alloc, &code, &survey) {
-            Ok(stacks) => settle(code, stacks, survey),
+            Ok(stacks) => match settle(code, stacks, survey.walked) {
+                Ok(verified) => Ok(verified),
+                Err(_) => Err(VerifyError::NoMemory),
+            },
             Err(_) => Err(VerifyError::NoMemory),
         },
         Err(error) => Err(error),
     }
 }
 
+/// Accepts a code that is known to be sound, as that of a lowered program is, with what runs of its functions hold of the
+/// stack. What it gives is what `verify` gives; but neither the groups of calls nor the stack numbers are computed.
+/// NoMemory: no memory is left, or a function has more than 4,294,967,295 instructions.
+pub fn verify_sound(
+    alloc: Global,
+    code: Code,
+    stacks: Vec<Option<Stack>>,
+) -> Result<Verified, NoMemory>
+    requires sound { IsSound (plain code) }
+    requires stacks { HaveStacks (plain code) stacks.items }
+    ensures same { IfOk result (λ v. v.code ≡ code) }
+{
+    has_sound_tables(alloc, &code)?;
+    let walked = walked_of(alloc, &code)?;
+    settle(code, stacks, walked)
+}
+
+// Sound code has sound tables.
+fn has_sound_tables(alloc: Global, code: &Code) -> Result<(), NoMemory>
+    requires sound { IsSound (plain code.now) }
+    ensures tables { OnOk result (AreSoundTables (plain code.now)) }
+{
+    match are_sound_tables(alloc, code) {
+        Ok(sound) => { if sound { Ok(()) } else { unreachable!() } }
+        Err(error) => Err(error),
+    }
+}
+
 // What the functions of a code were found to do, one after another: the least violation but S8; the calls that can be
-// reached, those outside tail position, and the types at the Drops; and the groups that the calls make.
+// reached, those outside tail position, and the types at the Drops.
 #[derive(Drop)]
-pub struct Survey {
+pub struct Walked {
     least: Least,
     calls: Vec<Vec<Call>>,
     waiting: Vec<Vec<Waiting>>,
     drops: Vec<Vec<DropType>>,
+}
+
+// The same with the groups that the calls make.
+#[derive(Drop)]
+pub struct Survey {
+    walked: Walked,
     groups: Partition,
 }
 
 // A sound code is accepted, where its instructions can be numbered.
-fn settle(code: Code, stacks: Vec<Option<Stack>>, survey: Survey) -> Result<Verified, VerifyError>
-    requires survey { IsSurvey (plain code) survey }
+fn settle(code: Code, stacks: Vec<Option<Stack>>, walked: Walked) -> Result<Verified, NoMemory>
+    requires walked { IsWalked (plain code) walked }
     requires tables { AreSoundTables (plain code) }
     requires sound { IsSound (plain code) }
     requires stacks { HaveStacks (plain code) stacks.items }
     ensures same { IfOk result (λ v. v.code ≡ code) }
-    ensures memory { (n i : ℕ) (rule : SoundRule) → result ≡ Err (Unsound n i rule) → ⊥ }
 {
     if !are_short(&code.functions) {
-        return Err(VerifyError::NoMemory);
+        return Err(NoMemory);
     }
-    Ok(Verified::new(code, stacks, survey.drops))
+    Ok(Verified::new(code, stacks, walked.drops))
 }
 
 // Whether no function has so many instructions that their numbers don't fit in 32 bits.
@@ -144,17 +181,26 @@ fn examine_functions(alloc: Global, code: &Code) -> Result<Survey, VerifyError>
     }
 }
 
-// What all functions are found to do.
+// What all functions are found to do, and the groups that their calls make.
 fn survey_of(alloc: Global, code: &Code) -> Result<Survey, NoMemory>
     ensures { IfOk result (λ s. IsSurvey (plain code.now) s) }
 {
-    let table = Table::new(alloc, &code.types)?;
-    survey_over(alloc, code, &table)
+    let walked = walked_of(alloc, code)?;
+    let groups = partition_of(alloc, &walked.calls)?;
+    Ok(Survey { walked, groups })
 }
 
-fn survey_over<'a>(alloc: Global, code: &'a Code, table: &'a Table<'a>) -> Result<Survey, NoMemory>
+// What all functions are found to do.
+fn walked_of(alloc: Global, code: &Code) -> Result<Walked, NoMemory>
+    ensures { IfOk result (λ w. IsWalked (plain code.now) w) }
+{
+    let table = Table::new(alloc, &code.types)?;
+    walked_over(alloc, code, &table)
+}
+
+fn walked_over<'a>(alloc: Global, code: &'a Code, table: &'a Table<'a>) -> Result<Walked, NoMemory>
     requires types { table.now ≡ code.now.types }
-    ensures { IfOk result (λ s. IsSurvey (plain code.now) s) }
+    ensures { IfOk result (λ w. IsWalked (plain code.now) w) }
 {
     let mut least = Least::new();
     let mut calls = Vec::new(alloc);
@@ -167,13 +213,11 @@ fn survey_over<'a>(alloc: Global, code: &'a Code, table: &'a Table<'a>) -> Resul
         waiting.push(found.waiting)?;
         drops.push(found.drops)?;
     }
-    let groups = partition_of(alloc, &calls)?;
-    Ok(Survey {
+    Ok(Walked {
         least,
         calls,
         waiting,
         drops,
-        groups,
     })
 }
 
@@ -228,7 +272,7 @@ fn least_of(code: &Code, survey: &Survey) -> Least
     requires survey { IsSurvey (plain code.now) survey.now }
     ensures { let all = length (plain code.now).functions in Answers (OwnBelow (plain code.now) all all) result.first }
 {
-    let mut least = survey.least;
+    let mut least = survey.walked.least;
     for number in 0..code.functions.len() {
         note_own(function_at(code, number), number, survey, &mut least);
     }
@@ -238,11 +282,11 @@ fn least_of(code: &Code, survey: &Survey) -> Least
 // Notes the calls of its own group outside tail position of a function, where it is fip.
 fn note_own(function: &Function, number: usize, survey: &Survey, least: &mut Least)
     ensures { least.new.first ≡ (if is_fip function.now.kind then
-        own_noted survey.now.groups number least.old.first (row_at survey.now.waiting.items number)
+        own_noted survey.now.groups number least.old.first (row_at survey.now.walked.waiting.items number)
         else least.old.first) }
 {
     if is_fip(function) {
-        if let Some(calls) = survey.waiting.get(number) {
+        if let Some(calls) = survey.walked.waiting.get(number) {
             note_calls(number, calls, &survey.groups, least);
         }
     }
@@ -278,7 +322,7 @@ fn stacks_of(alloc: Global, code: &Code, survey: &Survey) -> Result<Vec<Option<S
     ensures { IfOk result (λ v. HaveStacks (plain code.now) v.items) }
 {
     let frames = frames_of(alloc, code)?;
-    stacks(alloc, &survey.calls, &survey.groups, &frames)
+    stacks(alloc, &survey.walked.calls, &survey.groups, &frames)
 }
 
 // The words of the frames of the functions that are fip.

@@ -9,6 +9,6 @@ mod accept;
 mod verified;
 mod walk;
 
-pub use accept::{VerifyError, verify};
+pub use accept::{VerifyError, verify, verify_sound};
 pub use code_rules::SoundRule;
 pub use verified::Verified;

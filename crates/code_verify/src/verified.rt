@@ -3,7 +3,7 @@ ghost use Rattle.std.specs.Prelude.{◌≡◌, ◌↔◌, ◌<◌, ◌≤◌, �
 ghost use Rattle.call_groups.specs.CallGraph.{In};
 ghost use Rattle.cell_code.specs.Runnable.{IsRunnable};
 ghost use Rattle.code_rules.specs.Breaks.{IsSound};
-ghost use Rattle.code_rules.specs.Codes.{plain};
+ghost use Rattle.cell_code.specs.Plain.{plain};
 ghost use Rattle.code_rules.specs.StackNumbers.{HasStack};
 ghost use Rattle.code_rules.specs.Tables.{AreSoundTables};
 ghost use Rattle.code_verify.specs.Checked.{HasMachineInts, ReleasesAt, stack_at};

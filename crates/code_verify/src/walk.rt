@@ -1,7 +1,8 @@
 // A walk over a function's instructions.
 ghost use Rattle.std.specs.Prelude.{◌≡◌, ◌<◌, ◌++◌, [], slice_get, length, None, Some, IfOk, OnOk, true, FitsSigned};
 ghost use Rattle.std.specs.Int.{w64};
-ghost use Rattle.code_rules.specs.Codes.{plain, plain_function, label_at};
+ghost use Rattle.cell_code.specs.Plain.{plain_function, plain};
+ghost use Rattle.code_rules.specs.Codes.{label_at};
 ghost use Rattle.code_rules.specs.Kinds.{at};
 ghost use Rattle.code_rules.specs.Ranges.{in_range};
 ghost use Rattle.code_rules.specs.Headers as headers;

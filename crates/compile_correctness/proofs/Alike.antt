@@ -8,10 +8,10 @@ use Rattle.command_run.specs.fip_trees.Tree.{Instance, Program}
 use Rattle.command_words.specs.Words.{Room}
 use Rattle.command_run.specs.session_semantics.command_outcome.declared.failure.Failure.{Failure}
 use Rattle.command_run.specs.session_semantics.command_outcome.declared.failure.Failure.TheVariants as F
-use Rattle.command_run.specs.code_file.Plain.{PlainCode}
+use Rattle.command_run.specs.cell_lower.cell_code.Plain.{PlainCode}
 use Rattle.command_run.specs.source_report.Report.{IsAccepted}
 use Rattle.command_run.proofs.source_report.Once.{accepted_not, accepted_once}
-use Rattle.command_run.specs.command_source.Codes.{sound_view, IsSoundFile, HasFunction, names_one}
+use Rattle.command_run.specs.command_source.Codes.{IsSoundFile, HasFunction, names_one}
 use Rattle.command_run.specs.command_source.ProgramCode.{IsCompiledFile}
 use Rattle.command_run.specs.command_source.Roots.{root_named}
 use Rattle.command_run.specs.command_source.Wanted.{Compiled, IsCompiled, IsReady, MissesCode, Refuses, of_entry}
@@ -26,13 +26,13 @@ use Rattle.compile_correctness.proofs.Rooted.{names_there, names_found, not_miss
 pub ran_function : (bytes name input : List ℕ) (room : Room) (gauge : Bool) (e : Result (List ℕ) Failure) → RunsCode bytes name input room gauge e → HasFunction bytes name
 ran_function bytes name input room gauge e h =
     let x = code_run_there bytes name input room gauge e h in
-    ((x.0).code, (x.1).file, names_there name (sound_view (x.0).code).functions (x.0).number (x.0).function (x.1).some (x.1).there (x.1).named)
+    ((x.0).code, (x.1).file, names_there name (x.0).code.functions (x.0).number (x.0).function (x.1).some (x.1).there (x.1).named)
 
 -- no function has the name, or one has
-pub none_or_one : (bytes name : List ℕ) (code : PlainCode) → IsSoundFile bytes code → names_one name (sound_view code).functions ≡ false → HasFunction bytes name → ⊥
+pub none_or_one : (bytes name : List ℕ) (code : PlainCode) → IsSoundFile bytes code → names_one name code.functions ≡ false → HasFunction bytes name → ⊥
 none_or_one bytes name code h none (d, k, one) =
     let same = code_same bytes d code k h in
-    true≢false (sym (subst (λ c. names_one name (sound_view c).functions ≡ true) same one) ∙ none)
+    true≢false (sym (subst (λ c. names_one name c.functions ≡ true) same one) ∙ none)
 
 module _ (source file name : List ℕ) (h : IsCompiledFile source file) where
   -- where a source has the entry, its file has it
@@ -41,14 +41,14 @@ module _ (source file name : List ℕ) (h : IsCompiledFile source file) where
       let p = accepted_once source ready.program (h.of').program ready.accepted (h.of').accepted in
       (h.code, compiled_sound source file h, by (root_named name (h.of').program.instances) refl (subst (λ (q : Program). IsCompiled (root_named name q.instances)) p ready.has))
     where
-      by : (o : Option Instance) → root_named name (h.of').program.instances ≡ o → IsCompiled o → names_one name (sound_view h.code).functions ≡ true
+      by : (o : Option Instance) → root_named name (h.of').program.instances ≡ o → IsCompiled o → names_one name h.code.functions ≡ true
       by None e k = absurd k
       by (Some d) e k = root_has_function source name h.code h.of' d e k
 
   -- where it hasn't, its file hasn't
   entry_missing : (p : Program) (r : Refusal) → IsAccepted source p → MissesCode (root_named name p.instances) name r → HasFunction file name → ⊥
   entry_missing p r accepted misses (code, sound, one) =
-      let x = names_found name (sound_view code).functions one in
+      let x = names_found name code.functions one in
       not_missed source name code (compiled_code source file code h sound) (x.0).number (x.0).function (x.0).there (x.0).called x.1 p accepted r misses
 
 -- what a source is refused for that has a compiled file

@@ -15,7 +15,7 @@ use Rattle.code_bytes.specs.Bytes.{label_bytes, function_bytes, functions_bytes,
 use Rattle.code_bytes.specs.Operands.{most_operands}
 use Rattle.code_bytes.proofs.Lengths.{AllHaveFew, IsShort, shorter, together, some_short, LabelsFew, bytes_for, function_short, code_short, maps_few}
 use Rattle.command_run.specs.code_file.CodeText.{CodeText, function_text}
-use Rattle.command_run.specs.code_file.Plain.{PlainLabel, PlainFunction, PlainCode}
+use Rattle.command_run.specs.cell_lower.cell_code.Plain.{PlainFunction, PlainCode}
 use Rattle.command_run.specs.code_file.Spelling.{each}
 use Rattle.command_run.specs.code_file.declared.tags.Version.TheVariants.{Second}
 use Rattle.command_run.proofs.separation.Sound.{formed}
@@ -23,15 +23,14 @@ use Rattle.command_run.specs.cell_lower.code_size.Bounds.{most_instructions, mos
 use Rattle.command_run.proofs.machine_correctness.separation_kinds.Basics.{both}
 use Rattle.command_run.specs.lowering_relation.LoweredBodies.{has_function, one_more, if_function, function_of}
 use Rattle.command_run.specs.code_rules.Breaks.{IsSound}
-use Rattle.command_run.specs.code_rules.Codes as S
 use Rattle.command_run.specs.code_rules.Headers.{is_formed, are_good_maps, are_params, are_sizes, are_types}
 use Rattle.command_run.specs.code_rules.Limits.{most_credits, most_registers, most_results}
 use Rattle.command_run.specs.tail_groups.Members.{AreMembers}
 use Rattle.command_run.specs.tail_groups.Registers as G
 use Rattle.command_run.specs.source_report.Report.{IsAccepted}
 use Rattle.command_run.proofs.source_report.Once.{accepted_once}
-use Rattle.command_run.specs.command_source.Codes.{sound_label, sound_function, sound_view}
 use Rattle.command_run.specs.command_source.ProgramCode as C
+use Rattle.command_run.proofs.machine_correctness.Entries.{plain_header}
 use Rattle.command_run.specs.command_source.ProgramCode.{IsCodeOfSource, IsUncompiled}
 use Rattle.command_run.proofs.machine_correctness.Peaks.{header_at, counted_at}
 
@@ -45,7 +44,7 @@ name_short d = by d.root
     by false = omega arith
 
 -- the label maps of a function that is formed
-good_maps : (c : S.PlainCode) (f : S.PlainFunction) → is_formed c f ≡ true → are_good_maps c.types f 0 f.labels ≡ true
+good_maps : (c : PlainCode) (f : PlainFunction) → is_formed c f ≡ true → are_good_maps c.types f 0 f.labels ≡ true
 good_maps c f e =
     let a = both (not (length f.instrs == 0)) _ e in
     let b = both (not (nat_lt f.registers (length f.params + length f.credits))) _ a.1 in
@@ -62,26 +61,25 @@ pub record IsSized (p : Program) (code : PlainCode) : Type 0 where
   pub types : code.types ≡ p.types
   pub members : List Member
   pub found : AreMembers p.instances members
-  pub functions : map C.plain_header code.functions ≡ headers members p.instances
+  pub functions : map plain_header code.functions ≡ headers members p.instances
   pub within : C.AreWithin p code.functions
   pub narrow : C.AreNarrow p code.functions
-  pub sound : IsSound (sound_view code)
+  pub sound : IsSound code
 
 module _ (p : Program) (code : PlainCode) (h : IsSized p code) where
   labels_few : (n : ℕ) (f : PlainFunction) → slice_get code.functions n ≡ Some f → LabelsFew (most_constructors p.types) f.labels
   labels_few n f there i l at =
-      let there_view : S.function_at (sound_view code) n ≡ Some (sound_function f) = slice_get-map sound_function code.functions n ∙ ap (option_map sound_function) there in
-      let good = good_maps (sound_view code) (sound_function f) (formed (sound_view code) n (sound_function f) h.sound there_view) in
+      let good = good_maps code f (formed code n f h.sound there) in
       subst (λ tb. AllHaveFew (most_constructors tb) l.kinds) h.types
-      (maps_few code.types (sound_function f) 0 (map sound_label f.labels) good i (sound_label l) (slice_get-map sound_label f.labels i ∙ ap (option_map sound_label) at))
+      (maps_few code.types f 0 f.labels good i l at)
 
   each_short : (i n : ℕ) (d : Instance) (f : PlainFunction) → slice_get p.instances i ≡ Some d → function_of p.instances i ≡ Some n → slice_get code.functions n ≡ Some f → IsShort (function_text Second f) (function_bytes p.types (most_constructors p.types) (most_operands p.instances d) d)
   each_short i n d f at number there =
       let ms = h.members in
       let zeroth : 0 + i ≡ i = omega arith in
-      let header : C.plain_header f ≡ header_of (registers ms i) d =
-      same_Some (C.plain_header f) (header_of (registers ms i) d)
-      (sym (slice_get-map C.plain_header code.functions n ∙ ap (option_map C.plain_header) there) ∙ ap (λ hs. slice_get hs n) h.functions ∙ header_at ms 0 p.instances i n d number at ∙ ap (λ k. Some (header_of (registers ms k) d)) zeroth) in
+      let header : plain_header f ≡ header_of (registers ms i) d =
+      same_Some (plain_header f) (header_of (registers ms i) d)
+      (sym (slice_get-map plain_header code.functions n ∙ ap (option_map plain_header) there) ∙ ap (λ hs. slice_get hs n) h.functions ∙ header_at ms 0 p.instances i n d number at ∙ ap (λ k. Some (header_of (registers ms k) d)) zeroth) in
       let counted : registers ms i ≡ G.registers d = counted_at p.instances ms i d h.found at (slice_get ms i) refl in
       let own : f.registers ≡ G.registers d = ap (λ (q : Header). q.registers) header ∙ counted in
       let name = ap (λ (q : Header). length q.name) header in
@@ -102,21 +100,21 @@ abbrev AreShort : Table → ℕ → List Instance → List Instance → List Pla
 AreShort tb m all ds fs = (j n : ℕ) (d : Instance) (f : PlainFunction) → slice_get ds j ≡ Some d → function_of ds j ≡ Some n → slice_get fs n ≡ Some f → IsShort (function_text Second f) (function_bytes tb m (most_operands all d) d)
 
 module _ (tb : Table) (m : ℕ) (all : List Instance) where
-  first_short : (r : ℕ) (d : Instance) (ds : List Instance) (hs : List Header) (fs : List PlainFunction) → has_function d.kind ≡ true → map C.plain_header fs ≡ header_of r d ∷ hs → ((gs : List PlainFunction) → map C.plain_header gs ≡ hs → AreShort tb m all ds gs → IsShort (each (function_text Second) gs) (functions_bytes tb m all ds)) → AreShort tb m all (d ∷ ds) fs → IsShort (each (function_text Second) fs) (function_bytes tb m (most_operands all d) d + functions_bytes tb m all ds)
+  first_short : (r : ℕ) (d : Instance) (ds : List Instance) (hs : List Header) (fs : List PlainFunction) → has_function d.kind ≡ true → map plain_header fs ≡ header_of r d ∷ hs → ((gs : List PlainFunction) → map plain_header gs ≡ hs → AreShort tb m all ds gs → IsShort (each (function_text Second) gs) (functions_bytes tb m all ds)) → AreShort tb m all (d ∷ ds) fs → IsShort (each (function_text Second) fs) (function_bytes tb m (most_operands all d) d + functions_bytes tb m all ds)
   unfolding each
   first_short r d ds hs [] k e rest h = absurd (let z = ap length e in omega (arith, z))
   first_short r d ds hs (f ∷ fs) k e rest h =
       together (function_text Second f) (each (function_text Second) fs) (function_bytes tb m (most_operands all d) d) (functions_bytes tb m all ds) (h 0 0 d f refl (ap if_function k) refl)
-      (rest fs (let z : map C.plain_header fs ≡ hs = cc in z) (λ j n g q at is there. h (suc j) (suc n) g q at (ap (λ b. one_more b (function_of ds j)) k ∙ ap (one_more true) is) there))
+      (rest fs (let z : map plain_header fs ≡ hs = cc in z) (λ j n g q at is there. h (suc j) (suc n) g q at (ap (λ b. one_more b (function_of ds j)) k ∙ ap (one_more true) is) there))
 
-  next_short : (r : ℕ) (d : Instance) (ds : List Instance) (hs : List Header) (fs : List PlainFunction) (k : FunKind) → d.kind ≡ k → map C.plain_header fs ≡ and_if (is_ruled k) (header_of r d) hs → ((gs : List PlainFunction) → map C.plain_header gs ≡ hs → AreShort tb m all ds gs → IsShort (each (function_text Second) gs) (functions_bytes tb m all ds)) → AreShort tb m all (d ∷ ds) fs → IsShort (each (function_text Second) fs) ((if has_function k then function_bytes tb m (most_operands all d) d else 0) + functions_bytes tb m all ds)
+  next_short : (r : ℕ) (d : Instance) (ds : List Instance) (hs : List Header) (fs : List PlainFunction) (k : FunKind) → d.kind ≡ k → map plain_header fs ≡ and_if (is_ruled k) (header_of r d) hs → ((gs : List PlainFunction) → map plain_header gs ≡ hs → AreShort tb m all ds gs → IsShort (each (function_text Second) gs) (functions_bytes tb m all ds)) → AreShort tb m all (d ∷ ds) fs → IsShort (each (function_text Second) fs) ((if has_function k then function_bytes tb m (most_operands all d) d else 0) + functions_bytes tb m all ds)
   next_short r d ds hs fs Fip k e rest h = first_short r d ds hs fs (ap has_function k) e rest h
   next_short r d ds hs fs Fbip k e rest h = first_short r d ds hs fs (ap has_function k) e rest h
   next_short r d ds hs fs Fun k e rest h =
       shorter (each (function_text Second) fs) (functions_bytes tb m all ds) (0 + functions_bytes tb m all ds) (omega arith)
       (rest fs e (λ j n g q at is there. h (suc j) n g q at (ap (λ b. one_more (has_function b) (function_of ds j)) k ∙ ap (one_more false) is) there))
 
-  functions_short : (ms : List Member) (i : ℕ) (ds : List Instance) (fs : List PlainFunction) → map C.plain_header fs ≡ headers_from ms i ds → AreShort tb m all ds fs → IsShort (each (function_text Second) fs) (functions_bytes tb m all ds)
+  functions_short : (ms : List Member) (i : ℕ) (ds : List Instance) (fs : List PlainFunction) → map plain_header fs ≡ headers_from ms i ds → AreShort tb m all ds fs → IsShort (each (function_text Second) fs) (functions_bytes tb m all ds)
   unfolding each
   functions_short ms i [] [] e h = some_short [] 0 (omega arith)
   functions_short ms i [] (f ∷ fs) e h = absurd (let z = ap length e in omega (arith, z))

@@ -3,11 +3,11 @@ use Rattle.std.proofs.Common.{◌≡◌, ◌<◌, ◌≤◌, ℕ, List, length, 
 use Rattle.command_run.proofs.source_report.fip_language.OnePlace.{IsPlace-not_spelt}
 use Rattle.command_run.specs.session_semantics.command_outcome.declared.failure.Failure.{Failure}
 use Rattle.command_run.specs.code_file.CodeText.{IsFileOf}
-use Rattle.command_run.specs.code_file.Plain.{PlainCode}
+use Rattle.command_run.specs.cell_lower.cell_code.Plain.{PlainCode}
 use Rattle.command_run.specs.code_file.declared.tags.Version.TheVariants.{Second}
 use Rattle.command_run.proofs.code_file.Whole.{one_code}
 use Rattle.command_run.specs.code_rules.Breaks.{IsLeast}
-use Rattle.command_run.specs.command_source.Codes.{sound_view, IsSoundFile, RefusesCode, LongFile, BadFile, UnsoundFile, IsUpgraded}
+use Rattle.command_run.specs.command_source.Codes.{IsSoundFile, RefusesCode, LongFile, BadFile, UnsoundFile, IsUpgraded}
 use Rattle.command_run.specs.command_source.ProgramCode.{IsCodeOfSource, IsCompiledFile}
 
 pub code_same : (bytes : List ℕ) (c d : PlainCode) → IsSoundFile bytes c → IsSoundFile bytes d → c ≡ d
@@ -18,7 +18,7 @@ refused_not_sound bytes f c (LongFile more) h = let le = h.short in omega (arith
 refused_not_sound bytes f c (BadFile at le place) h = IsPlace-not_spelt IsFileOf bytes at c place h.spelt
 refused_not_sound bytes f c (UnsoundFile code function at rule le spelt least) h =
     let same : code ≡ c = (one_code bytes spelt.0 h.spelt.0 code c spelt.1 h.spelt.1).1 in
-    h.sound function at rule (subst (λ c. IsLeast (sound_view c) function at rule) same least).breaks
+    h.sound function at rule (subst (λ c. IsLeast c function at rule) same least).breaks
 
 pub compiled_sound : (source file : List ℕ) (h : IsCompiledFile source file) → IsSoundFile file h.code
 compiled_sound source file h = record { short = h.short; spelt = (Second, h.spelt); sound = h.of'.sound }

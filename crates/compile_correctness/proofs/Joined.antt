@@ -26,7 +26,8 @@ use Rattle.command_run.specs.lowering_relation.machine_semantics.Runs as C
 use Rattle.command_run.specs.lowering_relation.machine_semantics.Runs.{End, Over}
 use Rattle.command_run.specs.lowering_relation.machine_semantics.States.{State}
 use Rattle.command_run.specs.lowering_relation.LoweredBodies.{function_of}
-use Rattle.command_run.specs.code_rules.Codes.{PlainCode, PlainFunction, function_at, is_fip, results, results_of}
+use Rattle.command_run.specs.cell_lower.cell_code.Plain.{PlainFunction, PlainCode, function_at, results_of, results}
+use Rattle.command_run.specs.code_rules.Codes.{is_fip, code_kind}
 use Rattle.command_run.specs.code_rules.StackNumbers.{HasStack}
 use Rattle.command_run.proofs.machine_correctness.code_rules.Numbers.{has_once}
 use Rattle.command_run.specs.machine_correctness.tree_refinement.Agreement.{AreWordsOf}
@@ -34,7 +35,6 @@ use Rattle.command_run.specs.machine_correctness.tree_refinement.Runs.{IsSameEnd
 use Rattle.command_run.specs.session_semantics.Talk.{frames_of}
 use Rattle.command_run.specs.command_eval.type_safety.Soundness.{parameter_types}
 use Rattle.command_run.specs.value_text.Loaded.{types_of}
-use Rattle.command_run.specs.command_source.Codes.{sound_view}
 use Rattle.command_run.specs.command_source.ProgramCode.{IsCompiledFile}
 use Rattle.command_run.specs.command_eval.EvalAnswer.{Entry, Spells}
 use Rattle.command_run.specs.machine_correctness.Gauges.{IsMeasured}
@@ -108,7 +108,7 @@ flat_in_place c n f vs calls frames r is fip (Some k) stack =
 
 module _ (source name : List ℕ) (entry : Entry source name) (k : Coded source name) where
   abbrev c : PlainCode
-  c = sound_view k.code
+  c = k.code
 
   abbrev f : PlainFunction
   f = k.function
@@ -134,9 +134,9 @@ module _ (source name : List ℕ) (entry : Entry source name) (k : Coded source 
       let one : x.place ≡ i = place_same source name k.code k.of' k.number k.function k.there k.named k.some entry.program entry.accepted i entry.root at root.root root.named in
       let number : function_of (k.of').program.instances i ≡ Some k.number = subst (λ j. function_of (k.of').program.instances j ≡ Some k.number) one x.of'.function in
       let members : AreMembers (k.of').program.instances ms = subst (λ (q : Program). AreMembers q.instances ms) (sym p) found in
-      has_once (sound_view k.code) k.number k.held m.stack k.stack ((k.of').lowered.stacks ms members i k.number m number there)
+      has_once k.code k.number k.held m.stack k.stack ((k.of').lowered.stacks ms members i k.number m number there)
 
-  module _ (vs : Values) (room : Room) (r : D.Run (sound_view k.code) k.number vs room.calls (frames_for k room)) where
+  module _ (vs : Values) (room : Room) (r : D.Run k.code k.number vs room.calls (frames_for k room)) where
     -- the meaning, by the function's name and the first state's frames
     abbrev meant : M.Run
     meant = meaning entry.core (k.function).name NoClosed vs room.calls (r.first).free
@@ -169,7 +169,7 @@ module _ (source name : List ℕ) (entry : Entry source name) (k : Coded source 
     in_place_is : (entry.root).kind ≡ Fip → RunsInPlace vs (entry.root).credits (all_seen r) k.held
     in_place_is e =
         subst (λ ks. RunsInPlace vs ks (all_seen r) k.held) header.credits
-        (flat_in_place c k.number k.function vs room.calls (frames_for k room) r k.there (ap is_fip (header.kind ∙ e)) k.held k.stack)
+        (flat_in_place c k.number k.function vs room.calls (frames_for k room) r k.there (ap is_fip (header.kind ∙ ap code_kind e)) k.held k.stack)
 
     deep_by : (held : Option Stack) → HasStack c k.number held → (r.first).free ≡ frames_of room.frames held → is_fip (k.function).kind ≡ true → meant.answer ≢ Deep
     deep_by None stack free fip = absurd (stack (k.function, k.there, fip))
@@ -178,7 +178,7 @@ module _ (source name : List ℕ) (entry : Entry source name) (k : Coded source 
 
     never_deep_is : (entry.root).kind ≡ Fip → answer_of entry vs room.calls (frames_for k room) ≢ Deep
     never_deep_is e =
-        subst (λ (y : M.Run). y.answer ≢ Deep) meant_is (deep_by k.held k.stack r.free (ap is_fip (header.kind ∙ e)))
+        subst (λ (y : M.Run). y.answer ≢ Deep) meant_is (deep_by k.held k.stack r.free (ap is_fip (header.kind ∙ ap code_kind e)))
 
     pub runs_on : (gauge : Bool) (e : Result (List ℕ) Failure) → ReportsCode (k.code).types (k.function).results room.calls (frames_for k room) (if_asked gauge (gauge_by_states (all_seen r) k.held)) r.last r.end e → RunsOn entry vs room gauge e
     runs_on gauge e reported = record {

@@ -9,15 +9,15 @@ use Rattle.command_run.specs.cell_lower.fip_language.declared.FunKind.TheVariant
 use Rattle.command_run.specs.cell_lower.fip_language.Every.{Among}
 use Rattle.command_run.specs.cell_lower.fip_base.declared.refusal.Refusal.{Refusal}
 use Rattle.command_run.specs.fip_trees.Tree.{Instance, Program}
-use Rattle.command_run.specs.code_file.Plain as F
-use Rattle.command_run.specs.code_rules.Codes.{PlainFunction, function_at}
+use Rattle.command_run.specs.cell_lower.cell_code.CodeKinds.{code_kind}
+use Rattle.command_run.specs.cell_lower.cell_code.Plain.{PlainFunction, PlainCode, function_at}
 use Rattle.command_run.specs.lowering_relation.LoweredBodies.{has_function, one_more, if_function, function_of}
 use Rattle.command_run.specs.cell_lower.Shape.{Header, header_of, headers}
 use Rattle.command_run.proofs.compiler_correctness.SoundTypes.{typed_sound}
 use Rattle.command_run.specs.source_report.Report.{IsAccepted}
 use Rattle.command_run.proofs.source_report.Once.{accepted_once}
 use Rattle.command_run.proofs.compiler_correctness.Headers.{typed_named}
-use Rattle.command_run.specs.command_source.Codes.{sound_view, has_named, names_one}
+use Rattle.command_run.specs.command_source.Codes.{has_named, names_one}
 use Rattle.command_run.specs.command_source.ProgramCode.{IsCodeOfSource}
 use Rattle.command_run.specs.command_source.Roots.{root_named}
 use Rattle.command_run.specs.command_source.Wanted.{MissesCode}
@@ -26,7 +26,6 @@ use Rattle.command_run.proofs.command_eval.Meant.{typed_of}
 use Rattle.command_run.proofs.machine_correctness.Entries.{plain_header, IsNamed, named}
 use Rattle.command_run.proofs.CodeOnce.{long}
 use Rattle.command_run.proofs.Entry.{IsRootAt, root_at, header_at}
-use Rattle.compile_correctness.proofs.Views.{headers_view}
 
 -- ---- a function is that of an instance that isn't plain
 
@@ -66,9 +65,9 @@ root_found name (x ∷ ds) (suc i) d at root same e = by x.root (bytes_eq x.name
 
 -- ---- the function of a name is that of a root
 
-module _ (source name : List ℕ) (code : F.PlainCode) (of' : IsCodeOfSource source code) (n : ℕ) (f : PlainFunction) (there : function_at (sound_view code) n ≡ Some f) (called : f.name ≡ name) (some : name ≡ [] → ⊥) where
-  pub instance_named : IsNamed of'.program (sound_view code) n f
-  instance_named = named of'.program of'.lowered.members (sound_view code) n f of'.lowered.types (headers_view code.functions ∙ of'.lowered.functions) there (subst (λ x. 0 < length x) (sym called) (long name some))
+module _ (source name : List ℕ) (code : PlainCode) (of' : IsCodeOfSource source code) (n : ℕ) (f : PlainFunction) (there : function_at code n ≡ Some f) (called : f.name ≡ name) (some : name ≡ [] → ⊥) where
+  pub instance_named : IsNamed of'.program code n f
+  instance_named = named of'.program of'.lowered.members code n f of'.lowered.types (of'.lowered.functions) there (subst (λ x. 0 < length x) (sym called) (long name some))
 
   module _ (p : Program) (accepted : IsAccepted source p) where
     pub program_same : of'.program ≡ p
@@ -98,7 +97,7 @@ module _ (source name : List ℕ) (code : F.PlainCode) (of' : IsCodeOfSource sou
 
   -- what the header says is what the root says
   pub record IsHeadedBy (d : Instance) : Type 0 where
-    pub kind : f.kind ≡ d.kind
+    pub kind : f.kind ≡ code_kind d.kind
     pub params : f.params ≡ d.params
     pub credits : f.credits ≡ d.credits
     pub results : f.results ≡ d.results
@@ -162,13 +161,13 @@ among_at [] i x e = absurd (none-some x e)
 among_at (y ∷ xs) zero x e = inl (sym (same_Some y x e))
 among_at (y ∷ xs) (suc i) x e = inr (among_at xs i x e)
 
-pub root_has_function : (source name : List ℕ) (code : F.PlainCode) (of' : IsCodeOfSource source code) (d : Instance) → root_named name of'.program.instances ≡ Some d → (d.kind ≡ Fun → ⊥) → names_one name (sound_view code).functions ≡ true
+pub root_has_function : (source name : List ℕ) (code : PlainCode) (of' : IsCodeOfSource source code) (d : Instance) → root_named name of'.program.instances ≡ Some d → (d.kind ≡ Fun → ⊥) → names_one name code.functions ≡ true
 root_has_function source name code of' d e ruled =
     let r = root_at name of'.program.instances d e in
     let x = header_at of'.lowered.members 0 of'.program.instances r.place d r.there ruled in
-    let headers_are : map plain_header (sound_view code).functions ≡ headers of'.lowered.members of'.program.instances = headers_view code.functions ∙ of'.lowered.functions in
-    let y = function_with (sound_view code).functions x.0 (header_of x.1 d) (ap (λ hs. slice_get hs x.0) headers_are ∙ x.2) in
+    let headers_are : map plain_header code.functions ≡ headers of'.lowered.members of'.program.instances = of'.lowered.functions in
+    let y = function_with code.functions x.0 (header_of x.1 d) (ap (λ hs. slice_get hs x.0) headers_are ∙ x.2) in
     let called : (y.0).name ≡ name = ap (λ (q : Header). q.name) y.2 ∙ (ap (λ b. if b then d.name else []) r.root ∙ r.named) in
     let some = (typed_named source of'.program (typed_of source of'.program of'.accepted) d (among_at of'.program.instances r.place d r.there)).0.1 in
     let none : name ≡ [] → ⊥ = λ z. let zero_long : length d.name ≡ 0 = ap length (r.named ∙ z) in absurd (omega (arith, some, zero_long)) in
-    names_there name (sound_view code).functions x.0 y.0 none y.1 called
+    names_there name code.functions x.0 y.0 none y.1 called

@@ -10,8 +10,8 @@ use Rattle.command_run.specs.cell_lower.fip_base.declared.refusal.Refusal.{Refus
 use Rattle.command_words.specs.Words.{Room}
 use Rattle.command_run.specs.session_semantics.command_outcome.declared.failure.Failure.{Failure}
 use Rattle.command_run.specs.session_semantics.command_outcome.declared.failure.Failure.TheVariants as F
-use Rattle.command_run.specs.code_file.Plain.{PlainCode}
-use Rattle.command_run.specs.command_source.Codes.{sound_view, IsSoundFile, RefusesCode, HasFunction, names_one}
+use Rattle.command_run.specs.cell_lower.cell_code.Plain.{PlainCode}
+use Rattle.command_run.specs.command_source.Codes.{IsSoundFile, RefusesCode, HasFunction, names_one}
 use Rattle.command_run.specs.command_source.Wanted.{Compiled, Refuses, IsReady, of_entry}
 use Rattle.command_run.specs.CodeRun.{RunsCode}
 use Rattle.command_run.specs.ExecAnswer.{Execs}
@@ -26,7 +26,7 @@ pub data ExecEnds (source name input : List ℕ) (room : Room) (gauge : Bool) : 
 
 pub data RunEnds (bytes name input : List ℕ) (room : Room) (gauge : Bool) : Result (List ℕ) Failure → Type 0 where
   RefusedCode : (failure : Failure) → RefusesCode bytes failure → RunEnds bytes name input room gauge (Err failure)
-  NoFunction : (code : PlainCode) → IsSoundFile bytes code → names_one name (sound_view code).functions ≡ false →
+  NoFunction : (code : PlainCode) → IsSoundFile bytes code → names_one name code.functions ≡ false →
       RunEnds bytes name input room gauge (Err (F.Refused (of_entry E70 name)))
   LongForRun : HasFunction bytes name → MOST_FILE_BYTES < length input →
       RunEnds bytes name input room gauge (Err (F.BadInput MOST_FILE_BYTES))

@@ -4,7 +4,7 @@ ghost use Rattle.command_words.specs.Words.{Room};
 ghost use Rattle.command_run.specs.session_semantics.command_outcome.declared.failure.Failure.{Failure};
 ghost use Rattle.code_bytes.specs.Bytes.{most_bytes};
 ghost use Rattle.command_run.specs.code_file.CodeText.{CodeText};
-ghost use Rattle.command_run.specs.code_file.Plain.{PlainCode};
+ghost use Rattle.command_run.specs.cell_lower.cell_code.Plain.{PlainCode};
 ghost use Rattle.command_run.specs.code_file.declared.tags.Version.TheVariants.{Second};
 ghost use Rattle.compile_correctness.specs.Ends.{ExecEnds, RunEnds, AreAlike};
 ghost use Rattle.command_run.specs.cell_lower.fip_language.declared.limits.TheConstants.{MOST_FILE_BYTES};

@@ -10,13 +10,12 @@ use Rattle.lowering_soundness.proofs.fip_language.Words.{map_at}
 use Rattle.lowering_soundness.specs.fip_base.declared.plain.Param.{Param}
 use Rattle.lowering_soundness.specs.cell_code.declared.code.Function.{Function}
 use Rattle.lowering_soundness.specs.cell_code.declared.kind.Label.{Label}
-use Rattle.lowering_soundness.specs.code_rules.Codes as S
+use Rattle.lowering_soundness.specs.cell_code.Plain.{LabelMap, PlainFunction, PlainCode, plain_label, plain_function}
 use Rattle.lowering_soundness.specs.code_rules.Headers.{are_types, are_params, is_size, are_sizes, are_good_kinds, are_good_maps, is_formed}
 use Rattle.lowering_soundness.specs.code_rules.Limits.{most_fields, most_credits, most_results, most_registers}
 use Rattle.derivation_correctness.specs.code_file.declared.tags.Version.TheVariants.{Second}
-use Rattle.derivation_correctness.specs.code_file.Plain.{PlainFunction, plain_label, plain_function}
 use Rattle.derivation_correctness.specs.code_file.Spelling.{◌+++◌, each, two, four, function_name_text}
-use Rattle.derivation_correctness.specs.code_file.CodeText.{kind_text, label_text, instr_text, fun_kind_text, lent_text, param_text, params_text, credit_count_text, size_text, credits_text, instrs_text, labels_text, function_text}
+use Rattle.derivation_correctness.specs.code_file.CodeText.{kind_text, label_text, instr_text, code_kind_text, lent_text, param_text, params_text, credit_count_text, size_text, credits_text, instrs_text, labels_text, function_text}
 use Rattle.derivation_correctness.proofs.code_file.Numbers.{credit_count_fits, size_fits}
 use Rattle.derivation_correctness.specs.lower_frame.Spelled.{IsSpelt, AreKindsSpelt, AreInstrsSpelt, AreLabelsSpelt, IsFunctionSpelt}
 use Rattle.compiler_correctness.proofs.Texts.{joined, each_spelt, only_spelt, two_spelt, four_spelt, types_spelt, there}
@@ -89,7 +88,7 @@ label_spelt n l all at kinds =
     (joined (four l.at) (each kind_text l.kinds.items) (four_spelt l.at at) (each_spelt kind_text l.kinds.items (λ r k e. kinds r k e)))
 
 -- the first of some label maps, and the others
-maps_parts : (w : Table) (f : S.PlainFunction) (low : ℕ) (m : S.LabelMap) (ms : List S.LabelMap) → are_good_maps w f low (m ∷ ms) ≡ true → ((length m.kinds == f.registers) ≡ true) × (are_good_maps w f m.at ms ≡ true)
+maps_parts : (w : Table) (f : PlainFunction) (low : ℕ) (m : LabelMap) (ms : List LabelMap) → are_good_maps w f low (m ∷ ms) ≡ true → ((length m.kinds == f.registers) ≡ true) × (are_good_maps w f m.at ms ≡ true)
 maps_parts w f low m ms h =
     let later = are_good_maps w f m.at ms in
     let kinds = are_good_kinds w m.kinds 0 m.kinds in
@@ -100,13 +99,13 @@ maps_parts w f low m ms h =
     let c = and_parts all (kinds && later) b.1 in
     (c.0, (and_parts kinds later c.1).1)
 
-kinds_all : (w : Table) (f : S.PlainFunction) (low : ℕ) (ls : List Label) (i : ℕ) (l : Label) → are_good_maps w f low (map S.plain_label ls) ≡ true → slice_get ls i ≡ Some l → (length l.kinds.items == f.registers) ≡ true
+kinds_all : (w : Table) (f : PlainFunction) (low : ℕ) (ls : List Label) (i : ℕ) (l : Label) → are_good_maps w f low (map plain_label ls) ≡ true → slice_get ls i ≡ Some l → (length l.kinds.items == f.registers) ≡ true
 kinds_all w f low [] i l h e = absurd (none-some l e)
 kinds_all w f low (m ∷ ls) zero l h e =
-    subst (λ (l : Label). (length l.kinds.items == f.registers) ≡ true) (same_Some m l e) (maps_parts w f low (S.plain_label m) (map S.plain_label ls) h).0
-kinds_all w f low (m ∷ ls) (suc i) l h e = kinds_all w f m.at ls i l (maps_parts w f low (S.plain_label m) (map S.plain_label ls) h).1 e
+    subst (λ (l : Label). (length l.kinds.items == f.registers) ≡ true) (same_Some m l e) (maps_parts w f low (plain_label m) (map plain_label ls) h).0
+kinds_all w f low (m ∷ ls) (suc i) l h e = kinds_all w f m.at ls i l (maps_parts w f low (plain_label m) (map plain_label ls) h).1 e
 
-labels_spelt : (w : Table) (g : S.PlainFunction) (f : Function) → are_good_maps w g 0 (map S.plain_label f.labels.items) ≡ true → AreLabelsSpelt f.labels.items → IsSpelt (labels_text g.registers (map plain_label f.labels.items))
+labels_spelt : (w : Table) (g : PlainFunction) (f : Function) → are_good_maps w g 0 (map plain_label f.labels.items) ≡ true → AreLabelsSpelt f.labels.items → IsSpelt (labels_text g.registers (map plain_label f.labels.items))
 unfolding labels_text
 labels_spelt w g f good h =
     let ls = map plain_label f.labels.items in
@@ -122,7 +121,7 @@ labels_spelt w g f good h =
 -- ---- a function
 
 -- what S9 says of a function
-record Keeps (c : S.PlainCode) (f : S.PlainFunction) : Type 0 where
+record Keeps (c : PlainCode) (f : PlainFunction) : Type 0 where
   pub room : not (nat_lt f.registers (length f.params + length f.credits)) ≡ true
   pub registers : nat_lt f.registers (suc most_registers) ≡ true
   pub results : nat_lt (length f.results) (suc most_results) ≡ true
@@ -132,7 +131,7 @@ record Keeps (c : S.PlainCode) (f : S.PlainFunction) : Type 0 where
   pub types : are_types c.types f.results ≡ true
   pub maps : are_good_maps c.types f 0 f.labels ≡ true
 
-kept : (c : S.PlainCode) (f : S.PlainFunction) → is_formed c f ≡ true → Keeps c f
+kept : (c : PlainCode) (f : PlainFunction) → is_formed c f ≡ true → Keeps c f
 kept c f h =
     let some = and_parts _ _ h in
     let room = and_parts _ _ some.1 in
@@ -158,10 +157,10 @@ not_below : (r m n : ℕ) (b : Bool) → nat_lt r (m + n) ≡ b → not b ≡ tr
 not_below r m n true f e = cc
 not_below r m n false f e = grind (arith, nat_tests)
 
-pub function_spelt : (c : S.PlainCode) (f : Function) → length c.types ≤ MOST_INSTANCES → is_formed c (S.plain_function f) ≡ true → IsSpelt (fun_kind_text f.kind) → IsSpelt (function_name_text f.name) → IsFunctionSpelt f → IsSpelt (function_text Second (plain_function f))
+pub function_spelt : (c : PlainCode) (f : Function) → length c.types ≤ MOST_INSTANCES → is_formed c (plain_function f) ≡ true → IsSpelt (code_kind_text f.kind) → IsSpelt (function_name_text f.name) → IsFunctionSpelt f → IsSpelt (function_text Second (plain_function f))
 unfolding function_text
 function_spelt c f few formed kind name body =
-    let k : Keeps c (S.plain_function f) = kept c (S.plain_function f) formed in
+    let k : Keeps c (plain_function f) = kept c (plain_function f) formed in
     let registers : f.registers < suc most_registers = below f.registers (suc most_registers) k.registers in
     let results : length f.results < suc most_results = below (length f.results) (suc most_results) k.results in
     let credits : length f.credits.items < suc most_credits = below (length f.credits.items) (suc most_credits) k.credits in
@@ -172,4 +171,4 @@ function_spelt c f few formed kind name body =
     (joined _ _ (credits_spelt f.credits.items (omega (arith, credits)) k.sizes)
     (joined _ _ (types_spelt (length c.types) f.results few (omega (arith, results)) (λ i t e. result_at c.types f.results i t k.types e))
     (joined _ _ (two_spelt f.registers (omega (arith, registers)))
-    (joined _ _ (instrs_spelt f body.instrs) (labels_spelt c.types (S.plain_function f) f k.maps body.labels)))))))
+    (joined _ _ (instrs_spelt f body.instrs) (labels_spelt c.types (plain_function f) f k.maps body.labels)))))))

@@ -10,11 +10,10 @@ use Rattle.lowering_soundness.specs.tail_groups.Members.{AreMembers}
 use Rattle.lowering_soundness.specs.cell_code.declared.code.Code.{Code}
 use Rattle.lowering_soundness.specs.cell_code.declared.code.Function.{Function}
 use Rattle.lowering_soundness.specs.code_rules.Breaks.{IsSound}
-use Rattle.lowering_soundness.specs.code_rules.Codes.{plain}
+use Rattle.lowering_soundness.specs.cell_code.Plain.{plain}
 use Rattle.derivation_correctness.specs.cell_lower.Shape.{header, headers}
 use Rattle.derivation_correctness.specs.source_report.Report.{IsTyped}
 use Rattle.derivation_correctness.specs.code_file.declared.tags.Version.TheVariants.{Second}
-use Rattle.derivation_correctness.specs.code_file.Plain.{plain_code}
 use Rattle.derivation_correctness.specs.code_file.CodeText.{table_text, CodeText}
 use Rattle.derivation_correctness.specs.lower_frame.Spelled.{IsSpelt, AreSpelt}
 use Rattle.compiler_correctness.proofs.Codes.{IsHeadSpelt, has_file}
@@ -31,7 +30,7 @@ module _ (source : List ℕ) (p : Program) (members : List Member) (c : Code) (t
       (slice_get-map header c.functions.items n f e) in
       record { kind = h.kind; name = h.name }
 
-  pub typed_has_file : AreMembers p.instances members → c.types ≡ p.types → map header c.functions.items ≡ headers members p.instances → IsSound (plain c) → AreSpelt c.functions.items → (file : List ℕ) × CodeText file Second (plain_code c)
+  pub typed_has_file : AreMembers p.instances members → c.types ≡ p.types → map header c.functions.items ≡ headers members p.instances → IsSound (plain c) → AreSpelt c.functions.items → (file : List ℕ) × CodeText file Second (plain c)
   typed_has_file found types headed sound spelt =
       has_file c sound
       (subst (λ (tb : Table). IsSpelt (table_text tb)) (sym types) (typed_types_spelt source p typed (subst IsNarrowTable types (narrow_table (plain c) sound))))

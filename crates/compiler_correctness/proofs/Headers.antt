@@ -2,6 +2,9 @@
 -- source.
 use Rattle.std.proofs.Common.{◌≡◌, ◌≤◌, inl, inr, ℕ, suc, Bool, true, false, List, [], ◌∷◌, length, map, Option, Some, None, slice_get, if◌then◌else◌, refl, sym, subst, arith}
 use Rattle.lowering_soundness.specs.fip_language.declared.FunKind.{FunKind}
+use Rattle.lowering_soundness.specs.cell_code.CodeKinds.{code_kind}
+use Rattle.lowering_soundness.specs.cell_code.declared.code.CodeKind.{CodeKind}
+use Rattle.lowering_soundness.specs.cell_code.declared.code.CodeKind.TheVariants as CodeKinds
 use Rattle.lowering_soundness.specs.fip_language.declared.FunKind.TheVariants.{Fip, Fbip, Fun}
 use Rattle.lowering_soundness.specs.fip_language.declared.limits.TheConstants.{MOST_SOURCE_BYTES}
 use Rattle.lowering_soundness.specs.fip_language.Core as C
@@ -25,7 +28,7 @@ use Rattle.derivation_correctness.specs.cell_lower.Limits.{is_ruled, registers}
 use Rattle.derivation_correctness.specs.cell_lower.Shape.{Header, header_of, and_if, headers_from}
 use Rattle.derivation_correctness.specs.source_report.Report.{IsFlat, IsTyped}
 use Rattle.derivation_correctness.specs.code_file.Spelling.{function_name_text}
-use Rattle.derivation_correctness.specs.code_file.CodeText.{fun_kind_text}
+use Rattle.derivation_correctness.specs.code_file.CodeText.{code_kind_text}
 use Rattle.derivation_correctness.specs.lower_frame.Spelled.{IsSpelt}
 use Rattle.compiler_correctness.proofs.Names.{NamedFunction}
 use Rattle.compiler_correctness.proofs.Tokens.{IsProperName}
@@ -76,7 +79,7 @@ typed_named source p h =
 
 -- the kind and the name of a header have a text
 pub record IsHeaderSpelt (h : Header) : Type 0 where
-  pub kind : IsSpelt (fun_kind_text h.signature.kind)
+  pub kind : IsSpelt (code_kind_text h.signature.kind)
   pub name : IsSpelt (function_name_text h.name)
 
 no_name : IsSpelt (function_name_text [])
@@ -86,14 +89,18 @@ entry_spelt : (root : Bool) (name : List ℕ) → IsSpelt (function_name_text na
 entry_spelt true name h = h
 entry_spelt false name h = no_name
 
-header_spelt : (n : ℕ) (d : T.Instance) → IsNamed d → IsSpelt (fun_kind_text d.kind) → IsHeaderSpelt (header_of n d)
-header_spelt n d named kind =
+kind_spelt : (k : CodeKind) → IsSpelt (code_kind_text k)
+kind_spelt CodeKinds.Fip = refl
+kind_spelt CodeKinds.Fbip = refl
+
+header_spelt : (n : ℕ) (d : T.Instance) → IsNamed d → IsHeaderSpelt (header_of n d)
+header_spelt n d named =
     let short = named.1 in
-    record { kind = kind; name = entry_spelt d.root d.name (function_name_spelt d.name named.0.0 (omega (arith, short))) }
+    record { kind = kind_spelt (code_kind d.kind); name = entry_spelt d.root d.name (function_name_spelt d.name named.0.0 (omega (arith, short))) }
 
 one_spelt : (n : ℕ) (d : T.Instance) (hs : List Header) → IsNamed d → (k : FunKind) → d.kind ≡ k → Every IsHeaderSpelt hs → Every IsHeaderSpelt (and_if (is_ruled k) (header_of n d) hs)
-one_spelt n d hs named Fip e h = (header_spelt n d named (subst (λ k. IsSpelt (fun_kind_text k)) (sym e) refl), h)
-one_spelt n d hs named Fbip e h = (header_spelt n d named (subst (λ k. IsSpelt (fun_kind_text k)) (sym e) refl), h)
+one_spelt n d hs named Fip e h = (header_spelt n d named, h)
+one_spelt n d hs named Fbip e h = (header_spelt n d named, h)
 one_spelt n d hs named Fun e h = h
 
 headers_spelt : (ms : List Member) (i : ℕ) (ds : List T.Instance) → ((d : T.Instance) → Among d ds → IsNamed d) → Every IsHeaderSpelt (headers_from ms i ds)

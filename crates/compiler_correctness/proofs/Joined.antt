@@ -9,12 +9,11 @@ use Rattle.lowering_soundness.specs.fip_language.Table.{Table, HaveTypes}
 use Rattle.lowering_soundness.specs.fip_language.Values.{Values}
 use Rattle.lowering_soundness.specs.fip_trees.Tree.{Instance, Program}
 use Rattle.lowering_soundness.specs.instance_semantics.Meaning.{flat_meaning}
-use Rattle.lowering_soundness.specs.machine_semantics.Codes.{PlainCode as TreeCode}
+use Rattle.lowering_soundness.specs.cell_code.Plain.{PlainCode, all_instrs}
 use Rattle.lowering_soundness.specs.machine_semantics.States.{State}
 use Rattle.lowering_soundness.specs.machine_semantics.Steps.{Kinds}
-use Rattle.lowering_soundness.specs.code_rules.Codes.{PlainCode, params}
+use Rattle.lowering_soundness.specs.code_rules.Codes.{params}
 use Rattle.lowering_soundness.specs.tree_semantics.Runs.{begun, entry}
-use Rattle.lowering_soundness.specs.separation.Codes.{run_code}
 use Rattle.lowering_soundness.specs.separation.Starts.{IsStart}
 use Rattle.derivation_correctness.specs.tree_refinement.Runs.{BeginsWith}
 use Rattle.derivation_correctness.proofs.tree_refinement.Values.{words_types}
@@ -24,7 +23,6 @@ use Rattle.lowering_soundness.specs.lowering_relation.LoweredBodies.{has_functio
 use Rattle.lowering_soundness.specs.lowering_relation.LoweredFunctions.{AreLowered}
 use Rattle.derivation_correctness.specs.lowering_simulation.RunEnds.{EndsIn}
 use Rattle.derivation_correctness.specs.lowering_simulation.Guarded.{type_of, Takes}
-use Rattle.derivation_correctness.specs.lowering_simulation.Lowered.{all_instrs}
 use Rattle.derivation_correctness.proofs.lowering_simulation.Guards.{typed_runs_end}
 use Rattle.derivation_correctness.specs.lowering_simulation.CellEnds.{EndsAs, IsFunctionOf}
 use Rattle.derivation_correctness.specs.source_report.Report.{IsParsed, IsMatched, IsAccepted}
@@ -61,7 +59,7 @@ not_stuck source p h i f vs calls frames e takes =
 matched_of : (source : List ℕ) (p : Program) → IsAccepted source p → IsMatched source p
 matched_of source p h = h.tailed.credited.owned.matched
 
-pub on_trees : (source : List ℕ) (p : Program) (code : TreeCode) → IsAccepted source p → AreLowered p (all_instrs code) → (i f : ℕ) (vs : Values) (calls frames : ℕ) → function_of p.instances i ≡ Some f → Takes p i vs → EndsIn code (begun (entry f vs frames) calls) (flat_meaning p i vs calls frames).answer
+pub on_trees : (source : List ℕ) (p : Program) (code : PlainCode) → IsAccepted source p → AreLowered p (all_instrs code) → (i f : ℕ) (vs : Values) (calls frames : ℕ) → function_of p.instances i ≡ Some f → Takes p i vs → EndsIn code (begun (entry f vs frames) calls) (flat_meaning p i vs calls frames).answer
 on_trees source p code h lowered i f vs calls frames e takes =
     let matched = matched_of source p h in
     let typed = matched.typed in
@@ -74,9 +72,9 @@ begun_takes c p i f s vs o b d is =
     let types : HaveTypes c.types (map type_of (params c f)) vs = words_types c.types s.store (map type_of (params c f)) (take (length (params c f)) s.running.words) vs b in
     subst (λ tb. HaveTypes tb (map type_of d.params) vs) o.types (subst (λ ps. HaveTypes c.types (map type_of ps) vs) (o.takes d is) types)
 
-pub on_cells : (source : List ℕ) (p : Program) (c : PlainCode) → IsAccepted source p → AreLowered p (all_instrs (run_code c)) → (before waits : Kinds) (i f : ℕ) (vs : Values) (kept : List ℕ) (s : State) (calls : ℕ) → IsFunctionOf p i c f → IsStart c before waits f kept s → BeginsWith c f s vs → EndsAs c before f s calls (flat_meaning p i vs calls s.free).answer
+pub on_cells : (source : List ℕ) (p : Program) (c : PlainCode) → IsAccepted source p → AreLowered p (all_instrs c) → (before waits : Kinds) (i f : ℕ) (vs : Values) (kept : List ℕ) (s : State) (calls : ℕ) → IsFunctionOf p i c f → IsStart c before waits f kept s → BeginsWith c f s vs → EndsAs c before f s calls (flat_meaning p i vs calls s.free).answer
 on_cells source p c h lowered before waits i f vs kept s calls o start begins =
-    let t = on_trees source p (run_code c) h lowered i f vs calls s.free o.function (begun_takes c p i f s vs o begins) in
+    let t = on_trees source p c h lowered i f vs calls s.free o.function (begun_takes c p i f s vs o begins) in
     let e = cells_end c before waits f kept s vs calls t.enough (flat_meaning p i vs calls s.free).answer t.last t.left t.steps start begins t.is in
     record { end = e.0; last = e.1; left = t.left; steps = t.steps; ends = e.2; same = e.3 }
 
@@ -86,17 +84,17 @@ means : (source : List ℕ) (core : Core) (p : Program) → IsParsed source core
 means source core p parsed h i d vs calls frames e r =
     ap (λ y. y.answer) (root_meant source p (matched_of source p h).typed core parsed i d vs calls frames e r)
 
-pub on_trees_meant : (source : List ℕ) (core : Core) (p : Program) (code : TreeCode) → IsParsed source core → IsAccepted source p → AreLowered p (all_instrs code) → (i f : ℕ) (d : Instance) (vs : Values) (calls frames : ℕ) → slice_get p.instances i ≡ Some d → d.root ≡ true → function_of p.instances i ≡ Some f → Takes p i vs → EndsIn code (begun (entry f vs frames) calls) (meaning core d.name NoClosed vs calls frames).answer
+pub on_trees_meant : (source : List ℕ) (core : Core) (p : Program) (code : PlainCode) → IsParsed source core → IsAccepted source p → AreLowered p (all_instrs code) → (i f : ℕ) (d : Instance) (vs : Values) (calls frames : ℕ) → slice_get p.instances i ≡ Some d → d.root ≡ true → function_of p.instances i ≡ Some f → Takes p i vs → EndsIn code (begun (entry f vs frames) calls) (meaning core d.name NoClosed vs calls frames).answer
 on_trees_meant source core p code parsed h lowered i f d vs calls frames at r e takes =
     subst (EndsIn code (begun (entry f vs frames) calls)) (means source core p parsed h i d vs calls frames at r)
     (on_trees source p code h lowered i f vs calls frames e takes)
 
-pub on_cells_meant : (source : List ℕ) (core : Core) (p : Program) (c : PlainCode) → IsParsed source core → IsAccepted source p → AreLowered p (all_instrs (run_code c)) → (before waits : Kinds) (i f : ℕ) (d : Instance) (vs : Values) (kept : List ℕ) (s : State) (calls : ℕ) → slice_get p.instances i ≡ Some d → d.root ≡ true → IsFunctionOf p i c f → IsStart c before waits f kept s → BeginsWith c f s vs → EndsAs c before f s calls (meaning core d.name NoClosed vs calls s.free).answer
+pub on_cells_meant : (source : List ℕ) (core : Core) (p : Program) (c : PlainCode) → IsParsed source core → IsAccepted source p → AreLowered p (all_instrs c) → (before waits : Kinds) (i f : ℕ) (d : Instance) (vs : Values) (kept : List ℕ) (s : State) (calls : ℕ) → slice_get p.instances i ≡ Some d → d.root ≡ true → IsFunctionOf p i c f → IsStart c before waits f kept s → BeginsWith c f s vs → EndsAs c before f s calls (meaning core d.name NoClosed vs calls s.free).answer
 on_cells_meant source core p c parsed h lowered before waits i f d vs kept s calls at r o start begins =
     subst (EndsAs c before f s calls) (means source core p parsed h i d vs calls s.free at r)
     (on_cells source p c h lowered before waits i f vs kept s calls o start begins)
 
-pub instances_meant : (source : List ℕ) (core : Core) (p : Program) (code : TreeCode) → IsParsed source core → IsAccepted source p → AreLowered p (all_instrs code) → (i f : ℕ) (d : Instance) → slice_get p.instances i ≡ Some d → function_of p.instances i ≡ Some f → (given : Closeds) × ((vs : Values) (calls frames : ℕ) → Takes p i vs → EndsIn code (begun (entry f vs frames) calls) (meaning core d.name given vs calls frames).answer)
+pub instances_meant : (source : List ℕ) (core : Core) (p : Program) (code : PlainCode) → IsParsed source core → IsAccepted source p → AreLowered p (all_instrs code) → (i f : ℕ) (d : Instance) → slice_get p.instances i ≡ Some d → function_of p.instances i ≡ Some f → (given : Closeds) × ((vs : Values) (calls frames : ℕ) → Takes p i vs → EndsIn code (begun (entry f vs frames) calls) (meaning core d.name given vs calls frames).answer)
 instances_meant source core p code parsed h lowered i f d at e =
     let m = instance_meant source core p parsed (matched_of source p h).typed i d at in (
       m.0,

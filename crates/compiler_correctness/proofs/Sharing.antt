@@ -15,7 +15,8 @@ use Rattle.derivation_correctness.proofs.static_params.TypeRows.{there_among}
 use Rattle.lowering_soundness.specs.type_check.Found.{or_found}
 use Rattle.lowering_soundness.specs.type_check.Typing.{Makes}
 use Rattle.lowering_soundness.specs.type_check.World as W
-use Rattle.lowering_soundness.specs.code_rules.Codes.{PlainCode, params_of, credits_of, results_of}
+use Rattle.lowering_soundness.specs.cell_code.Plain.{PlainCode, results_of}
+use Rattle.lowering_soundness.specs.code_rules.Codes.{params_of, credits_of}
 use Rattle.lowering_soundness.specs.code_rules.Headers.{are_types}
 use Rattle.lowering_soundness.specs.code_rules.Tables.{bool_shapes}
 use Rattle.lowering_soundness.specs.code_rules.Types.{is_type, is_scalar_type}

@@ -22,7 +22,7 @@ use Rattle.derivation_correctness.proofs.static_params.Sounding.{flat_is_sound}
 use Rattle.derivation_correctness.proofs.static_params.TableRows.{row_there}
 use Rattle.derivation_correctness.proofs.static_params.TypeRows.{row_of}
 use Rattle.lowering_soundness.proofs.type_check.Filling.{stays_sound}
-use Rattle.lowering_soundness.specs.code_rules.Codes.{PlainCode, PlainFunction, function_at}
+use Rattle.lowering_soundness.specs.cell_code.Plain.{PlainFunction, PlainCode, function_at}
 use Rattle.lowering_soundness.specs.code_rules.Limits.{most_types, most_functions}
 use Rattle.lowering_soundness.specs.code_rules.Tables.{bool_shapes, IsSoundType, AreSoundTables}
 use Rattle.derivation_correctness.specs.source_report.Report.{IsFlat, IsTyped}

@@ -13,15 +13,15 @@ use Rattle.lowering_soundness.specs.cell_code.declared.code.Code.{Code}
 use Rattle.lowering_soundness.specs.cell_code.declared.code.Function.{Function}
 use Rattle.lowering_soundness.specs.tail_groups.Members.{AreMembers}
 use Rattle.derivation_correctness.proofs.static_params.TableRows.{map_length}
-use Rattle.lowering_soundness.specs.code_rules.Codes.{PlainCode, PlainFunction, plain, plain_function, function_at}
+use Rattle.lowering_soundness.specs.cell_code.Plain.{PlainFunction, PlainCode, plain_function, plain, function_at}
 use Rattle.lowering_soundness.specs.code_rules.Tables.{AreSoundTables}
 use Rattle.lowering_soundness.specs.lowering_relation.LoweredBodies.{has_function, one_more, if_function, function_of}
 use Rattle.derivation_correctness.specs.cell_lower.Limits.{is_ruled, registers}
-use Rattle.derivation_correctness.specs.cell_lower.Shape.{Header, header, header_of, entry_name, and_if, headers_from, headers}
+use Rattle.derivation_correctness.specs.cell_lower.Shape.{Header, header, header_of, entry_name, and_if, headers_from, headers, plain_header}
 use Rattle.derivation_correctness.proofs.cell_lower.Headers.{IsOfInstance, instance_there}
 use Rattle.derivation_correctness.specs.source_report.Report.{IsTyped}
 use Rattle.compiler_correctness.proofs.SoundTypes.{typed_sound, tables_are_sound}
-use Rattle.compiler_correctness.specs.Headed.{plain_header, IsHeaded}
+use Rattle.compiler_correctness.specs.Headed.{IsHeaded}
 
 -- ---- the header of an instance's function
 
@@ -114,7 +114,7 @@ sound_tables source p c typed h =
 
 -- ---- a code in memory
 
-plain_headers : (fs : List Function) → map plain_header (map plain_function fs) ≡ map header fs
+pub plain_headers : (fs : List Function) → map plain_header (map plain_function fs) ≡ map header fs
 plain_headers [] = refl
 plain_headers (f ∷ fs) = ap (λ r. header f ∷ r) (plain_headers fs)
 

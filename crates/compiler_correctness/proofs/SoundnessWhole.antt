@@ -20,7 +20,8 @@ use Rattle.lowering_soundness.specs.ownership_agreement.Agreement.{IsDerived as 
 use Rattle.lowering_soundness.specs.ownership_agreement.Sized.{AreSizes, IsSized}
 use Rattle.lowering_soundness.specs.derivation_making.Numbered as N
 use Rattle.lowering_soundness.specs.code_rules.Breaks.{IsSound}
-use Rattle.lowering_soundness.specs.code_rules.Codes.{PlainCode, PlainFunction, function_at, is_fip}
+use Rattle.lowering_soundness.specs.cell_code.Plain.{PlainFunction, PlainCode, function_at}
+use Rattle.lowering_soundness.specs.fip_language.Kinds.{is_fip}
 use Rattle.lowering_soundness.specs.code_rules.Headers.{is_size, are_sizes}
 use Rattle.lowering_soundness.proofs.separation_kinds.Basics.{below_is}
 use Rattle.lowering_soundness.specs.lowering_relation.LoweredBodies.{has_function, function_of}

@@ -12,7 +12,7 @@ use Rattle.lowering_soundness.specs.tail_groups.Registers as T
 use Rattle.lowering_soundness.specs.tail_groups.Sites.{Site, called, instance_sites, instance_calls, call_rows}
 use Rattle.lowering_soundness.specs.code_rules.Breaks.{IsSound}
 use Rattle.lowering_soundness.specs.code_rules.Calls.{Calls}
-use Rattle.lowering_soundness.specs.code_rules.Codes.{PlainCode, PlainFunction, function_at}
+use Rattle.lowering_soundness.specs.cell_code.Plain.{PlainFunction, PlainCode, function_at}
 use Rattle.lowering_soundness.specs.code_rules.StackNumbers.{HasStack}
 use Rattle.lowering_soundness.specs.lowering_relation.LoweredBodies.{function_of, has_function, one_more}
 use Rattle.lowering_soundness.specs.lowering_relation.Values.{Setting}

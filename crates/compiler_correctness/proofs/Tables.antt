@@ -3,7 +3,7 @@ use Rattle.std.proofs.Common.{◌≡◌, ◌<◌, ◌≤◌, ℕ, zero, suc, Boo
 use Rattle.std.proofs.lemmas.Option.{none-some}
 use Rattle.lowering_soundness.specs.fip_language.Table.{Shape, Table, shapes}
 use Rattle.lowering_soundness.specs.code_rules.Breaks.{IsSound}
-use Rattle.lowering_soundness.specs.code_rules.Codes.{PlainCode, PlainFunction, function_at}
+use Rattle.lowering_soundness.specs.cell_code.Plain.{PlainFunction, PlainCode, function_at}
 use Rattle.lowering_soundness.specs.code_rules.Headers.{is_formed}
 use Rattle.lowering_soundness.specs.code_rules.Limits.{most_types, most_functions, most_fields}
 use Rattle.lowering_soundness.specs.code_rules.Tables.{IsSoundShape, AreSoundTables}

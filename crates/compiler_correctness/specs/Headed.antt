@@ -8,16 +8,8 @@ use Rattle.std.specs.Prelude.{◌≡◌, List, map}
 use Rattle.lowering_soundness.specs.fip_trees.declared.groups.Member.{Member}
 use Rattle.lowering_soundness.specs.fip_trees.Tree.{Program}
 use Rattle.lowering_soundness.specs.tail_groups.Members.{AreMembers}
-use Rattle.lowering_soundness.specs.code_rules.Codes.{PlainCode, PlainFunction}
-use Rattle.derivation_correctness.specs.cell_lower.Shape.{Header, headers}
-
--- what a function says beside its instructions and labels
-abbrev pub plain_header : PlainFunction → Header
-plain_header f = record {
-  signature = record { kind = f.kind; params = f.params; credits = f.credits; results = f.results };
-  name = f.name;
-  registers = f.registers;
-}
+use Rattle.lowering_soundness.specs.cell_code.Plain.{PlainCode}
+use Rattle.derivation_correctness.specs.cell_lower.Shape.{headers, plain_header}
 
 pub record IsHeaded (p : Program) (c : PlainCode) : Type 0 where
   pub types : c.types ≡ p.types

@@ -3,13 +3,12 @@ ghost use Rattle.std.specs.Prelude.{◌≡◌, ℕ, List, map};
 ghost use Rattle.lowering_soundness.specs.cell_code.declared.code.Code.{Code};
 ghost use Rattle.derivation_correctness.specs.cell_lower.Shape.{header, headers};
 ghost use Rattle.derivation_correctness.specs.code_file.CodeText.{CodeText};
-ghost use Rattle.derivation_correctness.specs.code_file.Plain.{plain_code};
+ghost use Rattle.lowering_soundness.specs.cell_code.Plain.{plain};
 ghost use Rattle.derivation_correctness.specs.code_file.declared.tags.Version.TheVariants.{Second};
 ghost use Rattle.lowering_soundness.specs.fip_trees.declared.groups.Member.{Member};
 ghost use Rattle.lowering_soundness.specs.fip_trees.Tree.{Program};
 ghost use Rattle.derivation_correctness.specs.lower_frame.Spelled.{AreSpelt};
 ghost use Rattle.lowering_soundness.specs.code_rules.Breaks.{IsSound};
-ghost use Rattle.lowering_soundness.specs.code_rules.Codes.{plain};
 ghost use Rattle.derivation_correctness.specs.source_report.Report.{IsAccepted};
 ghost use Rattle.lowering_soundness.specs.tail_groups.Members.{AreMembers};
 
@@ -20,5 +19,5 @@ pub fn the_code_of_an_accepted_source_has_a_file()
     ensures theorem { (source : List ℕ) (program : Program) (members : List Member) (code : Code) →
         IsAccepted source program → AreMembers program.instances members → code.types ≡ program.types →
         map header code.functions.items ≡ headers members program.instances → IsSound (plain code) →
-        AreSpelt code.functions.items → (file : List ℕ) × CodeText file Second (plain_code code) }
+        AreSpelt code.functions.items → (file : List ℕ) × CodeText file Second (plain code) }
 {}

@@ -7,21 +7,18 @@ ghost use Rattle.lowering_soundness.specs.fip_language.Statics.{Closeds, NoClose
 ghost use Rattle.lowering_soundness.specs.fip_language.Values.{Values};
 ghost use Rattle.lowering_soundness.specs.fip_trees.Tree.{Instance, Program};
 ghost use Rattle.lowering_soundness.specs.instance_semantics.Meaning.{flat_meaning};
-ghost use Rattle.lowering_soundness.specs.machine_semantics.Codes.{PlainCode as TreeCode};
+ghost use Rattle.lowering_soundness.specs.cell_code.Plain.{PlainFunction, PlainCode, function_at, all_instrs};
 ghost use Rattle.lowering_soundness.specs.machine_semantics.States.{State};
 ghost use Rattle.lowering_soundness.specs.machine_semantics.Steps.{Kinds};
-ghost use Rattle.lowering_soundness.specs.code_rules.Codes.{PlainCode, PlainFunction, function_at};
 ghost use Rattle.lowering_soundness.specs.code_rules.Limits.{most_functions};
 ghost use Rattle.lowering_soundness.specs.code_rules.Tables.{bool_shapes, AreSoundTables};
 ghost use Rattle.lowering_soundness.specs.tree_semantics.Runs.{begun, entry};
-ghost use Rattle.lowering_soundness.specs.separation.Codes.{run_code};
 ghost use Rattle.lowering_soundness.specs.separation.Starts.{IsStart};
 ghost use Rattle.derivation_correctness.specs.tree_refinement.Runs.{BeginsWith};
 ghost use Rattle.lowering_soundness.specs.lowering_relation.LoweredBodies.{function_of};
 ghost use Rattle.lowering_soundness.specs.lowering_relation.LoweredFunctions.{AreLowered};
 ghost use Rattle.derivation_correctness.specs.lowering_simulation.RunEnds.{EndsIn};
 ghost use Rattle.derivation_correctness.specs.lowering_simulation.Guarded.{Takes};
-ghost use Rattle.derivation_correctness.specs.lowering_simulation.Lowered.{all_instrs};
 ghost use Rattle.derivation_correctness.specs.lowering_simulation.CellEnds.{EndsAs, IsFunctionOf};
 ghost use Rattle.derivation_correctness.specs.source_report.Report.{IsParsed, IsTyped, IsAccepted};
 
@@ -30,13 +27,13 @@ ghost use Rattle.derivation_correctness.specs.source_report.Report.{IsParsed, Is
 /// runs on trees; and where the code is sound, of runs on cells that stand for the arguments. For who runs code in
 /// place of its program.
 pub fn accepted_code_means_its_program()
-    ensures trees { (source : List ℕ) (program : Program) (code : TreeCode) → IsAccepted source program →
+    ensures trees { (source : List ℕ) (program : Program) (code : PlainCode) → IsAccepted source program →
         AreLowered program (all_instrs code) → (i f : ℕ) (arguments : Values) (calls frames : ℕ) →
         function_of program.instances i ≡ Some f → Takes program i arguments →
         EndsIn code (begun (entry f arguments frames) calls)
         (flat_meaning program i arguments calls frames).answer }
     ensures cells { (source : List ℕ) (program : Program) (code : PlainCode) → IsAccepted source program →
-        AreLowered program (all_instrs (run_code code)) → (before waits : Kinds) (i f : ℕ) (arguments : Values)
+        AreLowered program (all_instrs code) → (before waits : Kinds) (i f : ℕ) (arguments : Values)
         (kept : List ℕ) (s : State) (calls : ℕ) →
         IsFunctionOf program i code f → IsStart code before waits f kept s → BeginsWith code f s arguments →
         EndsAs code before f s calls (flat_meaning program i arguments calls s.free).answer }
@@ -46,7 +43,7 @@ pub fn accepted_code_means_its_program()
 /// function of its name, and that of any instance as the source means by its function with what is given for its static
 /// parameters. For who reads the source alone.
 pub fn accepted_code_means_its_source()
-    ensures trees { (source : List ℕ) (core : Core) (program : Program) (code : TreeCode) → IsParsed source core →
+    ensures trees { (source : List ℕ) (core : Core) (program : Program) (code : PlainCode) → IsParsed source core →
         IsAccepted source program → AreLowered program (all_instrs code) → (i f : ℕ) (instance : Instance)
         (arguments : Values) (calls frames : ℕ) →
         slice_get program.instances i ≡ Some instance → instance.root ≡ true →
@@ -54,12 +51,12 @@ pub fn accepted_code_means_its_source()
         EndsIn code (begun (entry f arguments frames) calls)
         (meaning core instance.name NoClosed arguments calls frames).answer }
     ensures cells { (source : List ℕ) (core : Core) (program : Program) (code : PlainCode) → IsParsed source core →
-        IsAccepted source program → AreLowered program (all_instrs (run_code code)) → (before waits : Kinds)
+        IsAccepted source program → AreLowered program (all_instrs code) → (before waits : Kinds)
         (i f : ℕ) (instance : Instance) (arguments : Values) (kept : List ℕ) (s : State) (calls : ℕ) →
         slice_get program.instances i ≡ Some instance → instance.root ≡ true →
         IsFunctionOf program i code f → IsStart code before waits f kept s → BeginsWith code f s arguments →
         EndsAs code before f s calls (meaning core instance.name NoClosed arguments calls s.free).answer }
-    ensures instances { (source : List ℕ) (core : Core) (program : Program) (code : TreeCode) →
+    ensures instances { (source : List ℕ) (core : Core) (program : Program) (code : PlainCode) →
         IsParsed source core → IsAccepted source program → AreLowered program (all_instrs code) →
         (i f : ℕ) (instance : Instance) →
         slice_get program.instances i ≡ Some instance → function_of program.instances i ≡ Some f →

@@ -18,7 +18,7 @@ ghost use Rattle.lowering_soundness.specs.lowering_relation.LaidFunctions.{AreLa
 ghost use Rattle.lowering_soundness.specs.Placed.{Callees};
 ghost use Rattle.lowering_soundness.specs.lowering_relation.Standing.{MapsStand};
 ghost use Rattle.lowering_soundness.specs.code_rules.Breaks.{IsSound};
-ghost use Rattle.lowering_soundness.specs.code_rules.Codes.{PlainCode, PlainFunction, function_at, plain};
+ghost use Rattle.lowering_soundness.specs.cell_code.Plain.{PlainFunction, PlainCode, plain, function_at};
 ghost use Rattle.lowering_soundness.specs.code_rules.StackNumbers.{HasStack};
 ghost use Rattle.lowering_soundness.specs.code_rules.Tables.{AreSoundTables};
 ghost use Rattle.derivation_correctness.specs.source_report.Report.{IsTyped, IsAccepted};

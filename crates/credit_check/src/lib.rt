@@ -8,3 +8,4 @@ mod notes;
 mod walk;
 
 pub use check::check_credits;
+pub use needs::{add_argument, add_pattern, marked};

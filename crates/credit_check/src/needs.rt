@@ -35,9 +35,9 @@ pub fn add_arguments(sizes: &mut Sizes, arguments: &[Argument]) -> Result<(), No
     Ok(())
 }
 
-// Adds what a pattern gives: a credit for each constructor with fields.
+/// Adds what a pattern gives: a credit for each constructor with fields.
 #[cycle(pattern)]
-fn add_pattern(sizes: &mut Sizes, pattern: &Pattern) -> Result<(), NoMemory>
+pub fn add_pattern(sizes: &mut Sizes, pattern: &Pattern) -> Result<(), NoMemory>
     ensures added { OnOk result (sizes.new ≡ L.nodes_from sizes.old (V.pattern pattern.now)) }
 {
     match pattern {

@@ -21,9 +21,10 @@ ghost use Rattle.derivation_walk.specs.Walks.{AreWalked};
 ghost use Rattle.derivation_walk.specs.Costs.{cost, cost_all, total};
 ghost use Rattle.derivation_walk.specs.declared.error.LineError.TheVariants.{TooLong};
 
-use crate::credits::{add_argument, add_pattern, are_same, credits_of, marked};
+use crate::credits::{are_same, credits_of};
 use crate::error::LineError;
 use crate::{Context, Uses};
+use credit_check::{add_argument, add_pattern, marked};
 use derivation_trees::{Builder, Derivation, Line, RuleName};
 use fip_base::plain::{FunKind, NoMemory, Param};
 use fip_trees::needs::{Need, Needs};

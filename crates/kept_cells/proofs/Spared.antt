@@ -19,7 +19,7 @@ use Rattle.separation.specs.machine_semantics.Steps.{Kinds, next, changes_in, ch
 use Rattle.separation.specs.machine_semantics.Words.{place_of, place_word}
 use Rattle.separation.proofs.machine_semantics.Followed.{Followed, followed}
 use Rattle.separation.specs.code_rules.Breaks.{IsSound}
-use Rattle.separation.specs.code_rules.Codes.{PlainCode, results}
+use Rattle.separation.specs.cell_code.Plain.{PlainCode, results}
 use Rattle.separation.specs.code_rules.Handing.{give_all}
 use Rattle.separation.specs.code_rules.Kinds.{at}
 use Rattle.separation.specs.code_rules.Ranges.{are_below, is_constructor}
@@ -30,7 +30,7 @@ use Rattle.separation.proofs.separation_kinds.Basics.{both, below, at_past, pick
 use Rattle.separation.proofs.separation_kinds.Giving.{credit_of}
 use Rattle.separation.proofs.separation_kinds.Words.{word_get, read_words}
 use Rattle.separation.specs.Alive.{lower_trees, IsAlive}
-use Rattle.separation.specs.Codes.{run_code, HasLiterals, AreKinds}
+use Rattle.separation.specs.Codes.{HasLiterals, AreKinds}
 use Rattle.separation.specs.Rows.{IsReady}
 use Rattle.separation.specs.Starts.{IsStart}
 use Rattle.separation.proofs.Loading.{start_alive}
@@ -165,23 +165,23 @@ act_spares c types kept s (I.Tail f rs) a g = nothing kept _ refl
 act_spares c types kept s (I.Ret rs) a g = nothing kept _ refl
 act_spares c types kept s (I.Jump target) a g = nothing kept _ refl
 
-step_spares : (c : PlainCode) (before waits : Kinds) (types kept : List ℕ) (s : State) → IsSound c → HasLiterals c → AreKinds c before waits → IsAlive c types kept s → IsSpared kept (changes_of before (run_code c) s)
+step_spares : (c : PlainCode) (before waits : Kinds) (types kept : List ℕ) (s : State) → IsSound c → HasLiterals c → AreKinds c before waits → IsAlive c types kept s → IsSpared kept (changes_of before c s)
 step_spares c before waits types kept s sound literals kinds a =
-    let instr : instr_of (run_code c) s ≡ Some a.instr = run_instr_at c s.running.function s.running.at a.function a.instr a.is a.is_instr in
+    let instr : instr_of c s ≡ Some a.instr = run_instr_at c s.running.function s.running.at a.function a.instr a.is a.is_instr in
     let known : kinds_of before s ≡ a.kinds = kinds.known s.running.function s.running.at a.function a.kinds a.is a.known in
-    subst (IsSpared kept) (sym (ap₂ (λ ks x. changes_at (run_code c) ks s x) known instr)) (act_spares c types kept s a.instr a (ready c types kept s sound literals a))
+    subst (IsSpared kept) (sym (ap₂ (λ ks x. changes_at c ks s x) known instr)) (act_spares c types kept s a.instr a (ready c types kept s sound literals a))
 
-pub went : (c : PlainCode) (before waits : Kinds) (types kept : List ℕ) (s t : State) (p : ℕ) → IsSound c → HasLiterals c → AreKinds c before waits → IsAlive c types kept s → 0 < count p kept → next before (run_code c) s ≡ Went t → cell_at t.store p ≡ cell_at s.store p
+pub went : (c : PlainCode) (before waits : Kinds) (types kept : List ℕ) (s t : State) (p : ℕ) → IsSound c → HasLiterals c → AreKinds c before waits → IsAlive c types kept s → 0 < count p kept → next before c s ≡ Went t → cell_at t.store p ≡ cell_at s.store p
 went c before waits types kept s t p sound literals kinds a some is =
-    changes_keep kept (changes_of before (run_code c) s) s.store t.store p (step_spares c before waits types kept s sound literals kinds a).each some
-    (subst (Followed (changes_of before (run_code c) s) s) is (followed before (run_code c) s))
+    changes_keep kept (changes_of before c s) s.store t.store p (step_spares c before waits types kept s sound literals kinds a).each some
+    (subst (Followed (changes_of before c s) s) is (followed before c s))
 
-pub entered : (c : PlainCode) (before : Kinds) (s t : State) (p : ℕ) → next before (run_code c) s ≡ Entered t → cell_at t.store p ≡ cell_at s.store p
-entered c before s t p is = ap (λ (u : Store). cell_at u p) (subst (Followed (changes_of before (run_code c) s) s) is (followed before (run_code c) s))
+pub entered : (c : PlainCode) (before : Kinds) (s t : State) (p : ℕ) → next before c s ≡ Entered t → cell_at t.store p ≡ cell_at s.store p
+entered c before s t p is = ap (λ (u : Store). cell_at u p) (subst (Followed (changes_of before c s) s) is (followed before c s))
 
 -- ---- runs
 
-comes_kept : (c : PlainCode) (before waits : Kinds) (types kept : List ℕ) (s : State) (left n p : ℕ) (x : Next) → next before (run_code c) s ≡ x → IsSound c → HasLiterals c → AreKinds c before waits → IsAlive c types kept s → 0 < count p kept → cell_at (state_of (comes s left n x)).store p ≡ cell_at s.store p
+comes_kept : (c : PlainCode) (before waits : Kinds) (types kept : List ℕ) (s : State) (left n p : ℕ) (x : Next) → next before c s ≡ x → IsSound c → HasLiterals c → AreKinds c before waits → IsAlive c types kept s → 0 < count p kept → cell_at (state_of (comes s left n x)).store p ≡ cell_at s.store p
 comes_kept c before waits types kept s left n p (Went t) is sound literals kinds a some = went c before waits types kept s t p sound literals kinds a some is
 comes_kept c before waits types kept s zero n p (Entered t) is sound literals kinds a some = refl
 comes_kept c before waits types kept s (suc left) n p (Entered t) is sound literals kinds a some = entered c before s t p is
@@ -191,29 +191,29 @@ comes_kept c before waits types kept s zero n p TooDeep is sound literals kinds 
 comes_kept c before waits types kept s (suc left) n p TooDeep is sound literals kinds a some = refl
 comes_kept c before waits types kept s left n p Stuck is sound literals kinds a some = refl
 
-later_kept : (c : PlainCode) (before waits : Kinds) (types kept : List ℕ) (r : Run) (p : ℕ) → IsSound c → HasLiterals c → AreKinds c before waits → GoodRun c types kept r → 0 < count p kept → cell_at (state_of (later before (run_code c) r)).store p ≡ cell_at (state_of r).store p
-later_kept c before waits types kept (Going s left n) p sound literals kinds g some = comes_kept c before waits types kept s left (suc n) p (next before (run_code c) s) refl sound literals kinds g some
+later_kept : (c : PlainCode) (before waits : Kinds) (types kept : List ℕ) (r : Run) (p : ℕ) → IsSound c → HasLiterals c → AreKinds c before waits → GoodRun c types kept r → 0 < count p kept → cell_at (state_of (later before c r)).store p ≡ cell_at (state_of r).store p
+later_kept c before waits types kept (Going s left n) p sound literals kinds g some = comes_kept c before waits types kept s left (suc n) p (next before c s) refl sound literals kinds g some
 later_kept c before waits types kept (Over e s left n) p sound literals kinds g some = refl
 
-after_kept : (c : PlainCode) (before waits : Kinds) (types kept : List ℕ) (k : ℕ) (r : Run) (p : ℕ) → IsSound c → HasLiterals c → AreKinds c before waits → GoodRun c types kept r → 0 < count p kept → cell_at (state_of (after before (run_code c) k r)).store p ≡ cell_at (state_of r).store p
+after_kept : (c : PlainCode) (before waits : Kinds) (types kept : List ℕ) (k : ℕ) (r : Run) (p : ℕ) → IsSound c → HasLiterals c → AreKinds c before waits → GoodRun c types kept r → 0 < count p kept → cell_at (state_of (after before c k r)).store p ≡ cell_at (state_of r).store p
 after_kept c before waits types kept zero r p sound literals kinds g some = refl
 after_kept c before waits types kept (suc k) r p sound literals kinds g some =
-    after_kept c before waits types kept k (later before (run_code c) r) p sound literals kinds (later_good c before waits types kept r sound literals kinds g) some
+    after_kept c before waits types kept k (later before c r) p sound literals kinds (later_good c before waits types kept r sound literals kinds g) some
     ∙ later_kept c before waits types kept r p sound literals kinds g some
 
 begun_state : (s : State) (calls : ℕ) → state_of (begun s calls) ≡ s
 begun_state s zero = refl
 begun_state s (suc calls) = refl
 
-pub run_kept : (c : PlainCode) (before waits : Kinds) (n : ℕ) (kept : List ℕ) (s : State) (calls k p : ℕ) → IsStart c before waits n kept s → 0 < count p kept → cell_at (state_of (after before (run_code c) k (begun s calls))).store p ≡ cell_at s.store p
+pub run_kept : (c : PlainCode) (before waits : Kinds) (n : ℕ) (kept : List ℕ) (s : State) (calls k p : ℕ) → IsStart c before waits n kept s → 0 < count p kept → cell_at (state_of (after before c k (begun s calls))).store p ≡ cell_at s.store p
 run_kept c before waits n kept s calls k p t some =
     after_kept c before waits (results c n) kept k (begun s calls) p t.sound t.literals t.kinds (begun_good c (results c n) kept s calls (start_alive c before waits n kept s t)) some
     ∙ ap (λ (u : State). cell_at u.store p) (begun_state s calls)
 
 -- a cell isn't kept and released
-pub run_held : (c : PlainCode) (before waits : Kinds) (n : ℕ) (kept : List ℕ) (s : State) (calls k p : ℕ) → IsStart c before waits n kept s → 0 < count p kept → released_at (state_of (after before (run_code c) k (begun s calls))).store p ≡ 0
+pub run_held : (c : PlainCode) (before waits : Kinds) (n : ℕ) (kept : List ℕ) (s : State) (calls k p : ℕ) → IsStart c before waits n kept s → 0 < count p kept → released_at (state_of (after before c k (begun s calls))).store p ≡ 0
 run_held c before waits n kept s calls k p t some =
     let a = run_alive c before waits n kept s calls k t in
     let once = a.once p in
-    let one = there_few (state_of (after before (run_code c) k (begun s calls))).store p in
+    let one = there_few (state_of (after before c k (begun s calls))).store p in
     omega arith

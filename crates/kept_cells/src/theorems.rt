@@ -6,9 +6,9 @@ ghost use Rattle.separation.specs.machine_semantics.Runs.{state_of, begun, after
 ghost use Rattle.separation.specs.machine_semantics.States.{State, Went, Entered};
 ghost use Rattle.separation.specs.machine_semantics.Steps.{Kinds, next};
 ghost use Rattle.separation.specs.code_rules.Breaks.{IsSound};
-ghost use Rattle.separation.specs.code_rules.Codes.{PlainCode};
+ghost use Rattle.separation.specs.cell_code.Plain.{PlainCode};
 ghost use Rattle.separation.specs.Alive.{IsAlive};
-ghost use Rattle.separation.specs.Codes.{run_code, HasLiterals, AreKinds};
+ghost use Rattle.separation.specs.Codes.{HasLiterals, AreKinds};
 ghost use Rattle.separation.specs.Starts.{IsStart};
 
 /// A step of sound code from a state of a run leaves each kept cell with its constructor and its fields. For who steps a
@@ -16,9 +16,9 @@ ghost use Rattle.separation.specs.Starts.{IsStart};
 pub fn no_step_changes_a_kept_cell()
     ensures went { (c : PlainCode) (before waits : Kinds) (types kept : List ℕ) (s t : State) (p : ℕ) → IsSound c →
         HasLiterals c → AreKinds c before waits → IsAlive c types kept s → 0 < count p kept →
-        next before (run_code c) s ≡ Went t → cell_at t.store p ≡ cell_at s.store p }
+        next before c s ≡ Went t → cell_at t.store p ≡ cell_at s.store p }
     ensures entered { (c : PlainCode) (before : Kinds) (s t : State) (p : ℕ) →
-        next before (run_code c) s ≡ Entered t → cell_at t.store p ≡ cell_at s.store p }
+        next before c s ≡ Entered t → cell_at t.store p ≡ cell_at s.store p }
 {}
 
 /// After any steps of a run of sound code each kept cell has the constructor and the fields that it had before the
@@ -26,8 +26,8 @@ pub fn no_step_changes_a_kept_cell()
 pub fn a_run_leaves_kept_cells_as_they_were()
     ensures theorem { (c : PlainCode) (before waits : Kinds) (n : ℕ) (kept : List ℕ) (s : State) (calls steps p : ℕ) →
         IsStart c before waits n kept s → 0 < count p kept →
-        cell_at (state_of (after before (run_code c) steps (begun s calls))).store p ≡ cell_at s.store p }
+        cell_at (state_of (after before c steps (begun s calls))).store p ≡ cell_at s.store p }
     ensures held { (c : PlainCode) (before waits : Kinds) (n : ℕ) (kept : List ℕ) (s : State) (calls steps p : ℕ) →
         IsStart c before waits n kept s → 0 < count p kept →
-        released_at (state_of (after before (run_code c) steps (begun s calls))).store p ≡ 0 }
+        released_at (state_of (after before c steps (begun s calls))).store p ≡ 0 }
 {}

@@ -8,7 +8,8 @@ use Rattle.std.proofs.lemmas.Option.{slice_get-map}
 use Rattle.cell_code.specs.declared.code.Instr.{Instr}
 use Rattle.cell_code.specs.declared.kind.Kind.{Kind}
 use Rattle.cell_code.specs.declared.kind.Label.{Label}
-use Rattle.lowering_relation.specs.code_rules.Codes.{LabelMap, plain_label, label_at}
+use Rattle.cell_code.specs.Plain.{LabelMap, plain_label}
+use Rattle.lowering_relation.specs.code_rules.Codes.{label_at}
 use Rattle.lowering_relation.specs.Known.{joined}
 use Rattle.lowering_relation.specs.Standing.{AreOpen, are_open}
 use Rattle.lowering_relation.specs.Written.{Extends}

@@ -12,7 +12,7 @@ use Rattle.cell_code.specs.declared.kind.Label.{Label}
 use Rattle.cell_code.specs.declared.code.Instr.{Instr}
 use Rattle.cell_code.specs.declared.code.Instr.TheVariants as I
 use Rattle.cell_code.specs.declared.code.Function.{Function}
-use Rattle.lowering_relation.specs.code_rules.Codes.{LabelMap, plain_label}
+use Rattle.cell_code.specs.Plain.{LabelMap, plain_label}
 use Rattle.code_file.specs.Spelling.{◌+++◌, each, mark, one, two, four, eight}
 use Rattle.code_file.specs.CodeText.{list_text, arguments_text, operator_number, instr_text, kind_text, set_text, register_text, from_text}
 use Rattle.code_file.proofs.Numbers.{one_fits, two_fits, four_fits, eight_fits, register_some, register_no}

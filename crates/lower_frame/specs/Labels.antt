@@ -5,7 +5,8 @@
 use Rattle.std.specs.Prelude.{◌≡◌, ◌≤◌, ◌<◌, ◌-◌, ◌==◌, ℕ, zero, suc, Bool, true, false, List, [], ◌∷◌, ◌++◌}
 use Rattle.std.specs.Prelude.{Option, Some, None, is_some, length, take, slice_get, if◌then◌else◌}
 use Rattle.cell_code.specs.declared.kind.Kind.{Kind}
-use Rattle.lowering_relation.specs.code_rules.Codes.{LabelMap, label_at}
+use Rattle.cell_code.specs.Plain.{LabelMap}
+use Rattle.lowering_relation.specs.code_rules.Codes.{label_at}
 use Rattle.lowering_relation.specs.Known.{joined}
 use Rattle.lowering_relation.specs.Written.{Written}
 

@@ -8,7 +8,7 @@ use Rattle.cell_code.specs.declared.kind.Label.{Label}
 use Rattle.cell_code.specs.declared.code.Instr.{Instr}
 use Rattle.cell_code.specs.declared.code.Function.{Function}
 use Rattle.code_file.specs.CodeText.{instr_text, kind_text}
-use Rattle.lowering_relation.specs.code_rules.Codes.{LabelMap}
+use Rattle.cell_code.specs.Plain.{LabelMap}
 
 -- there is a text
 abbrev pub IsSpelt : Option (List ℕ) → Type 0

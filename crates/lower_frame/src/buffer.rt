@@ -2,7 +2,7 @@
 ghost use Rattle.std.specs.Prelude.{◌≡◌, ◌≤◌, ◌<◌, ◌-◌, suc, true, [], ◌∷◌, ◌++◌, IfOk, OnOk, OnErr, length, map};
 ghost use Rattle.std.specs.Prelude.{slice_get, slice_set, Some, None};
 ghost use Rattle.lowering_relation.specs.Written.{Written as Writing, Extends, IsAt, added, place_of, settled, size};
-ghost use Rattle.lowering_relation.specs.code_rules.Codes.{plain_label};
+ghost use Rattle.cell_code.specs.Plain.{plain_label};
 ghost use Rattle.code_file.specs.CodeText.{instr_text};
 ghost use Rattle.lowering_relation.specs.Standing.{AreOpen, are_open, is_open};
 ghost use Rattle.lower_frame.specs.Labels.{labels, placed, stands_at, telling, untold, HaveMaps, Rising};

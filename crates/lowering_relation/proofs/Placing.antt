@@ -5,7 +5,8 @@ use Rattle.tree_semantics.proofs.fip_language.Search.{le_or_less}
 use Rattle.std.proofs.lemmas.Option.{slice_get-map}
 use Rattle.code_rules.specs.cell_code.declared.code.Instr.{Instr}
 use Rattle.code_rules.specs.cell_code.declared.code.Instr.TheVariants as I
-use Rattle.code_rules.specs.Codes.{LabelMap, label_at}
+use Rattle.code_rules.specs.cell_code.Plain.{LabelMap}
+use Rattle.code_rules.specs.Codes.{label_at}
 use Rattle.lowering_relation.specs.Known.{joined}
 use Rattle.lowering_relation.specs.LoweredBodies as B
 use Rattle.lowering_relation.specs.Written.{Written, size, settled, IsAt, Extends, HasFrom, added, or_zero, place_of, GivesUp}

@@ -3,7 +3,7 @@
 -- credits freed. Where register 0 holds a Nil that was matched and register 1 a list, Take 0 []; Drop 1 gives both up.
 use Rattle.std.specs.Prelude.{◌≡◌, ◌⊎◌, ℕ, zero, suc, Bool, true, false, List, [], ◌∷◌, Some, slice_get, slice_set}
 use Rattle.code_rules.specs.cell_code.declared.code.Instr.TheVariants as I
-use Rattle.code_rules.specs.Codes.{PlainFunction}
+use Rattle.code_rules.specs.cell_code.Plain.{PlainFunction}
 use Rattle.lowering_relation.specs.declared.held.Held.TheVariants as H
 use Rattle.lowering_relation.specs.declared.held.Credit.{Credit}
 use Rattle.lowering_relation.specs.Known.{Known, holding, using, used, used_all, IsTaken}

@@ -5,7 +5,7 @@ use Rattle.tree_semantics.specs.fip_language.declared.Place.{Place}
 use Rattle.tree_semantics.specs.fip_language.declared.Operator.{Operator}
 use Rattle.credit_check.specs.fip_trees.Tree.{Instance}
 use Rattle.code_rules.specs.cell_code.declared.code.Instr.TheVariants as I
-use Rattle.code_rules.specs.Codes.{PlainFunction}
+use Rattle.code_rules.specs.cell_code.Plain.{PlainFunction}
 use Rattle.lowering_relation.specs.declared.held.Held.TheVariants as H
 use Rattle.lowering_relation.specs.Known.{Known, joined}
 use Rattle.lowering_relation.specs.Values.{Setting}

@@ -10,7 +10,8 @@ use Rattle.std.specs.Prelude.{slice_get, if◌then◌else◌}
 use Rattle.code_rules.specs.cell_code.declared.code.Instr.TheVariants as I
 use Rattle.code_rules.specs.cell_code.declared.kind.Kind.{Kind}
 use Rattle.credit_check.specs.fip_trees.Tree.{Expression, Clauses, NoClauses, MoreClauses}
-use Rattle.code_rules.specs.Codes.{PlainCode, PlainFunction, label_at}
+use Rattle.code_rules.specs.cell_code.Plain.{PlainFunction, PlainCode}
+use Rattle.code_rules.specs.Codes.{label_at}
 use Rattle.lowering_relation.specs.declared.held.Credit.{Credit}
 use Rattle.lowering_relation.specs.declared.held.Held.{Held}
 use Rattle.lowering_relation.specs.declared.held.Held.TheVariants as H

@@ -2,7 +2,8 @@
 -- part of its code.
 use Rattle.std.specs.Prelude.{◌≡◌, ℕ, ◌<◌, true, List, Some, None, length}
 use Rattle.code_rules.specs.cell_code.declared.kind.Kind.{Kind}
-use Rattle.code_rules.specs.Codes.{PlainCode, PlainFunction, label_at}
+use Rattle.code_rules.specs.cell_code.Plain.{PlainFunction, PlainCode}
+use Rattle.code_rules.specs.Codes.{label_at}
 use Rattle.code_rules.specs.Kinds.{at}
 use Rattle.code_rules.specs.Fitting.{fits}
 use Rattle.lowering_relation.specs.Known.{Known}

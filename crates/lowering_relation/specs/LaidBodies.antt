@@ -7,7 +7,7 @@ use Rattle.tree_semantics.specs.fip_language.declared.Place.{Place}
 use Rattle.tree_semantics.specs.fip_language.declared.Operator.{Operator}
 use Rattle.credit_check.specs.fip_trees.Tree.{Expression, Give, Tuple, Operation, Call, Match, Nested, Block, Last, Let}
 use Rattle.credit_check.specs.fip_trees.Tree.{Argument, Arguments, NoArguments, MoreArguments, Clauses, NoClauses, MoreClauses}
-use Rattle.code_rules.specs.Codes.{PlainCode, PlainFunction}
+use Rattle.code_rules.specs.cell_code.Plain.{PlainFunction, PlainCode}
 use Rattle.lowering_relation.specs.Known.{Known}
 use Rattle.lowering_relation.specs.Values.{Setting, ArgumentsAt}
 use Rattle.lowering_relation.specs.LoweredBodies.{Target, Into, Return, registers_for, reserved, with_names}

@@ -4,10 +4,11 @@
 -- where the list is Nil, at 3, where the test of Nil failed, and at 4, where Cons(x, t) was taken apart.
 use Rattle.std.specs.Prelude.{pos, true, false, List, [], ◌∷◌, None, codes, replicate}
 use Rattle.tree_semantics.specs.fip_language.declared.FunKind.TheVariants.{Fip, Fbip}
+use Rattle.code_rules.specs.cell_code.declared.code.CodeKind.TheVariants as C
 use Rattle.code_rules.specs.cell_code.declared.code.Instr.TheVariants as I
 use Rattle.code_rules.specs.cell_code.declared.kind.Kind.{Kind}
 use Rattle.code_rules.specs.cell_code.declared.kind.Kind.TheVariants as K
-use Rattle.code_rules.specs.Codes.{PlainCode, PlainFunction}
+use Rattle.code_rules.specs.cell_code.Plain.{PlainFunction, PlainCode}
 use Rattle.tree_semantics.specs.fip_language.Example.{here}
 use Rattle.credit_check.specs.fip_trees.Tree.{Expression, Give, Match, Last, Let, NoClauses, MoreClauses, Instance}
 use Rattle.instance_semantics.specs.Example.{bound, var, truth_pattern, gives_int, lists, rev}
@@ -27,7 +28,7 @@ cons_kinds = K.Credit 2 ∷ list_kind ∷ K.Scalar 0 ∷ list_kind ∷ replicate
 
 abbrev pub reversing : PlainFunction
 reversing = record {
-  kind = Fip;
+  kind = C.Fip;
   name = codes "rev";
   params = rev.params;
   credits = [];
@@ -74,7 +75,7 @@ met_kinds = K.Scalar 1 ∷ K.Scalar 0 ∷ replicate 2 K.Gone
 
 abbrev pub choosing_digit : PlainFunction
 choosing_digit = record {
-  kind = Fip;
+  kind = C.Fip;
   name = codes "digit";
   params = digit.params;
   credits = [];
@@ -118,7 +119,7 @@ picked_met = K.Scalar 1 ∷ K.Gone ∷ K.Gone ∷ list_kind ∷ []
 
 abbrev pub picking : PlainFunction
 picking = record {
-  kind = Fbip;
+  kind = C.Fbip;
   name = codes "pick";
   params = pick.params;
   credits = [];

@@ -1,7 +1,8 @@
 -- It serves the proof that lowered code is sound: the function of an instance, and the code of a program.
 use Rattle.std.specs.Prelude.{◌≡◌, ◌≤◌, ◌+◌, ℕ, Bool, Some, length, slice_get}
 use Rattle.credit_check.specs.fip_trees.Tree.{Instance, Program}
-use Rattle.code_rules.specs.Codes.{PlainCode, PlainFunction, function_at, is_fip}
+use Rattle.code_rules.specs.cell_code.Plain.{PlainFunction, PlainCode, function_at}
+use Rattle.code_rules.specs.Codes.{is_fip, code_kind}
 use Rattle.lowering_relation.specs.Known.{Known, joined}
 use Rattle.lowering_relation.specs.Values.{Setting}
 use Rattle.lowering_relation.specs.LoweredBodies.{Return}
@@ -23,7 +24,7 @@ pub record IsLaid (c : PlainCode) (st : Setting) (p : Program) (n : ℕ) (f : Pl
   pub instance : Instance
   pub there : slice_get p.instances number ≡ Some instance
   pub function : joined (slice_get st.functions number) ≡ Some n
-  pub kind : f.kind ≡ instance.kind
+  pub kind : f.kind ≡ code_kind instance.kind
   pub laid : FunctionLaid c st (is_fip f.kind) f instance
 
 -- a code of which each function is that of an instance

@@ -6,7 +6,7 @@
 use Rattle.std.specs.Prelude.{◌≡◌, ◌⊎◌, ◌<◌, ◌-◌, ℕ, Bool, true, false, List, [], Some, length, take}
 use Rattle.tree_semantics.specs.fip_language.Every.{Among}
 use Rattle.credit_check.specs.fip_trees.Tree.{Expression}
-use Rattle.code_rules.specs.Codes.{PlainFunction}
+use Rattle.code_rules.specs.cell_code.Plain.{PlainFunction}
 use Rattle.lowering_relation.specs.Known.{Known, register_of}
 use Rattle.lowering_relation.specs.Values.{Setting}
 use Rattle.lowering_relation.specs.Describing.{held_at, is_tree}

@@ -7,7 +7,7 @@ use Rattle.std.specs.Prelude.{◌≡◌, ◌⊎◌, ℕ, ◌<◌, ◌≤◌, Boo
 use Rattle.tree_semantics.specs.fip_language.Table.{Table}
 use Rattle.tree_semantics.specs.fip_language.Every.{Among}
 use Rattle.credit_check.specs.fip_trees.Tree.{Argument, Variable, Literal, Constructor, Pattern, Clauses, NoClauses, MoreClauses}
-use Rattle.code_rules.specs.Codes.{PlainCode, PlainFunction}
+use Rattle.code_rules.specs.cell_code.Plain.{PlainFunction, PlainCode}
 use Rattle.code_rules.specs.Types.{count}
 use Rattle.lowering_relation.specs.declared.held.Held.{Held}
 use Rattle.lowering_relation.specs.declared.held.Held.TheVariants as H

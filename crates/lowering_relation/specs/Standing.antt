@@ -4,7 +4,7 @@
 use Rattle.std.specs.Prelude.{◌≡◌, ℕ, ◌<◌, ◌==◌, Bool, true, ◌&&◌, not, List, [], ◌∷◌, length}
 use Rattle.code_rules.specs.cell_code.declared.kind.Kind.{Kind}
 use Rattle.code_rules.specs.cell_code.declared.kind.Kind.TheVariants as K
-use Rattle.code_rules.specs.Codes.{PlainFunction, LabelMap}
+use Rattle.code_rules.specs.cell_code.Plain.{LabelMap, PlainFunction}
 
 -- the places of maps rise, above `low` and below n
 abbrev pub AreRising : ℕ → ℕ → List LabelMap → Type 0

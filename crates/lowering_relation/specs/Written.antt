@@ -6,7 +6,8 @@
 use Rattle.std.specs.Prelude.{◌≡◌, ◌≤◌, ◌<◌, ℕ, List, [], ◌∷◌, ◌++◌, Option, Some, None, length, slice_get}
 use Rattle.code_rules.specs.cell_code.declared.code.Instr.{Instr}
 use Rattle.code_rules.specs.cell_code.declared.code.Instr.TheVariants as I
-use Rattle.code_rules.specs.Codes.{LabelMap, label_at}
+use Rattle.code_rules.specs.cell_code.Plain.{LabelMap}
+use Rattle.code_rules.specs.Codes.{label_at}
 use Rattle.lowering_relation.specs.Known.{joined}
 use Rattle.lowering_relation.specs.LoweredBodies as B
 

@@ -5,7 +5,8 @@ use Rattle.tree_refinement.specs.fip_language.Meaning.{Environment, binder_value
 use Rattle.lowering_relation.specs.fip_trees.Tree.{Argument, Variable, Literal, Constructor, Arguments, NoArguments, MoreArguments}
 use Rattle.tree_refinement.specs.cell_code.declared.code.Instr.{Instr}
 use Rattle.tree_refinement.specs.cell_code.declared.code.Instr.TheVariants as I
-use Rattle.lowering_relation.specs.machine_semantics.Codes.{PlainCode, instr_at}
+use Rattle.tree_refinement.specs.cell_code.Plain.{PlainCode}
+use Rattle.lowering_relation.specs.machine_semantics.Codes.{instr_at}
 use Rattle.lowering_relation.specs.instance_semantics.Meaning.{node_of, argument_value, argument_values}
 use Rattle.lowering_relation.specs.tree_semantics.Contents.{Contents, put, read_all}
 use Rattle.lowering_relation.specs.tree_semantics.States.{Frame, State, Went}

@@ -11,7 +11,8 @@ use Rattle.lowering_relation.specs.fip_trees.declared.program.Binder.{Binder}
 use Rattle.lowering_relation.specs.fip_trees.Tree.{Expression, Give, Tuple, Operation, Call, Match, Nested, Block, Last, Let, Program, Pattern, Clauses, NoClauses, MoreClauses}
 use Rattle.tree_refinement.specs.cell_code.declared.code.Instr.{Instr}
 use Rattle.tree_refinement.specs.cell_code.declared.code.Instr.TheVariants as I
-use Rattle.lowering_relation.specs.machine_semantics.Codes.{PlainFunction, PlainCode, function_at, instr_at}
+use Rattle.tree_refinement.specs.cell_code.Plain.{PlainFunction, PlainCode, function_at}
+use Rattle.lowering_relation.specs.machine_semantics.Codes.{instr_at}
 use Rattle.lowering_relation.specs.machine_semantics.Steps.{destinations_in}
 use Rattle.lowering_relation.specs.instance_semantics.Meaning.{bind_binders, argument_value, argument_values, eval, eval_block, calls_of, eval_clauses}
 use Rattle.lowering_relation.proofs.instance_semantics.Left.{calls_left}

@@ -6,7 +6,8 @@ use Rattle.tree_refinement.specs.fip_language.Matching.{Binding}
 use Rattle.tree_refinement.specs.fip_language.Meaning.{Environment, nothing_bound, bind_matched, Peak, Run as Evaluation, if_matches}
 use Rattle.tree_refinement.specs.cell_code.declared.code.Instr.{Instr}
 use Rattle.tree_refinement.specs.cell_code.declared.code.Instr.TheVariants as I
-use Rattle.lowering_relation.specs.machine_semantics.Codes.{PlainCode, instr_at}
+use Rattle.tree_refinement.specs.cell_code.Plain.{PlainCode}
+use Rattle.lowering_relation.specs.machine_semantics.Codes.{instr_at}
 use Rattle.lowering_relation.specs.tree_semantics.Contents.{Contents, put, value_at, children}
 use Rattle.lowering_relation.specs.tree_semantics.States.{Frame, Went}
 use Rattle.lowering_relation.specs.tree_semantics.Steps.{act, branch, peeked, is_node, is_int}

@@ -9,7 +9,7 @@ use Rattle.type_safety.specs.type_check.Binders.{all_annotated, entries}
 use Rattle.type_safety.specs.type_check.Scope.{Scope}
 use Rattle.type_safety.specs.type_check.World.{Head, world, head}
 use Rattle.type_safety.specs.type_check.Typing.{bound_by, Types, TypesBlock, TypesClauses, parameter_entries, IsFilled}
-use Rattle.lowering_relation.specs.machine_semantics.Codes.{PlainCode}
+use Rattle.tree_refinement.specs.cell_code.Plain.{PlainCode, all_instrs}
 use Rattle.lowering_relation.specs.instance_semantics.Registers.{frame_words}
 use Rattle.lowering_relation.specs.instance_semantics.Meaning.{bind_binders, argument_value, argument_values, Calls, calls_of, flat_meaning}
 use Rattle.type_safety.specs.Formed.{FormedExpression, FormedBlock, FormedClauses, IsFormed}
@@ -22,7 +22,6 @@ use Rattle.lowering_relation.specs.LoweredBodies.{function_of}
 use Rattle.lowering_relation.specs.LoweredFunctions.{AreLowered}
 use Rattle.lowering_simulation.specs.Distinct.{AreDistinct}
 use Rattle.lowering_simulation.specs.RunEnds.{EndsIn}
-use Rattle.lowering_simulation.specs.Lowered.{all_instrs}
 use Rattle.lowering_simulation.specs.Guarded.{Takes, GuardedExpression, GuardedBlock, GuardedClauses, IsGuarded}
 use Rattle.lowering_simulation.proofs.Whole.{runs_end}
 use Rattle.type_safety.proofs.type_check.fip_language.Facts.{same_some}

@@ -5,7 +5,8 @@ use Rattle.tree_refinement.specs.fip_language.Meaning.{Answer, Gives, Peak, Envi
 use Rattle.tree_refinement.specs.fip_language.Every.{Every, Among}
 use Rattle.tree_refinement.specs.cell_code.declared.code.Instr.{Instr}
 use Rattle.tree_refinement.specs.cell_code.declared.code.Instr.TheVariants as I
-use Rattle.lowering_relation.specs.machine_semantics.Codes.{PlainCode, instr_at}
+use Rattle.tree_refinement.specs.cell_code.Plain.{PlainCode}
+use Rattle.lowering_relation.specs.machine_semantics.Codes.{instr_at}
 use Rattle.lowering_relation.specs.tree_semantics.Contents.{Contents, put, put_all, read_all}
 use Rattle.lowering_relation.specs.tree_semantics.States.{Frame, Went}
 use Rattle.lowering_relation.specs.tree_semantics.Steps.{act, returned}

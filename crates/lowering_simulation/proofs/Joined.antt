@@ -9,14 +9,13 @@ use Rattle.type_safety.specs.Formed.{IsFormed}
 use Rattle.lowering_relation.specs.instance_semantics.Meaning.{flat_meaning}
 use Rattle.lowering_relation.specs.machine_semantics.Steps.{Kinds}
 use Rattle.lowering_relation.specs.machine_semantics.States.{State}
-use Rattle.lowering_relation.specs.code_rules.Codes.{PlainCode, params}
+use Rattle.tree_refinement.specs.cell_code.Plain.{PlainCode, all_instrs}
+use Rattle.lowering_relation.specs.code_rules.Codes.{params}
 use Rattle.tree_refinement.specs.fip_language.Table.{HaveTypes}
 use Rattle.lowering_relation.specs.LoweredFunctions.{AreLowered}
 use Rattle.lowering_simulation.specs.Distinct.{AreDistinct}
 use Rattle.lowering_simulation.specs.Guarded.{type_of, Takes}
-use Rattle.lowering_simulation.specs.Lowered.{all_instrs}
 use Rattle.lowering_simulation.proofs.Guards.{typed_runs_end}
-use Rattle.tree_refinement.specs.separation.Codes.{run_code}
 use Rattle.tree_refinement.specs.separation.Starts.{IsStart}
 use Rattle.tree_refinement.specs.Runs.{BeginsWith}
 use Rattle.tree_refinement.proofs.Values.{words_types}
@@ -29,8 +28,8 @@ takes c p g f s vs o b d is =
     let types : HaveTypes c.types (map type_of (params c f)) vs = words_types c.types s.store (map type_of (params c f)) (take (length (params c f)) s.running.words) vs b in
     subst (λ tb. HaveTypes tb (map type_of d.params) vs) o.types (subst (λ ps. HaveTypes c.types (map type_of ps) vs) (o.takes d is) types)
 
-pub joined : (c : PlainCode) (before waits : Kinds) (p : Program) → AreLowered p (all_instrs (run_code c)) → IsFormed p → IsFilled p → AreDistinct p → (g f : ℕ) (vs : Values) (kept : List ℕ) (s : State) (calls : ℕ) (a : Answer) → IsFunctionOf p g c f → IsStart c before waits f kept s → BeginsWith c f s vs → (flat_meaning p g vs calls s.free).answer ≡ a → a ≢ Stuck → EndsAs c before f s calls a
+pub joined : (c : PlainCode) (before waits : Kinds) (p : Program) → AreLowered p (all_instrs c) → IsFormed p → IsFilled p → AreDistinct p → (g f : ℕ) (vs : Values) (kept : List ℕ) (s : State) (calls : ℕ) (a : Answer) → IsFunctionOf p g c f → IsStart c before waits f kept s → BeginsWith c f s vs → (flat_meaning p g vs calls s.free).answer ≡ a → a ≢ Stuck → EndsAs c before f s calls a
 joined c before waits p lowered formed filled distinct g f vs kept s calls a o start begins means sound =
-    let t = typed_runs_end (run_code c) p lowered formed filled distinct g f vs calls s.free a o.function (takes c p g f s vs o begins) means sound in
+    let t = typed_runs_end c p lowered formed filled distinct g f vs calls s.free a o.function (takes c p g f s vs o begins) means sound in
     let e = cells_end c before waits f kept s vs calls t.enough a t.last t.left t.steps start begins t.is in
     record { end = e.0; last = e.1; left = t.left; steps = t.steps; ends = e.2; same = e.3 }

@@ -4,7 +4,8 @@ use Rattle.std.proofs.Common.{◌≡◌, ℕ, zero, suc, ◌+◌, List, length, 
 use Rattle.tree_refinement.specs.fip_language.Values.{Value, Values}
 use Rattle.tree_refinement.specs.fip_language.Meaning.{Answer, Gives, Trap, Out, Deep, Stuck, Peak, no_peak, higher, ends, after, Run as Evaluation, go_on, then_with, with_value, with_values}
 use Rattle.tree_refinement.specs.cell_code.declared.code.Instr.{Instr}
-use Rattle.lowering_relation.specs.machine_semantics.Codes.{PlainCode, instr_at}
+use Rattle.tree_refinement.specs.cell_code.Plain.{PlainCode}
+use Rattle.lowering_relation.specs.machine_semantics.Codes.{instr_at}
 use Rattle.lowering_relation.specs.tree_semantics.States.{Frame, State, Next, Went, Entered, Gave, Trapped, TooDeep, Halted}
 use Rattle.lowering_relation.specs.tree_semantics.Steps.{act, act_at, next}
 use Rattle.lowering_relation.specs.tree_semantics.Runs as T

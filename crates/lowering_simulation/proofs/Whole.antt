@@ -8,7 +8,8 @@ use Rattle.tree_refinement.specs.fip_language.Every.{Every}
 use Rattle.tree_refinement.specs.fip_language.Meaning.{Answer, Gives, Trap, Out, Deep, Stuck, Peak, no_peak, higher, ends, nothing_bound, Run as Evaluation}
 use Rattle.lowering_relation.specs.fip_trees.Tree.{Instance, Program}
 use Rattle.tree_refinement.specs.cell_code.declared.code.Instr.{Instr}
-use Rattle.lowering_relation.specs.machine_semantics.Codes.{PlainFunction, PlainCode, function_at, instr_in}
+use Rattle.tree_refinement.specs.cell_code.Plain.{PlainFunction, PlainCode, function_at, instrs_of, all_instrs}
+use Rattle.lowering_relation.specs.machine_semantics.Codes.{instr_in}
 use Rattle.lowering_relation.specs.instance_semantics.Registers.{frame_words}
 use Rattle.lowering_relation.specs.instance_semantics.Meaning.{bind_binders, body_run, eval_block, calls_of, flat_meaning}
 use Rattle.lowering_relation.specs.tree_semantics.Contents.{Contents, first_contents}
@@ -22,7 +23,6 @@ use Rattle.lowering_simulation.specs.Distinct.{IsDistinct, AreDistinct, in_block
 use Rattle.lowering_simulation.specs.Guarded.{Takes, IsGuarded}
 use Rattle.lowering_simulation.specs.RunEnds.{EndsIn, RunsTo, words_of_all}
 use Rattle.lowering_simulation.specs.Wide.{AreWide}
-use Rattle.lowering_simulation.specs.Lowered.{instrs_of, all_instrs}
 use Rattle.lowering_simulation.proofs.Leads.{Coming, At, Ends, After, ComesTo, LeadsTo, stays, and_on, as_high, same_peak, raised, below, coming, answer_coming, run_coming}
 use Rattle.lowering_relation.proofs.LoweredLists.{same_some}
 use Rattle.lowering_simulation.proofs.Bodies.{Begins, begin, Defined, CallsRun, block_runs, clear_bound}

@@ -7,9 +7,9 @@ use Rattle.lowering_relation.specs.fip_trees.Tree.{Instance, Program}
 use Rattle.lowering_relation.specs.machine_semantics.Steps.{Kinds}
 use Rattle.lowering_relation.specs.machine_semantics.States.{State}
 use Rattle.lowering_relation.specs.machine_semantics.Runs.{End, Ends}
-use Rattle.lowering_relation.specs.code_rules.Codes.{PlainCode, params, results}
+use Rattle.tree_refinement.specs.cell_code.Plain.{PlainCode, results}
+use Rattle.lowering_relation.specs.code_rules.Codes.{params}
 use Rattle.lowering_relation.specs.FunctionNumbers.{function_of}
-use Rattle.tree_refinement.specs.separation.Codes.{run_code}
 use Rattle.tree_refinement.specs.Endings.{IsSameEnd}
 
 -- The run of function n from this state, with so many calls, is over after enough steps, as this answer says: with
@@ -19,7 +19,7 @@ pub record EndsAs (c : PlainCode) (before : Kinds) (n : ℕ) (s : State) (calls 
   pub last : State
   pub left : ℕ
   pub steps : ℕ
-  pub ends : Ends before (run_code c) s calls end last left steps
+  pub ends : Ends before c s calls end last left steps
   pub same : IsSameEnd c.types (results c n) last left end a
 
 -- Function f of the code is that of instance g: the code has the types of the program, and the function the parameters

@@ -2,7 +2,7 @@
 -- was: the most frames beside the entry's, and the most words of all frames, where a function's frame has so many.
 use Rattle.std.specs.Prelude.{◌≡◌, ◌+◌, ℕ, zero, suc, List, [], ◌∷◌, length}
 use Rattle.tree_refinement.specs.fip_language.Meaning.{Answer, Peak, higher, Run as Evaluation}
-use Rattle.lowering_relation.specs.machine_semantics.Codes.{PlainCode}
+use Rattle.tree_refinement.specs.cell_code.Plain.{PlainCode}
 use Rattle.lowering_relation.specs.tree_semantics.States.{Frame, State}
 use Rattle.lowering_relation.specs.tree_semantics.Runs.{Run, Going, Over, later, after}
 

@@ -8,11 +8,9 @@ ghost use Rattle.type_safety.specs.Formed.{IsFormed};
 ghost use Rattle.lowering_relation.specs.instance_semantics.Meaning.{flat_meaning};
 ghost use Rattle.lowering_relation.specs.machine_semantics.Steps.{Kinds};
 ghost use Rattle.lowering_relation.specs.machine_semantics.States.{State};
-ghost use Rattle.lowering_relation.specs.code_rules.Codes.{PlainCode};
+ghost use Rattle.tree_refinement.specs.cell_code.Plain.{PlainCode, all_instrs};
 ghost use Rattle.lowering_relation.specs.LoweredFunctions.{AreLowered};
 ghost use Rattle.lowering_simulation.specs.Distinct.{AreDistinct};
-ghost use Rattle.lowering_simulation.specs.Lowered.{all_instrs};
-ghost use Rattle.tree_refinement.specs.separation.Codes.{run_code};
 ghost use Rattle.tree_refinement.specs.separation.Starts.{IsStart};
 ghost use Rattle.tree_refinement.specs.Runs.{BeginsWith};
 ghost use Rattle.lowering_simulation.specs.CellEnds.{EndsAs, IsFunctionOf};
@@ -22,7 +20,7 @@ ghost use Rattle.lowering_simulation.specs.CellEnds.{EndsAs, IsFunctionOf};
 /// or out of calls or frames. For who runs code in place of its program.
 pub fn code_on_cells_means_its_program()
     ensures theorem { (c : PlainCode) (before waits : Kinds) (program : Program) →
-        AreLowered program (all_instrs (run_code c)) → IsFormed program → IsFilled program → AreDistinct program →
+        AreLowered program (all_instrs c) → IsFormed program → IsFilled program → AreDistinct program →
         (g f : ℕ) (arguments : Values) (kept : List ℕ) (s : State) (calls : ℕ) (answer : Answer) →
         IsFunctionOf program g c f → IsStart c before waits f kept s → BeginsWith c f s arguments →
         (flat_meaning program g arguments calls s.free).answer ≡ answer →

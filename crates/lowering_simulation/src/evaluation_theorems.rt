@@ -5,7 +5,7 @@ ghost use Rattle.tree_refinement.specs.fip_language.Values.{Values};
 ghost use Rattle.lowering_relation.specs.fip_trees.Tree.{Program};
 ghost use Rattle.type_safety.specs.type_check.Typing.{IsFilled};
 ghost use Rattle.type_safety.specs.Formed.{IsFormed};
-ghost use Rattle.lowering_relation.specs.machine_semantics.Codes.{PlainCode};
+ghost use Rattle.tree_refinement.specs.cell_code.Plain.{PlainCode, all_instrs};
 ghost use Rattle.lowering_relation.specs.instance_semantics.Meaning.{flat_meaning};
 ghost use Rattle.lowering_relation.specs.tree_semantics.Runs.{begun, entry};
 ghost use Rattle.lowering_relation.specs.LoweredBodies.{function_of};
@@ -13,7 +13,6 @@ ghost use Rattle.lowering_relation.specs.LoweredFunctions.{AreLowered};
 ghost use Rattle.lowering_simulation.specs.Distinct.{AreDistinct};
 ghost use Rattle.lowering_simulation.specs.RunEnds.{EndsIn};
 ghost use Rattle.lowering_simulation.specs.Guarded.{IsGuarded, Takes};
-ghost use Rattle.lowering_simulation.specs.Lowered.{all_instrs};
 ghost use Rattle.lowering_relation.specs.WellMatched.{ArePatternsFormed, IsWellMatched};
 
 /// In a typed program each match that an evaluation comes to has a value of the match's type, and each call has

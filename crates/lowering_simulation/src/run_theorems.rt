@@ -3,7 +3,7 @@ ghost use Rattle.std.specs.Prelude.{◌≡◌, ◌≢◌, ℕ, suc, Some};
 ghost use Rattle.tree_refinement.specs.fip_language.Meaning.{Answer, Stuck};
 ghost use Rattle.tree_refinement.specs.fip_language.Values.{Values};
 ghost use Rattle.lowering_relation.specs.fip_trees.Tree.{Program};
-ghost use Rattle.lowering_relation.specs.machine_semantics.Codes.{PlainCode};
+ghost use Rattle.tree_refinement.specs.cell_code.Plain.{PlainCode, all_instrs};
 ghost use Rattle.lowering_relation.specs.instance_semantics.Meaning.{flat_meaning};
 ghost use Rattle.lowering_relation.specs.tree_semantics.Runs.{Run, begun, entry};
 ghost use Rattle.lowering_relation.specs.LoweredBodies.{function_of};
@@ -11,7 +11,6 @@ ghost use Rattle.lowering_relation.specs.LoweredFunctions.{AreLowered};
 ghost use Rattle.lowering_simulation.specs.Distinct.{AreDistinct};
 ghost use Rattle.lowering_simulation.specs.RunEnds.{EndsIn, RunsTo};
 ghost use Rattle.lowering_simulation.specs.Guarded.{IsGuarded, Takes};
-ghost use Rattle.lowering_simulation.specs.Lowered.{all_instrs};
 ghost use Rattle.lowering_simulation.specs.Wide.{AreWide};
 
 /// A run on trees of lowered code, from the function of an instance, ends as the instance means: with the same values

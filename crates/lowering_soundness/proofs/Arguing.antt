@@ -15,7 +15,7 @@ use Rattle.derivation_making.specs.ownership_calculus.Rules.{Fits}
 use Rattle.derivation_making.specs.ownership_calculus.ByCases.{DerivesValue, DerivesValues}
 use Rattle.derivation_making.proofs.ownership_calculus.Fit.{fits_same, fits_sum}
 use Rattle.derivation_making.specs.ownership_agreement.Bodies.{Scalars, variable, value, values}
-use Rattle.separation.specs.code_rules.Codes.{PlainCode, PlainFunction}
+use Rattle.separation.specs.cell_code.Plain.{PlainFunction, PlainCode}
 use Rattle.separation.specs.code_rules.Types.{is_scalar_type, fields}
 use Rattle.lowering_relation.specs.Known.{Known, register_of}
 use Rattle.lowering_relation.specs.Values.{Setting, is_scalar, BuiltAt, ArgumentAt, ArgumentsAt}

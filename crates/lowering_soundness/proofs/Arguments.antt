@@ -7,7 +7,8 @@ use Rattle.separation.specs.fip_base.TableView.{fields_at}
 use Rattle.derivation_making.specs.type_check.Scope.{Scope}
 use Rattle.derivation_making.specs.ownership_calculus.Terms.{Item, Own}
 use Rattle.separation.specs.cell_code.declared.kind.Kind.{Kind}
-use Rattle.separation.specs.code_rules.Codes.{PlainCode, PlainFunction, label_at}
+use Rattle.separation.specs.cell_code.Plain.{PlainFunction, PlainCode}
+use Rattle.separation.specs.code_rules.Codes.{label_at}
 use Rattle.separation.specs.code_rules.Types.{is_type, is_scalar_type, fields, fields_of}
 use Rattle.separation.proofs.separation_kinds.Basics.{chosen, refused, or_not, itself, both, below_is}
 use Rattle.lowering_relation.specs.declared.held.Held.TheVariants as H

@@ -26,7 +26,7 @@ use Rattle.derivation_making.proofs.ownership_agreement.Basics.{not_owned}
 use Rattle.derivation_making.proofs.ownership_agreement.Amounts.{max_greater, header_given, gives, gives_given, asks_of, asks_last, asks_more}
 use Rattle.derivation_making.proofs.Linking.{next_inside}
 use Rattle.derivation_making.proofs.Reading.{next_after, next_past}
-use Rattle.separation.specs.code_rules.Codes.{PlainCode}
+use Rattle.separation.specs.cell_code.Plain.{PlainCode}
 use Rattle.separation.specs.code_rules.Types.{is_type, is_scalar_type}
 use Rattle.separation.proofs.separation_kinds.Basics.{refused, or_not, equal, itself}
 use Rattle.lowering_relation.specs.Values.{Setting, is_scalar}

@@ -23,7 +23,7 @@ use Rattle.derivation_making.specs.ownership_agreement.Bodies.{Scalars, variable
 use Rattle.derivation_making.proofs.ownership_agreement.Basics.{not_owned}
 use Rattle.derivation_making.proofs.Linking.{next_inside}
 use Rattle.derivation_making.proofs.Reading.{next_after, next_past}
-use Rattle.separation.specs.code_rules.Codes.{PlainCode, PlainFunction}
+use Rattle.separation.specs.cell_code.Plain.{PlainFunction, PlainCode}
 use Rattle.separation.specs.code_rules.Types.{is_type, is_scalar_type}
 use Rattle.separation.proofs.separation_kinds.Basics.{refused, or_not, less_or_not}
 use Rattle.lowering_relation.specs.Spots.{register}

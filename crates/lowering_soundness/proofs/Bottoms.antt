@@ -12,7 +12,7 @@ use Rattle.lowering_relation.specs.fip_trees.Tree.{Expression, Give, Tuple, Oper
 use Rattle.lowering_relation.specs.credit_check.Needs as N
 use Rattle.lowering_relation.specs.credit_check.Needs.{made, made_all, marked, asked, given}
 use Rattle.separation.specs.cell_code.declared.code.Instr.{Instr}
-use Rattle.separation.specs.code_rules.Codes.{PlainCode, PlainFunction}
+use Rattle.separation.specs.cell_code.Plain.{PlainFunction, PlainCode}
 use Rattle.lowering_relation.specs.Spots.{Spot, At, Spots, NoSpots, MoreSpots, register}
 use Rattle.lowering_relation.specs.Opening.{is_named, Roomy, AllRoomy}
 use Rattle.lowering_relation.specs.Entering.{unnaming, variable_held, with_variable, with_cell, entering, entering_all, root_of, spent_if, entering_root}

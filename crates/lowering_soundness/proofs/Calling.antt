@@ -5,7 +5,7 @@ use Rattle.separation.specs.fip_base.declared.plain.Param.{Param}
 use Rattle.lowering_relation.specs.fip_trees.Tree.{Instance}
 use Rattle.derivation_making.specs.type_check.Scope.{Scope}
 use Rattle.derivation_making.specs.ownership_calculus.Terms.{Item, Own, charge}
-use Rattle.separation.specs.code_rules.Codes.{PlainCode, PlainFunction}
+use Rattle.separation.specs.cell_code.Plain.{PlainFunction, PlainCode}
 use Rattle.separation.specs.code_rules.Types.{is_scalar_type}
 use Rattle.lowering_relation.specs.declared.held.Held.{Held}
 use Rattle.lowering_relation.specs.declared.held.Held.TheVariants as H

@@ -5,7 +5,7 @@ use Rattle.derivation_making.specs.type_check.Scope.{Scope}
 use Rattle.derivation_making.specs.type_check.World as W
 use Rattle.derivation_making.specs.ownership_calculus.Terms.{Item, Own}
 use Rattle.separation.specs.cell_code.declared.code.Instr.TheVariants as I
-use Rattle.separation.specs.code_rules.Codes.{PlainCode, PlainFunction, results}
+use Rattle.separation.specs.cell_code.Plain.{PlainFunction, PlainCode, results}
 use Rattle.lowering_relation.specs.declared.held.Held.TheVariants as H
 use Rattle.lowering_relation.specs.Known.{Known}
 use Rattle.lowering_relation.specs.Values.{Setting}

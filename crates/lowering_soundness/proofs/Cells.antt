@@ -4,7 +4,7 @@ use Rattle.derivation_making.specs.type_check.Scope.{Scope}
 use Rattle.derivation_making.specs.ownership_calculus.Terms.{Item, Own, Credit, paid}
 use Rattle.derivation_making.specs.ownership_calculus.Rules.{Fits}
 use Rattle.separation.specs.cell_code.declared.code.Instr.TheVariants as I
-use Rattle.separation.specs.code_rules.Codes.{PlainCode, PlainFunction}
+use Rattle.separation.specs.cell_code.Plain.{PlainFunction, PlainCode}
 use Rattle.separation.specs.code_rules.Types.{fields}
 use Rattle.separation.proofs.separation_kinds.Basics.{pick, chosen, refused, or_not, equal, unequal, unequal_is, itself}
 use Rattle.lowering_relation.specs.declared.held.Held.{Held}

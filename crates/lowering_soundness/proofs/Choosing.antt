@@ -5,7 +5,7 @@ use Rattle.separation.specs.fip_language.Every.{Among}
 use Rattle.separation.specs.cell_code.declared.kind.Kind.{Kind}
 use Rattle.separation.specs.cell_code.declared.kind.Kind.TheVariants as K
 use Rattle.lowering_relation.specs.fip_trees.Tree.{Pattern}
-use Rattle.separation.specs.code_rules.Codes.{PlainCode, PlainFunction}
+use Rattle.separation.specs.cell_code.Plain.{PlainFunction, PlainCode}
 use Rattle.separation.specs.code_rules.Kinds.{from_of, set_of}
 use Rattle.separation.specs.code_rules.Changes.{narrow, without}
 use Rattle.separation.proofs.separation_kinds.Basics.{pick}

@@ -8,7 +8,7 @@ use Rattle.separation.specs.cell_code.declared.kind.From.{From}
 use Rattle.separation.specs.cell_code.declared.kind.Kind.{Kind}
 use Rattle.separation.specs.cell_code.declared.kind.Kind.TheVariants as K
 use Rattle.lowering_relation.specs.fip_trees.Tree.{Pattern}
-use Rattle.separation.specs.code_rules.Codes.{PlainCode, PlainFunction}
+use Rattle.separation.specs.cell_code.Plain.{PlainFunction, PlainCode}
 use Rattle.separation.specs.code_rules.Types.{fields, is_scalar_type}
 use Rattle.separation.specs.code_rules.Kinds.{has, from_of}
 use Rattle.separation.proofs.separation_kinds.Basics.{or_not, equal, unequal, less_or_not}

@@ -12,7 +12,7 @@ use Rattle.derivation_making.specs.ownership_calculus.Terms.{Item, Credit}
 use Rattle.derivation_making.specs.ownership_calculus.Rules as O
 use Rattle.derivation_making.proofs.ownership_calculus.Fit.{fits_le}
 use Rattle.derivation_making.specs.ownership_agreement.Bodies.{Scalars, variables}
-use Rattle.separation.specs.code_rules.Codes.{PlainCode, PlainFunction}
+use Rattle.separation.specs.cell_code.Plain.{PlainFunction, PlainCode}
 use Rattle.separation.specs.code_rules.Types.{is_scalar_type}
 use Rattle.separation.proofs.separation_kinds.Basics.{refused, itself}
 use Rattle.lowering_relation.specs.Spots.{register, below}

@@ -20,7 +20,7 @@ use Rattle.derivation_making.proofs.ownership_calculus.Fit.{fits_le, fits_same, 
 use Rattle.derivation_making.specs.ownership_agreement.Bodies.{Scalars, variables, entering, inside, nodes}
 use Rattle.derivation_making.proofs.ownership_agreement.Basics.{not_owned}
 use Rattle.derivation_making.proofs.Linking.{next_inside}
-use Rattle.separation.specs.code_rules.Codes.{PlainCode, PlainFunction}
+use Rattle.separation.specs.cell_code.Plain.{PlainFunction, PlainCode}
 use Rattle.separation.specs.code_rules.Types.{is_type, is_scalar_type, fields}
 use Rattle.separation.proofs.separation_kinds.Basics.{pick, chosen, refused, or_not, unequal_is}
 use Rattle.separation.proofs.separation_kinds.Basics as KB

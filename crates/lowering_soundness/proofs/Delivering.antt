@@ -8,7 +8,7 @@ use Rattle.derivation_making.specs.type_check.World.{result_of}
 use Rattle.derivation_making.specs.ownership_calculus.Terms.{Item, Own}
 use Rattle.separation.specs.cell_code.declared.code.Instr.{Instr}
 use Rattle.separation.specs.cell_code.declared.code.Instr.TheVariants as I
-use Rattle.separation.specs.code_rules.Codes.{PlainCode, PlainFunction}
+use Rattle.separation.specs.cell_code.Plain.{PlainFunction, PlainCode}
 use Rattle.separation.specs.code_rules.Types.{is_scalar_type}
 use Rattle.separation.specs.code_rules.Leaves as L
 use Rattle.separation.proofs.separation_kinds.Basics.{chosen, itself}

@@ -3,7 +3,8 @@ use Rattle.std.proofs.Common.{◌≡◌, ℕ, ◌<◌, ◌≤◌, true, List, So
 use Rattle.std.proofs.lemmas.Option.{none-some}
 use Rattle.separation.specs.cell_code.declared.kind.Kind.{Kind}
 use Rattle.lowering_relation.specs.fip_trees.Tree.{Clauses, NoClauses, MoreClauses}
-use Rattle.separation.specs.code_rules.Codes.{PlainCode, PlainFunction, label_at}
+use Rattle.separation.specs.cell_code.Plain.{PlainFunction, PlainCode}
+use Rattle.separation.specs.code_rules.Codes.{label_at}
 use Rattle.separation.specs.code_rules.Fitting.{fits}
 use Rattle.lowering_relation.specs.Labels.{Catches, Shows}
 use Rattle.lowering_relation.specs.Joins.{GoesOn}

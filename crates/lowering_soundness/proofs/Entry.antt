@@ -6,7 +6,7 @@ use Rattle.lowering_relation.specs.fip_trees.declared.program.Binder.{Binder}
 use Rattle.lowering_relation.specs.fip_trees.Tree.{Instance}
 use Rattle.separation.specs.cell_code.declared.kind.Kind.{Kind}
 use Rattle.separation.specs.cell_code.declared.kind.Kind.TheVariants as K
-use Rattle.separation.specs.code_rules.Codes.{PlainCode, PlainFunction}
+use Rattle.separation.specs.cell_code.Plain.{PlainFunction, PlainCode}
 use Rattle.separation.specs.code_rules.Types.{is_type, is_scalar_type, all}
 use Rattle.separation.specs.code_rules.Kinds.{at}
 use Rattle.separation.specs.code_rules.Entry.{param_kind, gones, entry}

@@ -11,7 +11,7 @@ use Rattle.lowering_relation.specs.fip_trees.Tree.{Pattern, BinderPattern, Liter
 use Rattle.derivation_making.specs.type_check.World as W
 use Rattle.derivation_making.specs.fip_rules.World as R
 use Rattle.separation.specs.cell_code.declared.code.Instr.{Instr}
-use Rattle.separation.specs.code_rules.Codes.{PlainCode, PlainFunction}
+use Rattle.separation.specs.cell_code.Plain.{PlainFunction, PlainCode}
 use Rattle.separation.specs.code_rules.Headers.{is_size, are_types}
 use Rattle.separation.specs.code_rules.Limits.{most_fields}
 use Rattle.separation.specs.code_rules.Ranges.{is_constructor}

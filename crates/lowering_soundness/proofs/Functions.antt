@@ -16,7 +16,7 @@ use Rattle.derivation_making.specs.ownership_calculus.ByCases.{Derives}
 use Rattle.derivation_making.specs.ownership_calculus.Functions.{Derived, starting}
 use Rattle.derivation_making.proofs.ownership_calculus.Faithful.{by_cases}
 use Rattle.derivation_making.specs.ownership_agreement.Bodies.{Scalars, borrowed_parameters, owned_parameters, entering_parameters, no_variables, body_term, term_block}
-use Rattle.separation.specs.code_rules.Codes.{PlainCode, PlainFunction}
+use Rattle.separation.specs.cell_code.Plain.{PlainFunction, PlainCode}
 use Rattle.separation.specs.code_rules.Types.{is_type, is_scalar_type}
 use Rattle.lowering_relation.specs.Known.{Known}
 use Rattle.lowering_relation.specs.Values.{Setting}

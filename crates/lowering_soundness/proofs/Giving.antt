@@ -5,7 +5,8 @@ use Rattle.separation.specs.fip_language.Table.{Table}
 use Rattle.separation.specs.fip_base.declared.plain.Param.{Param}
 use Rattle.separation.specs.cell_code.declared.kind.Kind.{Kind}
 use Rattle.separation.specs.cell_code.declared.kind.Kind.TheVariants.{Gone, Scalar, Owned}
-use Rattle.separation.specs.code_rules.Codes.{PlainCode, params, credits}
+use Rattle.separation.specs.cell_code.Plain.{PlainCode}
+use Rattle.separation.specs.code_rules.Codes.{params, credits}
 use Rattle.separation.specs.code_rules.Types.{all, is_scalar_type, field_kind}
 use Rattle.separation.specs.code_rules.Kinds as S
 use Rattle.separation.specs.code_rules.Kinds.{at, has}

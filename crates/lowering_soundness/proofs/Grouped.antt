@@ -14,7 +14,8 @@ use Rattle.tail_groups.specs.Sites.{Site, instance_sites, called, instance_calls
 use Rattle.tail_groups.specs.Rules as T
 use Rattle.tail_groups.specs.Rules.{Violates, reported}
 use Rattle.tail_groups.specs.Members.{FipCallsFip}
-use Rattle.separation.specs.code_rules.Codes.{PlainCode, PlainFunction, function_at, is_fip, is_weak, is_weaker}
+use Rattle.separation.specs.cell_code.Plain.{PlainFunction, PlainCode, function_at}
+use Rattle.separation.specs.code_rules.Codes.{is_fip, is_weak, is_weaker, code_kind}
 use Rattle.separation.specs.code_rules.Calls.{IsCall, CallsAt, Calls, Path, SameGroup}
 use Rattle.separation.specs.code_rules.Endings.{releases}
 use Rattle.separation.specs.code_rules.Flow.{IsInstr}
@@ -58,7 +59,7 @@ called_at [] i s h = absurd (none-some s h)
 called_at (q ∷ ss) zero s h = ap (λ s. Some (called s)) (same_Some q s h)
 called_at (q ∷ ss) (suc i) s h = called_at ss i s h
 
-pub same_fip : (k : FunKind) → is_fip k ≡ T.is_fip k
+pub same_fip : (k : FunKind) → is_fip (code_kind k) ≡ T.is_fip k
 same_fip Fip = refl
 same_fip Fbip = refl
 same_fip Fun = refl
@@ -83,7 +84,7 @@ module _ (c : PlainCode) (st : Setting) (p : Program) (all : AreLaid c st p) whe
   path_same (suc k) i a b number j last (g, (w, calls), rest) = let z = calls_same i a g w number calls in (z.0, (w, z.2), path_same k z.0 g b z.1 j last rest)
 
   fip_instance : (n : ℕ) (f g : PlainFunction) (l : IsLaid c st p n g) → Some f ≡ Some g → is_fip f.kind ≡ true → T.is_fip l.instance.kind ≡ true
-  fip_instance n f g l same fip = ap T.is_fip (sym l.kind) ∙ sym (same_fip g.kind) ∙ sym (ap (λ (f : PlainFunction). is_fip f.kind) (same_Some f g same)) ∙ fip
+  fip_instance n f g l same fip = sym (same_fip (l.instance).kind) ∙ sym (ap is_fip l.kind) ∙ sym (ap (λ (f : PlainFunction). is_fip f.kind) (same_Some f g same)) ∙ fip
 
   pub waits_for_none : ((v : Violation) → Violates p v → ⊥) → (n : ℕ) (f : PlainFunction) → function_at c n ≡ Some f → is_fip f.kind ≡ true → (i callee : ℕ) → CallsAt c n i callee true → SameGroup c n callee → ⊥
   waits_for_none right n f there fip i callee here group =
@@ -139,4 +140,4 @@ module _ (c : PlainCode) (st : Setting) (p : Program) (all : AreLaid c st p) whe
               let m = all.each g h e in
               let same : m.number ≡ z.site.callee = once m.number z.site.callee g m.function z.function in
               let one : m.instance ≡ called'.0 = same_Some m.instance called'.0 (sym m.there ∙ ap (slice_get p.instances) same ∙ called'.1) in
-              ap not (same_fip h.kind ∙ ap T.is_fip (m.kind ∙ ap (λ (d : Instance). d.kind) one) ∙ called'.2)
+              ap not (ap is_fip (m.kind ∙ ap (λ (d : Instance). code_kind d.kind) one) ∙ same_fip (called'.0).kind ∙ called'.2)

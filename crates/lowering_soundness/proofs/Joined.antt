@@ -1,7 +1,7 @@
 -- A code whose functions are those of accepted instances is sound.
 use Rattle.std.proofs.Common.{◌≡◌, inl, inr, ℕ, zero, suc, ◌+◌, ◌<◌, ◌≤◌, Bool, true, false, not, List, [], ◌∷◌, slice_get, length, Option, Some, None, refl, sym, ap, ◌∙◌, subst, arith, nat_lt, ◌==◌}
 use Rattle.std.proofs.lemmas.Option.{none-some, same_Some}
-use Rattle.separation.specs.fip_language.declared.FunKind.{FunKind}
+use Rattle.separation.specs.cell_code.declared.code.CodeKind.{CodeKind}
 use Rattle.separation.specs.fip_base.declared.plain.Param.{Param}
 use Rattle.derivation_making.specs.fip_rules.World as R
 use Rattle.lowering_relation.specs.fip_trees.declared.least.Violation.{Violation}
@@ -12,7 +12,8 @@ use Rattle.derivation_making.specs.type_check.World as W
 use Rattle.derivation_making.specs.ownership_calculus.Functions.{Derived}
 use Rattle.derivation_making.specs.ownership_agreement.Bodies.{body_term, borrowed_parameters, owned_parameters}
 use Rattle.separation.specs.code_rules.Breaks.{IsSound}
-use Rattle.separation.specs.code_rules.Codes.{PlainCode, PlainFunction, function_at, is_fip}
+use Rattle.separation.specs.cell_code.Plain.{PlainFunction, PlainCode, function_at}
+use Rattle.separation.specs.code_rules.Codes.{is_fip, code_kind}
 use Rattle.separation.specs.code_rules.Headers.{is_formed, are_params, are_sizes, are_types, are_good_maps}
 use Rattle.separation.specs.code_rules.Limits.{most_credits, most_results, most_registers}
 use Rattle.separation.specs.code_rules.Tables.{AreSoundTables}
@@ -27,7 +28,7 @@ use Rattle.lowering_soundness.specs.Placed.{Callees, ParamsTyped}
 use Rattle.lowering_soundness.specs.Whole.{KeepsRules}
 use Rattle.lowering_soundness.proofs.Functions.{function_part, function_kept}
 use Rattle.lowering_soundness.proofs.Giving.{and_to}
-use Rattle.lowering_soundness.proofs.Grouped.{waits_for_none, releases_nothing}
+use Rattle.lowering_soundness.proofs.Grouped.{same_fip, waits_for_none, releases_nothing}
 use Rattle.lowering_soundness.proofs.Mapped.{maps_formed}
 use Rattle.lowering_soundness.proofs.Ranging.{ranged}
 use Rattle.lowering_soundness.proofs.Whole.{sound}
@@ -69,8 +70,8 @@ has_one (e ∷ ds) (suc i) n d h there = let z = one_less (has_function e.kind) 
 -- ---- the whole code
 
 module _ (c : PlainCode) (st : Setting) (p : Program) (wd : W.World) (w : R.World) (all : AreLaid c st p) (shares : Shares c st wd) (callees : Callees c st wd w) where
-  derived_for : (d : Instance) (k : FunKind) → k ≡ d.kind → IsDerived c wd w d → Derived (is_fip k) (borrowed_parameters w 0 d.params d.binders) (owned_parameters w 0 d.params d.binders) d.credits (body_term w d)
-  derived_for d k same x = subst (λ k. Derived (is_fip k) (borrowed_parameters w 0 d.params d.binders) (owned_parameters w 0 d.params d.binders) d.credits (body_term w d)) (sym same) x.derived
+  derived_for : (d : Instance) (k : CodeKind) → k ≡ code_kind d.kind → IsDerived c wd w d → Derived (is_fip k) (borrowed_parameters w 0 d.params d.binders) (owned_parameters w 0 d.params d.binders) d.credits (body_term w d)
+  derived_for d k same x = subst (λ b. Derived b (borrowed_parameters w 0 d.params d.binders) (owned_parameters w 0 d.params d.binders) d.credits (body_term w d)) (sym (ap is_fip same ∙ same_fip d.kind)) x.derived
 
   maps_right : AreSoundTables c → (n : ℕ) (f : PlainFunction) (l : IsLaid c st p n f) → IsDerived c wd w l.instance → IsWithinLimits c f l.instance → are_good_maps c.types f 0 f.labels ≡ true
   maps_right tables n f l x limits =

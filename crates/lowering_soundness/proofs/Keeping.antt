@@ -6,7 +6,7 @@ use Rattle.lowering_relation.specs.fip_trees.declared.program.Binder.{Binder}
 use Rattle.derivation_making.specs.type_check.Scope.{Scope, of_binder}
 use Rattle.derivation_making.specs.ownership_calculus.Terms.{Item, Own, Credit}
 use Rattle.derivation_making.specs.ownership_calculus.Rules.{Fits}
-use Rattle.separation.specs.code_rules.Codes.{PlainCode, PlainFunction}
+use Rattle.separation.specs.cell_code.Plain.{PlainFunction, PlainCode}
 use Rattle.separation.specs.code_rules.Types.{is_scalar_type}
 use Rattle.separation.proofs.separation_kinds.Basics.{or_not, less_or_not}
 use Rattle.lowering_relation.specs.declared.held.Held.{Held}

@@ -2,7 +2,8 @@
 use Rattle.std.proofs.Common.{◌≡◌, inl, inr, ℕ, zero, suc, ◌<◌, ◌≤◌, List, Some, sym, ◌∙◌, ap, arith}
 use Rattle.std.proofs.lemmas.Option.{none-some}
 use Rattle.separation.specs.cell_code.declared.kind.Kind.{Kind}
-use Rattle.separation.specs.code_rules.Codes.{PlainCode, PlainFunction, label_at}
+use Rattle.separation.specs.cell_code.Plain.{PlainFunction, PlainCode}
+use Rattle.separation.specs.code_rules.Codes.{label_at}
 use Rattle.separation.proofs.separation_kinds.Basics.{less_or_not}
 use Rattle.lowering_relation.specs.match_knowledge.Known as M
 use Rattle.lowering_relation.specs.Describing.{Holding}

@@ -12,7 +12,7 @@ use Rattle.derivation_making.specs.type_check.Typing.{HasType, HaveTypes}
 use Rattle.derivation_making.specs.ownership_calculus.Terms.{Item, Own}
 use Rattle.derivation_making.specs.ownership_calculus.ByCases.{DerivesValues, DerivesPassed}
 use Rattle.derivation_making.specs.ownership_agreement.Bodies.{Scalars, values, credits_of, passed}
-use Rattle.separation.specs.code_rules.Codes.{PlainCode, PlainFunction}
+use Rattle.separation.specs.cell_code.Plain.{PlainFunction, PlainCode}
 use Rattle.lowering_relation.specs.Known.{Known}
 use Rattle.lowering_relation.specs.Values.{Setting}
 use Rattle.lowering_relation.specs.LoweredBodies.{Return, Into}

@@ -5,7 +5,7 @@ use Rattle.separation.specs.fip_language.Table.{Table}
 use Rattle.lowering_relation.specs.fip_trees.Tree.{Expression}
 use Rattle.derivation_making.specs.type_check.Scope.{Scope}
 use Rattle.derivation_making.specs.ownership_calculus.Terms.{Item, Credit}
-use Rattle.separation.specs.code_rules.Codes.{PlainCode, PlainFunction}
+use Rattle.separation.specs.cell_code.Plain.{PlainFunction, PlainCode}
 use Rattle.separation.specs.code_rules.Types.{is_scalar_type}
 use Rattle.separation.proofs.separation_kinds.Basics.{chosen, refused, or_not, equal, less_or_not}
 use Rattle.lowering_relation.specs.Known.{Known}

@@ -15,7 +15,7 @@ use Rattle.derivation_making.specs.ownership_calculus.ByCases.{Opens}
 use Rattle.derivation_making.proofs.ownership_calculus.Fit.{fits_same}
 use Rattle.derivation_making.specs.ownership_agreement.Bodies.{variables}
 use Rattle.derivation_making.proofs.ownership_agreement.Basics.{not_owned}
-use Rattle.separation.specs.code_rules.Codes.{PlainCode}
+use Rattle.separation.specs.cell_code.Plain.{PlainCode}
 use Rattle.separation.specs.code_rules.Types.{is_type, is_scalar_type}
 use Rattle.separation.proofs.separation_kinds.Basics.{chosen, refused, or_not, less_or_not, equal, equal_is, unequal, unequal_is, below, one_of}
 use Rattle.lowering_relation.specs.declared.held.Held.{Held}

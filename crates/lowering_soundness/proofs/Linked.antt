@@ -6,7 +6,7 @@ use Rattle.separation.specs.fip_language.Every.{Among}
 use Rattle.separation.specs.cell_code.declared.kind.From.{From}
 use Rattle.separation.specs.cell_code.declared.kind.Kind.{Kind}
 use Rattle.separation.specs.cell_code.declared.kind.Kind.TheVariants as K
-use Rattle.separation.specs.code_rules.Codes.{PlainCode, PlainFunction}
+use Rattle.separation.specs.cell_code.Plain.{PlainFunction, PlainCode}
 use Rattle.separation.specs.code_rules.Types.{count, fields, fields_of, is_scalar_type}
 use Rattle.separation.specs.code_rules.Kinds.{is_owned, has, same_root, root_of}
 use Rattle.separation.specs.code_rules.Asked.{only_fields, known_fields}

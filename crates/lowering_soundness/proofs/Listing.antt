@@ -3,7 +3,7 @@ use Rattle.std.proofs.Common.{◌≡◌, ℕ, zero, suc, Some, slice_get, refl, 
 use Rattle.std.proofs.lemmas.Option.{none-some, same_Some}
 use Rattle.separation.specs.fip_language.Table as T
 use Rattle.lowering_relation.specs.instance_semantics.Example.{lists, rev}
-use Rattle.separation.specs.code_rules.Codes.{PlainFunction, function_at}
+use Rattle.separation.specs.cell_code.Plain.{PlainFunction, function_at}
 use Rattle.lowering_relation.specs.LoweredExample.{lists_setting}
 use Rattle.lowering_relation.specs.Known.{joined}
 use Rattle.lowering_relation.specs.LoweredBodies.{function_of}

@@ -5,7 +5,7 @@ use Rattle.separation.specs.fip_language.Table.{Table}
 use Rattle.separation.specs.cell_code.declared.code.Instr.TheVariants as I
 use Rattle.separation.specs.cell_code.declared.kind.Kind.{Kind}
 use Rattle.separation.specs.cell_code.declared.kind.Kind.TheVariants as K
-use Rattle.separation.specs.code_rules.Codes.{PlainCode, PlainFunction}
+use Rattle.separation.specs.cell_code.Plain.{PlainFunction, PlainCode}
 use Rattle.separation.specs.code_rules.Types.{lent_kind}
 use Rattle.separation.specs.code_rules.Kinds.{at, is_free, is_scalar_of, set_of, root_of}
 use Rattle.separation.specs.code_rules.Changes.{forget, written, narrow, tested, without}

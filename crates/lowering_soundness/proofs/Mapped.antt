@@ -8,7 +8,8 @@ use Rattle.derivation_making.specs.ownership_agreement.Bodies.{body_term, borrow
 use Rattle.derivation_making.specs.ownership_calculus.Functions.{Derived}
 use Rattle.derivation_making.specs.type_check.Typing.{Typed}
 use Rattle.derivation_making.specs.type_check.World as W
-use Rattle.separation.specs.code_rules.Codes.{PlainCode, PlainFunction, LabelMap, label_at}
+use Rattle.separation.specs.cell_code.Plain.{LabelMap, PlainFunction, PlainCode}
+use Rattle.separation.specs.code_rules.Codes.{label_at}
 use Rattle.separation.specs.code_rules.Headers.{are_sizes, are_good_kinds, are_good_maps}
 use Rattle.separation.specs.code_rules.Tables.{AreSoundTables}
 use Rattle.separation.proofs.separation_kinds.Basics.{chosen, refused, equal_is, itself, unequal_is, below_is}

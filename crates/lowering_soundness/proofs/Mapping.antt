@@ -18,7 +18,7 @@ use Rattle.derivation_making.specs.ownership_calculus.Rules as O
 use Rattle.derivation_making.specs.ownership_calculus.ByCases.{Derives}
 use Rattle.derivation_making.specs.ownership_agreement.Bodies.{Scalars, variables, entering, inside, term, term_block, clauses, nodes, past_clause}
 use Rattle.derivation_making.proofs.Reading.{next_after}
-use Rattle.separation.specs.code_rules.Codes.{PlainCode, PlainFunction}
+use Rattle.separation.specs.cell_code.Plain.{PlainFunction, PlainCode}
 use Rattle.separation.specs.code_rules.Kinds.{at as kind_at}
 use Rattle.separation.specs.code_rules.Tables.{AreSoundTables}
 use Rattle.separation.specs.code_rules.Types.{is_type}

@@ -4,7 +4,7 @@ use Rattle.separation.specs.fip_language.Every.{Among}
 use Rattle.derivation_making.specs.type_check.Scope.{Scope}
 use Rattle.derivation_making.specs.ownership_calculus.Terms.{Item, Own}
 use Rattle.separation.specs.cell_code.declared.code.Instr.TheVariants as I
-use Rattle.separation.specs.code_rules.Codes.{PlainCode, PlainFunction}
+use Rattle.separation.specs.cell_code.Plain.{PlainFunction, PlainCode}
 use Rattle.separation.proofs.separation_kinds.Basics.{unequal_is}
 use Rattle.lowering_relation.specs.declared.held.Held.{Held}
 use Rattle.lowering_relation.specs.declared.held.Held.TheVariants as H

@@ -3,7 +3,7 @@ use Rattle.std.proofs.Common.{◌≡◌, ◌⊎◌, inl, inr, ℕ, suc, ◌≤�
 use Rattle.separation.specs.fip_language.Every.{Among}
 use Rattle.separation.specs.cell_code.declared.kind.Kind.{Kind}
 use Rattle.lowering_relation.specs.fip_trees.Tree.{Pattern, BinderPattern, LiteralPattern, ConstructorPattern, Patterns, NoPatterns, MorePatterns}
-use Rattle.separation.specs.code_rules.Codes.{PlainCode, PlainFunction}
+use Rattle.separation.specs.cell_code.Plain.{PlainFunction, PlainCode}
 use Rattle.separation.specs.code_rules.Types.{fields}
 use Rattle.separation.specs.code_rules.Kinds.{root_of}
 use Rattle.separation.specs.code_rules.Asked.{known_fields}

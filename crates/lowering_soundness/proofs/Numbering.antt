@@ -12,7 +12,7 @@ use Rattle.derivation_making.specs.derivation_check.Scopes.{within, within_block
 use Rattle.derivation_making.specs.ownership_agreement.Bodies.{inside, past_clause}
 use Rattle.derivation_making.proofs.Linking.{next_inside}
 use Rattle.derivation_making.proofs.Reading.{next_after, next_past}
-use Rattle.separation.specs.code_rules.Codes.{PlainCode, PlainFunction}
+use Rattle.separation.specs.cell_code.Plain.{PlainFunction, PlainCode}
 use Rattle.separation.proofs.separation_kinds.Basics.{or_not, equal, unequal}
 use Rattle.lowering_relation.specs.Spots.{Spot, At, Spots, NoSpots, MoreSpots, register}
 use Rattle.lowering_relation.specs.Opening.{is_named}

@@ -2,6 +2,7 @@
 use Rattle.std.proofs.Common.{◌≡◌, ◌≤◌, ℕ, zero, suc, ◌+◌, Bool, true, false, List, [], ◌∷◌, map, get_or, slice_get, Option, Some, None, if◌then◌else◌, refl, sym, ap, ap₂, ◌∙◌, subst, arith, true≢false}
 use Rattle.std.proofs.lemmas.Option.{none-some, same_Some, get_or_from_slice_get}
 use Rattle.separation.specs.fip_language.declared.FunKind.{FunKind}
+use Rattle.separation.specs.cell_code.declared.code.CodeKind.{CodeKind}
 use Rattle.separation.specs.fip_language.declared.FunKind.TheVariants.{Fip, Fbip, Fun}
 use Rattle.separation.specs.fip_language.declared.limits.TheConstants.{FRAME_WORDS}
 use Rattle.separation.specs.fip_base.declared.plain.Stack.{Stack}
@@ -12,7 +13,8 @@ use Rattle.tail_groups.specs.Sites.{call_rows}
 use Rattle.tail_groups.specs.Rules as T
 use Rattle.tail_groups.specs.Registers.{registers}
 use Rattle.tail_groups.specs.Members.{frame, stack, FipCallsFip, AreMembers}
-use Rattle.separation.specs.code_rules.Codes.{PlainCode, PlainFunction, function_at, is_fip}
+use Rattle.separation.specs.cell_code.Plain.{PlainFunction, PlainCode, function_at}
+use Rattle.separation.specs.code_rules.Codes.{is_fip, code_kind}
 use Rattle.separation.specs.code_rules.StackNumbers.{IsFip, FipCalls, words_of, words_at, IsStack, HasStack}
 use Rattle.lowering_relation.specs.LoweredBodies.{has_function, one_more, if_function, function_of}
 use Rattle.lowering_soundness.specs.Alike.{Alike}
@@ -162,7 +164,7 @@ module _ (c : PlainCode) (ds : List Instance) (alike : Alike c ds) where
   fip_function i n e h =
       let z = framed ds i h in
       let f = alike.has_function i n z.0 e z.1 in
-      (f.0, f.1, same_fip f.0.kind ∙ ap T.is_fip f.2 ∙ z.2)
+      (f.0, f.1, ap is_fip f.2 ∙ same_fip (z.0).kind ∙ z.2)
 
   -- the instance of a fip function is fip
   fip_instance : (i n : ℕ) → function_of ds i ≡ Some n → IsFip c n → HasFrame (map frame ds) i
@@ -170,7 +172,7 @@ module _ (c : PlainCode) (ds : List Instance) (alike : Alike c ds) where
       let z = there ds i n e in
       let g = alike.has_function i n z.0 e z.1 in
       let same : g.0 ≡ f = same_Some g.0 f (sym g.1 ∙ at) in
-      fip_framed ds i z.0 z.1 (ap T.is_fip (sym g.2) ∙ sym (same_fip g.0.kind) ∙ ap (λ (f : PlainFunction). is_fip f.kind) same ∙ fip)
+      fip_framed ds i z.0 z.1 (sym (same_fip (z.0).kind) ∙ sym (ap is_fip g.2) ∙ ap (λ (f : PlainFunction). is_fip f.kind) same ∙ fip)
 
   framed_has : (i : ℕ) → HasFrame (map frame ds) i → (n : ℕ) × (function_of ds i ≡ Some n)
   framed_has i h = let z = framed ds i h in fip_has ds i z.0 z.1 z.2
@@ -182,7 +184,7 @@ module _ (c : PlainCode) (ds : List Instance) (alike : Alike c ds) where
       let g = alike.has_function i n z.0 e z.1 in
       ap words_of g.1 ∙ by g.0.kind z.0.kind g.0.registers (registers z.0) g.2 g.3 ∙ sym (ap words_or_none (get_or_from_slice_get (map frame ds) i (frame z.0) None (map_at frame ds i z.0 z.1)))
     where
-      by : (k l : FunKind) (r s : ℕ) → k ≡ l → r ≡ s → (if is_fip k then r + FRAME_WORDS else 0) ≡ words_or_none (if T.is_fip l then Some (s + FRAME_WORDS) else None)
+      by : (k : CodeKind) (l : FunKind) (r s : ℕ) → k ≡ code_kind l → r ≡ s → (if is_fip k then r + FRAME_WORDS else 0) ≡ words_or_none (if T.is_fip l then Some (s + FRAME_WORDS) else None)
       by k Fip r s a b = ap (λ k. if is_fip k then r + FRAME_WORDS else 0) a ∙ ap (λ r. r + FRAME_WORDS) b
       by k Fbip r s a b = ap (λ k. if is_fip k then r + FRAME_WORDS else 0) a
       by k Fun r s a b = ap (λ k. if is_fip k then r + FRAME_WORDS else 0) a

@@ -11,7 +11,7 @@ use Rattle.derivation_making.specs.type_check.Scope.{Scope, of_binder}
 use Rattle.derivation_making.specs.ownership_calculus.Terms.{Item, Own, Credit, given, charge}
 use Rattle.derivation_making.specs.ownership_calculus.Rules.{Fits}
 use Rattle.derivation_making.specs.ownership_agreement.Bodies.{node, nodes, nodes_all}
-use Rattle.separation.specs.code_rules.Codes.{PlainCode, PlainFunction}
+use Rattle.separation.specs.cell_code.Plain.{PlainFunction, PlainCode}
 use Rattle.separation.specs.code_rules.Types.{fields, is_scalar_type}
 use Rattle.separation.proofs.separation_kinds.Basics.{chosen, refused, or_not, itself}
 use Rattle.lowering_relation.specs.Spots.{Spot, At, Spots, NoSpots, MoreSpots, register, below, all_in, Differ, AllDiffer}

@@ -3,7 +3,7 @@ use Rattle.std.proofs.Common.{◌≡◌, ℕ, suc, true, ◌&&◌, not, List, []
 use Rattle.separation.specs.fip_language.Table.{Table}
 use Rattle.separation.specs.cell_code.declared.kind.Kind.{Kind}
 use Rattle.separation.specs.cell_code.declared.kind.Kind.TheVariants as K
-use Rattle.separation.specs.code_rules.Codes.{PlainFunction, LabelMap}
+use Rattle.separation.specs.cell_code.Plain.{LabelMap, PlainFunction}
 use Rattle.separation.specs.code_rules.Headers.{are_rising, is_set, is_good_root, is_good_from, is_good_kind, are_good_kinds, are_good_maps}
 use Rattle.separation.specs.code_rules.Types.{count}
 use Rattle.separation.proofs.separation_kinds.Basics.{both, below}

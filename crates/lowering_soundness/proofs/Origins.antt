@@ -11,7 +11,7 @@ use Rattle.separation.specs.fip_language.declared.Place.{Place}
 use Rattle.separation.specs.fip_language.declared.Operator.{Operator}
 use Rattle.tail_groups.specs.call_groups.CallGraph.{In}
 use Rattle.tail_groups.specs.Sites.{Site, site, sites, block_sites, clauses_sites, instance_sites}
-use Rattle.separation.specs.code_rules.Codes.{PlainCode, PlainFunction}
+use Rattle.separation.specs.cell_code.Plain.{PlainFunction, PlainCode}
 use Rattle.separation.specs.code_rules.Calls.{IsCall}
 use Rattle.separation.proofs.separation_kinds.Basics.{less_or_not, get_within}
 use Rattle.lowering_relation.specs.match_knowledge.declared.heads.Head.{Head}

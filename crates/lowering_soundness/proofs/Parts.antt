@@ -4,7 +4,8 @@ use Rattle.std.proofs.lemmas.Option.{none-some, same_Some}
 use Rattle.separation.specs.cell_code.declared.code.Instr.{Instr}
 use Rattle.separation.specs.cell_code.declared.code.Instr.TheVariants as I
 use Rattle.separation.specs.cell_code.declared.kind.Kind.{Kind}
-use Rattle.separation.specs.code_rules.Codes.{PlainCode, PlainFunction, label_at}
+use Rattle.separation.specs.cell_code.Plain.{PlainFunction, PlainCode}
+use Rattle.separation.specs.code_rules.Codes.{label_at}
 use Rattle.separation.specs.code_rules.Fitting.{fits, fit_all}
 use Rattle.separation.specs.code_rules.Endings.{is_end, spends_all}
 use Rattle.separation.specs.code_rules.Leaves.{Leaves, Jumps}

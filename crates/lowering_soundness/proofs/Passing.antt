@@ -14,7 +14,7 @@ use Rattle.derivation_making.specs.ownership_calculus.Rules.{Fits, Lends}
 use Rattle.derivation_making.specs.ownership_calculus.ByCases.{DerivesPassed}
 use Rattle.derivation_making.proofs.ownership_calculus.Fit.{fits_same, fits_sum}
 use Rattle.derivation_making.specs.ownership_agreement.Bodies.{Scalars, variable, value, lent_value, header, passed}
-use Rattle.separation.specs.code_rules.Codes.{PlainCode, PlainFunction}
+use Rattle.separation.specs.cell_code.Plain.{PlainFunction, PlainCode}
 use Rattle.separation.specs.code_rules.Types.{is_type, is_scalar_type}
 use Rattle.separation.proofs.separation_kinds.Basics.{chosen, refused, or_not}
 use Rattle.lowering_relation.specs.declared.held.Held.TheVariants as H

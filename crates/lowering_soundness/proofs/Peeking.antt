@@ -7,7 +7,7 @@ use Rattle.separation.specs.cell_code.declared.code.Instr.TheVariants as I
 use Rattle.separation.specs.cell_code.declared.kind.From.{From}
 use Rattle.separation.specs.cell_code.declared.kind.Kind.{Kind}
 use Rattle.separation.specs.cell_code.declared.kind.Kind.TheVariants as K
-use Rattle.separation.specs.code_rules.Codes.{PlainCode, PlainFunction}
+use Rattle.separation.specs.cell_code.Plain.{PlainFunction, PlainCode}
 use Rattle.separation.specs.code_rules.Types.{all, fields, is_scalar_type, lent_kind}
 use Rattle.separation.specs.code_rules.Kinds.{from_of, root_of}
 use Rattle.separation.specs.code_rules.Changes.{forget}

@@ -13,7 +13,8 @@ use Rattle.lowering_relation.specs.fip_trees.Tree.{Argument, Variable, Literal, 
 use Rattle.lowering_relation.specs.fip_trees.Tree.{Expression, Give, Tuple, Operation, Call, Match, Nested, Block, Last, Let, Clauses, NoClauses, MoreClauses, Instance}
 use Rattle.lowering_relation.specs.fip_trees.Tree.{Pattern, BinderPattern, LiteralPattern, ConstructorPattern, Patterns, NoPatterns, MorePatterns}
 use Rattle.derivation_making.specs.type_check.World as W
-use Rattle.separation.specs.code_rules.Codes.{PlainCode, PlainFunction, LabelMap, label_at}
+use Rattle.separation.specs.cell_code.Plain.{LabelMap, PlainFunction, PlainCode}
+use Rattle.separation.specs.code_rules.Codes.{label_at}
 use Rattle.separation.specs.code_rules.Headers.{are_good_maps, are_good_kinds}
 use Rattle.separation.specs.code_rules.Ranges.{in_range, are_below, is_constructor, is_target}
 use Rattle.separation.proofs.separation_kinds.Basics.{less_or_not, get_within, below, below_is, equal}

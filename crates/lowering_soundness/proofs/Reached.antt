@@ -11,7 +11,8 @@ use Rattle.lowering_relation.specs.fip_trees.Tree.{Pattern, Name, Program, NoArg
 use Rattle.separation.specs.fip_language.declared.Place.{Place}
 use Rattle.tail_groups.specs.call_groups.CallGraph.{In}
 use Rattle.tail_groups.specs.Sites.{Site, site, sites, block_sites, clauses_sites, instance_sites}
-use Rattle.separation.specs.code_rules.Codes.{PlainCode, PlainFunction, function_at, is_fip}
+use Rattle.separation.specs.cell_code.Plain.{PlainFunction, PlainCode, function_at}
+use Rattle.separation.specs.code_rules.Codes.{is_fip}
 use Rattle.separation.specs.code_rules.Ranges.{in_range}
 use Rattle.separation.specs.code_rules.Flow.{IsReachedAt}
 use Rattle.separation.specs.code_rules.Calls.{IsCall, Calls}

@@ -4,6 +4,7 @@ use Rattle.separation.specs.fip_language.Table.{Table}
 use Rattle.separation.specs.fip_language.Every.{Among}
 use Rattle.derivation_making.specs.type_check.Scope.{Scope}
 use Rattle.derivation_making.specs.ownership_calculus.Terms.{Item, Own}
+use Rattle.separation.specs.cell_code.Plain.{PlainCode, PlainFunction}
 use Rattle.separation.specs.code_rules.Types.{is_type, is_scalar_type}
 use Rattle.separation.specs.code_rules.Kinds.{has}
 use Rattle.separation.specs.code_rules.Ranges.{are_below}
@@ -82,7 +83,7 @@ module _ (fip : Bool) (w : Table) (s : Scope) (B : ℕ → Bool) (K : ℕ → It
   waiting_set k d h (q ∷ ds) within ne wait =
       (ap (λ x. x q) (held_set_fn k.held d h within) ∙ (setting_other (held_at k.held) d h q (λ z. ne (inl (sym z))) ∙ wait.0), wait.1, wait.2, waiting_set k d h ds within (λ m. ne (inr m)) wait.3)
 
-  pub got_all : (c : Rattle.separation.specs.code_rules.Codes.PlainCode) (f : Rattle.separation.specs.code_rules.Codes.PlainFunction) (st : Setting) (X : Item → ℕ) (e : ℕ → ℕ) (k : Known) (ds ts : List ℕ) → c.types ≡ w → ((t : ℕ) → is_type w t ≡ true → is_scalar st t ≡ is_scalar_type w t) → are_types w ts ≡ true → length ds ≡ length ts → Ties fip w s B K X e k → ((z y : ℕ) → K z (Own y) ≤ X (Own y)) → Waiting k ds → k.next ≤ length k.held → GotAll X e k ds ts (record k { held = Bodies.received st k.held ts ds })
+  pub got_all : (c : PlainCode) (f : PlainFunction) (st : Setting) (X : Item → ℕ) (e : ℕ → ℕ) (k : Known) (ds ts : List ℕ) → c.types ≡ w → ((t : ℕ) → is_type w t ≡ true → is_scalar st t ≡ is_scalar_type w t) → are_types w ts ≡ true → length ds ≡ length ts → Ties fip w s B K X e k → ((z y : ℕ) → K z (Own y) ≤ X (Own y)) → Waiting k ds → k.next ≤ length k.held → GotAll X e k ds ts (record k { held = Bodies.received st k.held ts ds })
   got_all c f st X e k [] [] same scalars types many ties kept wait room = record {
     ties = ties_owe fip w s B K X e (λ q. 0 + e q) k (λ q. omega arith) ties;
     hold = tt;

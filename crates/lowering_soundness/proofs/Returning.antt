@@ -7,7 +7,7 @@ use Rattle.derivation_making.specs.ownership_calculus.Terms.{Item}
 use Rattle.derivation_making.specs.ownership_calculus.Rules.{Fits}
 use Rattle.separation.specs.cell_code.declared.code.Instr.TheVariants as I
 use Rattle.separation.specs.cell_code.declared.kind.Kind.{Kind}
-use Rattle.separation.specs.code_rules.Codes.{PlainCode, PlainFunction}
+use Rattle.separation.specs.cell_code.Plain.{PlainFunction, PlainCode}
 use Rattle.separation.proofs.separation_kinds.Basics.{or_not, both, itself}
 use Rattle.lowering_relation.specs.declared.held.Held.{Held}
 use Rattle.lowering_relation.specs.declared.held.Held.TheVariants as H

@@ -8,7 +8,7 @@ use Rattle.derivation_making.specs.type_check.Scope.{Scope, look, of_binder}
 use Rattle.derivation_making.proofs.type_check.Trail.{look_end}
 use Rattle.derivation_making.specs.ownership_agreement.Bodies.{Scalars, entering, inside}
 use Rattle.derivation_making.proofs.Linking.{known_last}
-use Rattle.separation.specs.code_rules.Codes.{PlainCode}
+use Rattle.separation.specs.cell_code.Plain.{PlainCode}
 use Rattle.separation.specs.code_rules.Types.{is_type, is_scalar_type}
 use Rattle.separation.proofs.separation_kinds.Basics.{chosen, refused, or_not, equal, unequal}
 use Rattle.lowering_soundness.specs.Laid.{Scoped}

@@ -6,7 +6,7 @@ use Rattle.separation.specs.cell_code.declared.kind.From.{From}
 use Rattle.separation.specs.cell_code.declared.kind.Kind.{Kind}
 use Rattle.separation.specs.cell_code.declared.kind.Kind.TheVariants as K
 use Rattle.lowering_relation.specs.fip_trees.Tree.{Pattern, BinderPattern, LiteralPattern, ConstructorPattern, Patterns}
-use Rattle.separation.specs.code_rules.Codes.{PlainCode, PlainFunction}
+use Rattle.separation.specs.cell_code.Plain.{PlainFunction, PlainCode}
 use Rattle.separation.specs.code_rules.Types.{is_scalar_type, fields}
 use Rattle.separation.specs.code_rules.Kinds.{has, is_free, is_lent_of, from_of}
 use Rattle.separation.specs.code_rules.Fitting.{fits}

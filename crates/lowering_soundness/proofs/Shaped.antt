@@ -5,7 +5,8 @@ use Rattle.separation.specs.fip_language.Table.{Table}
 use Rattle.separation.specs.cell_code.declared.kind.From.{From}
 use Rattle.separation.specs.cell_code.declared.kind.Kind.{Kind}
 use Rattle.separation.specs.cell_code.declared.kind.Kind.TheVariants as K
-use Rattle.separation.specs.code_rules.Codes.{PlainCode, PlainFunction, LabelMap, label_at}
+use Rattle.separation.specs.cell_code.Plain.{LabelMap, PlainFunction, PlainCode}
+use Rattle.separation.specs.code_rules.Codes.{label_at}
 use Rattle.separation.specs.code_rules.Headers.{is_size, are_rising, is_set, is_good_root, is_good_from, is_good_kind, are_good_kinds}
 use Rattle.separation.specs.code_rules.Types.{is_type, is_scalar_type, numbers, count, all}
 use Rattle.separation.specs.code_rules.Kinds.{at as kind_at, has, same_root, root_of}

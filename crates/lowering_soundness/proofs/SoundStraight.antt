@@ -7,7 +7,7 @@ use Rattle.separation.specs.cell_code.declared.code.Instr.TheVariants as I
 use Rattle.separation.specs.cell_code.declared.kind.From.{From}
 use Rattle.separation.specs.cell_code.declared.kind.Kind.{Kind}
 use Rattle.separation.specs.cell_code.declared.kind.Kind.TheVariants.{Gone, Scalar, Owned, Lent, Credit}
-use Rattle.separation.specs.code_rules.Codes.{PlainCode, PlainFunction, results}
+use Rattle.separation.specs.cell_code.Plain.{PlainFunction, PlainCode, results}
 use Rattle.separation.specs.code_rules.Types.{fields, is_scalar_type}
 use Rattle.separation.specs.code_rules.Kinds as S
 use Rattle.separation.specs.code_rules.Kinds.{at, are_free}

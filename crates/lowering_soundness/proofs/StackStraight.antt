@@ -9,7 +9,8 @@ use Rattle.separation.specs.cell_code.declared.kind.Kind.{Kind}
 use Rattle.separation.specs.fip_language.declared.Place.{Place}
 use Rattle.separation.specs.fip_language.declared.Operator.{Operator}
 use Rattle.lowering_relation.specs.fip_trees.Tree.{Argument, Variable, Literal, Constructor, Arguments, NoArguments, MoreArguments}
-use Rattle.separation.specs.code_rules.Codes.{PlainCode, PlainFunction, function_at, label_at}
+use Rattle.separation.specs.cell_code.Plain.{PlainFunction, PlainCode, function_at}
+use Rattle.separation.specs.code_rules.Codes.{label_at}
 use Rattle.separation.specs.code_rules.Types.{fields}
 use Rattle.separation.specs.code_rules.Kinds.{at, from_of}
 use Rattle.separation.specs.code_rules.Entry.{entry}

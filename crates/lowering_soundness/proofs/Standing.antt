@@ -5,7 +5,7 @@ use Rattle.separation.specs.fip_language.Table.{Table}
 use Rattle.separation.specs.fip_language.Every.{Among}
 use Rattle.lowering_relation.specs.fip_trees.Tree.{Pattern, BinderPattern, LiteralPattern, ConstructorPattern, Patterns, NoPatterns}
 use Rattle.lowering_relation.specs.fip_trees.Tree.{MorePatterns}
-use Rattle.separation.specs.code_rules.Codes.{PlainCode, PlainFunction}
+use Rattle.separation.specs.cell_code.Plain.{PlainFunction, PlainCode}
 use Rattle.separation.specs.code_rules.Types.{fields, is_scalar_type}
 use Rattle.lowering_relation.specs.match_knowledge.Patterns.{IsPattern}
 use Rattle.lowering_relation.specs.Spots.{register, below, Differ}

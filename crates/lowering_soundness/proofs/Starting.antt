@@ -13,7 +13,7 @@ use Rattle.derivation_making.specs.ownership_calculus.Rules as O
 use Rattle.derivation_making.specs.ownership_calculus.Functions.{starting}
 use Rattle.derivation_making.proofs.ownership_calculus.Fit.{fits_same}
 use Rattle.derivation_making.specs.ownership_agreement.Bodies.{borrowed_parameters, owned_parameters}
-use Rattle.separation.specs.code_rules.Codes.{PlainCode}
+use Rattle.separation.specs.cell_code.Plain.{PlainCode}
 use Rattle.separation.specs.code_rules.Types.{is_type, is_scalar_type, fields}
 use Rattle.separation.proofs.separation_kinds.Basics.{chosen, refused, or_not, both, refuted, equal, equal_is, unequal, unequal_is, itself}
 use Rattle.lowering_relation.specs.declared.held.Held.{Held}

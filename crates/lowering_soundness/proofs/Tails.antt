@@ -10,7 +10,7 @@ use Rattle.derivation_making.specs.ownership_calculus.Terms.{Item, Own}
 use Rattle.derivation_making.specs.ownership_calculus.Rules.{Fits}
 use Rattle.separation.specs.cell_code.declared.code.Instr.TheVariants as I
 use Rattle.separation.specs.cell_code.declared.kind.Kind.{Kind}
-use Rattle.separation.specs.code_rules.Codes.{PlainCode, PlainFunction}
+use Rattle.separation.specs.cell_code.Plain.{PlainFunction, PlainCode}
 use Rattle.separation.specs.code_rules.Types.{is_scalar_type}
 use Rattle.separation.specs.code_rules.Asked.{same_types}
 use Rattle.separation.proofs.separation_kinds.Basics.{pick, chosen, refused, or_not, both, itself}

@@ -6,7 +6,7 @@ use Rattle.separation.specs.cell_code.declared.code.Instr.TheVariants as I
 use Rattle.separation.specs.cell_code.declared.kind.Kind.{Kind}
 use Rattle.separation.specs.cell_code.declared.kind.Kind.TheVariants as K
 use Rattle.lowering_relation.specs.fip_trees.Tree.{Patterns, NoPatterns, MorePatterns}
-use Rattle.separation.specs.code_rules.Codes.{PlainCode, PlainFunction}
+use Rattle.separation.specs.cell_code.Plain.{PlainFunction, PlainCode}
 use Rattle.separation.specs.code_rules.Types.{fields, is_scalar_type}
 use Rattle.separation.specs.code_rules.Kinds.{has, at, is_free, from_of}
 use Rattle.separation.specs.code_rules.Changes.{forget}

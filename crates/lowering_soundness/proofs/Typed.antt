@@ -14,7 +14,7 @@ use Rattle.derivation_making.specs.type_check.World as W
 use Rattle.derivation_making.specs.type_check.World.{result_of, chosen, field_types, is_of}
 use Rattle.derivation_making.specs.type_check.Typing.{HasType, HaveTypes, IsPattern, ArePatterns, Types, TypesBlock, bound_by, bound_by_all}
 use Rattle.derivation_making.proofs.type_check.Trail.{look_end}
-use Rattle.separation.specs.code_rules.Codes.{PlainCode}
+use Rattle.separation.specs.cell_code.Plain.{PlainCode}
 use Rattle.separation.specs.code_rules.Types.{is_type}
 use Rattle.separation.proofs.separation_kinds.Basics.{refused, or_not, both, below_is, equal, itself}
 use Rattle.separation.proofs.separation_kinds.Basics as K

@@ -22,7 +22,7 @@ use Rattle.derivation_making.specs.ownership_calculus.Clean.{used_up, all_used_u
 use Rattle.derivation_making.proofs.ownership_calculus.Fit.{fits_le, fits_same}
 use Rattle.derivation_making.proofs.ownership_calculus.Counts.{args_fits, gifts_fits}
 use Rattle.derivation_making.specs.ownership_agreement.Bodies.{Scalars, variable, value, values, lent_value, passed}
-use Rattle.separation.specs.code_rules.Codes.{PlainCode, PlainFunction}
+use Rattle.separation.specs.cell_code.Plain.{PlainFunction, PlainCode}
 use Rattle.separation.specs.code_rules.Types.{is_scalar_type}
 use Rattle.separation.proofs.separation_kinds.Basics.{refused, chosen, or_not, equal, equal_is, less_or_not}
 use Rattle.lowering_relation.specs.Known.{Known, register_of}

@@ -8,7 +8,7 @@ use Rattle.derivation_making.specs.ownership_calculus.Rules.{Fits}
 use Rattle.derivation_making.proofs.ownership_calculus.Fit.{fits_le, fits_same, fits_sum}
 use Rattle.separation.specs.cell_code.declared.code.Instr.{Instr}
 use Rattle.separation.specs.cell_code.declared.code.Instr.TheVariants as I
-use Rattle.separation.specs.code_rules.Codes.{PlainCode, PlainFunction}
+use Rattle.separation.specs.cell_code.Plain.{PlainFunction, PlainCode}
 use Rattle.separation.specs.code_rules.Types.{is_scalar_type, fields}
 use Rattle.separation.proofs.separation_kinds.Basics.{pick, chosen, refused, or_not, equal, itself}
 use Rattle.lowering_relation.specs.declared.held.Held.{Held}

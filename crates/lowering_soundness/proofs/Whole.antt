@@ -4,7 +4,7 @@ use Rattle.std.proofs.Common.{◌≡◌, inl, inr, ℕ, length, Some, sym, subst
 use Rattle.separation.specs.cell_code.declared.kind.Kind.{Kind}
 use Rattle.separation.specs.code_rules.declared.rule.SoundRule.{SoundRule}
 use Rattle.separation.specs.code_rules.declared.rule.SoundRule.TheVariants.{S0, S1, S2, S3, S4, S5, S6, S7, S8, S9}
-use Rattle.separation.specs.code_rules.Codes.{PlainCode, PlainFunction, function_at}
+use Rattle.separation.specs.cell_code.Plain.{PlainFunction, PlainCode, function_at}
 use Rattle.separation.specs.code_rules.Tables.{AreSoundTables}
 use Rattle.separation.specs.code_rules.Headers.{is_formed}
 use Rattle.separation.specs.code_rules.Entry.{entry}

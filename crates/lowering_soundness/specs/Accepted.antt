@@ -7,7 +7,8 @@ use Rattle.derivation_making.specs.type_check.World as W
 use Rattle.derivation_making.specs.type_check.Typing.{Typed}
 use Rattle.derivation_making.specs.ownership_agreement.Bodies.{body_term, borrowed_parameters, owned_parameters}
 use Rattle.derivation_making.specs.ownership_calculus.Functions.{Derived}
-use Rattle.separation.specs.code_rules.Codes.{PlainCode, PlainFunction, is_fip}
+use Rattle.separation.specs.cell_code.Plain.{PlainFunction, PlainCode}
+use Rattle.separation.specs.fip_language.Kinds.{is_fip}
 use Rattle.separation.specs.code_rules.Flow.{IsInstr}
 use Rattle.separation.specs.code_rules.Headers.{are_sizes}
 use Rattle.separation.specs.code_rules.Limits.{most_credits, most_results, most_registers}

@@ -3,7 +3,7 @@ use Rattle.std.specs.Prelude.{◌≡◌, ℕ, suc, ◌+◌, ◌≤◌, Bool, Lis
 use Rattle.separation.specs.fip_language.Every.{Among}
 use Rattle.derivation_making.specs.ownership_calculus.Terms.{Item, Own, Credit}
 use Rattle.derivation_making.specs.type_check.Scope.{Scope, of_binder}
-use Rattle.separation.specs.code_rules.Codes.{PlainCode, PlainFunction}
+use Rattle.separation.specs.cell_code.Plain.{PlainFunction, PlainCode}
 use Rattle.lowering_relation.specs.declared.held.Held.TheVariants as H
 use Rattle.lowering_relation.specs.Known.{Known, register_of}
 use Rattle.lowering_relation.specs.Describing.{held_at}

@@ -5,7 +5,8 @@ use Rattle.std.specs.Prelude.{◌≡◌, ℕ, ◌+◌, Bool, true, false, ◌&&�
 use Rattle.std.specs.Prelude.{◌==◌, if◌then◌else◌, length, drop}
 use Rattle.separation.specs.fip_language.Table.{Table}
 use Rattle.separation.specs.fip_base.declared.plain.Param.{Param}
-use Rattle.separation.specs.code_rules.Codes.{PlainCode, params, credits}
+use Rattle.separation.specs.cell_code.Plain.{PlainCode}
+use Rattle.separation.specs.code_rules.Codes.{params, credits}
 use Rattle.separation.specs.code_rules.Types.{is_scalar_type}
 use Rattle.separation.specs.code_rules.Kinds.{has}
 use Rattle.lowering_relation.specs.declared.held.Held.{Held}

@@ -7,7 +7,8 @@ use Rattle.derivation_making.specs.type_check.Scope.{Scope, of_binder}
 use Rattle.derivation_making.specs.type_check.World.{World}
 use Rattle.derivation_making.specs.type_check.Typing.{Makes}
 use Rattle.derivation_making.specs.ownership_agreement.Bodies.{Scalars}
-use Rattle.separation.specs.code_rules.Codes.{PlainCode, params, credits, results}
+use Rattle.separation.specs.cell_code.Plain.{PlainCode, results}
+use Rattle.separation.specs.code_rules.Codes.{params, credits}
 use Rattle.separation.specs.code_rules.Headers.{are_types}
 use Rattle.separation.specs.code_rules.Types.{is_type, is_scalar_type}
 use Rattle.lowering_relation.specs.Known.{joined}

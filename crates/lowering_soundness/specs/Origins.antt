@@ -6,7 +6,7 @@ use Rattle.separation.specs.cell_code.declared.code.Instr.{Instr}
 use Rattle.separation.specs.cell_code.declared.code.Instr.TheVariants as I
 use Rattle.tail_groups.specs.call_groups.CallGraph.{In}
 use Rattle.tail_groups.specs.Sites.{Site}
-use Rattle.separation.specs.code_rules.Codes.{PlainFunction}
+use Rattle.separation.specs.cell_code.Plain.{PlainFunction}
 use Rattle.separation.specs.code_rules.Calls.{IsCall}
 use Rattle.lowering_relation.specs.Known.{joined}
 use Rattle.lowering_relation.specs.Values.{Setting}

@@ -5,7 +5,8 @@ use Rattle.std.specs.Prelude.{◌≡◌, ◌⊎◌, ℕ, suc, ◌<◌, ◌≤◌
 use Rattle.separation.specs.cell_code.declared.code.Instr.{Instr}
 use Rattle.separation.specs.cell_code.declared.code.Instr.TheVariants as I
 use Rattle.separation.specs.cell_code.declared.kind.Kind.{Kind}
-use Rattle.separation.specs.code_rules.Codes.{PlainCode, PlainFunction, label_at, is_fip}
+use Rattle.separation.specs.cell_code.Plain.{PlainFunction, PlainCode}
+use Rattle.separation.specs.code_rules.Codes.{label_at, is_fip}
 use Rattle.separation.specs.code_rules.Fitting.{fit_all}
 use Rattle.separation.specs.code_rules.Ranges.{in_range}
 use Rattle.separation.specs.code_rules.Asked.{sources, destinations}

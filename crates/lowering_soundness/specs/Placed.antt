@@ -11,7 +11,7 @@ use Rattle.derivation_making.specs.type_check.Scope.{Scope, of_binder}
 use Rattle.derivation_making.specs.type_check.World as W
 use Rattle.derivation_making.specs.ownership_calculus.Terms.{Item, Own}
 use Rattle.derivation_making.specs.ownership_agreement.Bodies.{Scalars, inside, past_clause}
-use Rattle.separation.specs.code_rules.Codes.{PlainCode}
+use Rattle.separation.specs.cell_code.Plain.{PlainCode}
 use Rattle.separation.specs.code_rules.Types.{is_type, is_scalar_type}
 use Rattle.lowering_relation.specs.Values.{Setting}
 

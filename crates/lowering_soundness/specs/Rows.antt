@@ -3,7 +3,7 @@
 use Rattle.std.specs.Prelude.{◌≡◌, ℕ, true, List}
 use Rattle.separation.specs.cell_code.declared.code.Instr.{Instr}
 use Rattle.separation.specs.cell_code.declared.kind.Kind.{Kind}
-use Rattle.separation.specs.code_rules.Codes.{PlainCode, PlainFunction}
+use Rattle.separation.specs.cell_code.Plain.{PlainFunction, PlainCode}
 use Rattle.separation.specs.code_rules.Asked.{sources, destinations}
 use Rattle.separation.specs.code_rules.Endings.{spends_all}
 use Rattle.separation.specs.code_rules.Leaves.{Leaves}

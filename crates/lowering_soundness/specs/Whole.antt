@@ -1,7 +1,8 @@
 -- It serves the proof that lowered code is sound: what of each function makes a code sound.
 use Rattle.std.specs.Prelude.{◌≡◌, ℕ, true}
 use Rattle.separation.specs.cell_code.declared.code.Instr.{Instr}
-use Rattle.separation.specs.code_rules.Codes.{PlainCode, PlainFunction, is_fip}
+use Rattle.separation.specs.cell_code.Plain.{PlainFunction, PlainCode}
+use Rattle.separation.specs.code_rules.Codes.{is_fip}
 use Rattle.separation.specs.code_rules.Headers.{is_formed}
 use Rattle.separation.specs.code_rules.Flow.{IsInstr}
 use Rattle.separation.specs.code_rules.Calls.{CallsAt, SameGroup}

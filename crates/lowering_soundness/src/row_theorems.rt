@@ -23,7 +23,8 @@ ghost use Rattle.derivation_making.specs.ownership_agreement.Bodies.{body_term, 
 ghost use Rattle.derivation_making.specs.ownership_calculus.Functions.{Derived};
 ghost use Rattle.separation.specs.code_rules.Breaks.{IsSound};
 ghost use Rattle.separation.specs.code_rules.Calls.{CallsAt, SameGroup};
-ghost use Rattle.separation.specs.code_rules.Codes.{PlainCode, PlainFunction, function_at, is_fip};
+ghost use Rattle.separation.specs.cell_code.Plain.{PlainFunction, PlainCode, function_at};
+ghost use Rattle.separation.specs.code_rules.Codes.{is_fip};
 ghost use Rattle.separation.specs.code_rules.Endings.{releases};
 ghost use Rattle.separation.specs.code_rules.Flow.{IsInstr};
 ghost use Rattle.separation.specs.code_rules.Headers.{are_good_maps, are_sizes};

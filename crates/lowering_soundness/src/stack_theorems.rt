@@ -7,7 +7,7 @@ ghost use Rattle.tail_groups.specs.Members.{AreMembers, FipCallsFip};
 ghost use Rattle.tail_groups.specs.Sites.{Site, instance_sites};
 ghost use Rattle.separation.specs.code_rules.Breaks.{IsSound};
 ghost use Rattle.separation.specs.code_rules.Calls.{Calls};
-ghost use Rattle.separation.specs.code_rules.Codes.{PlainCode, PlainFunction, function_at};
+ghost use Rattle.separation.specs.cell_code.Plain.{PlainFunction, PlainCode, function_at};
 ghost use Rattle.separation.specs.code_rules.StackNumbers.{HasStack};
 ghost use Rattle.lowering_relation.specs.LoweredBodies.{function_of};
 ghost use Rattle.lowering_relation.specs.Known.{joined};

@@ -1,23 +1,21 @@
 -- At a Drop of a state of a run the verifier knows the tree: the state is alive, so the kinds are those at an
 -- instruction that is reached.
-use Rattle.std.proofs.Common.{◌≡◌, ℕ, List, Option, Some, None, slice_get, option_map, sym, ap, subst, ◌∙◌}
-use Rattle.std.proofs.lemmas.Option.{none-some, same_Some, slice_get-map}
+use Rattle.std.proofs.Common.{◌≡◌, ℕ, List, Option, Some, None, slice_get, sym, ap, subst, ◌∙◌}
+use Rattle.std.proofs.lemmas.Option.{none-some, same_Some}
 use Rattle.fip_machine.specs.cell_code.declared.code.Instr.{Instr}
 use Rattle.fip_machine.specs.cell_code.declared.code.Instr.TheVariants as I
 use Rattle.fip_machine.specs.cell_code.declared.kind.Kind.{Kind}
 use Rattle.fip_machine.specs.cell_code.declared.kind.Kind.TheVariants.{Gone, Scalar, Owned, Lent, Credit}
+use Rattle.fip_machine.specs.cell_code.Plain.{PlainFunction, PlainCode, plain, function_at, results}
 use Rattle.compiler_correctness.specs.machine_semantics.Codes as R
 use Rattle.compiler_correctness.specs.machine_semantics.Rows.{owned_type}
 use Rattle.compiler_correctness.specs.machine_semantics.States.{State}
 use Rattle.compiler_correctness.specs.machine_semantics.Steps.{Kinds}
 use Rattle.compiler_correctness.specs.machine_semantics.Runs.{Run, Going, state_of, begun, after}
-use Rattle.run_loading.specs.code_rules.Codes.{PlainCode, PlainFunction, plain, function_at, results}
 use Rattle.run_loading.specs.code_rules.Kinds.{kind_or_gone}
 use Rattle.fip_machine.specs.code_verify.Checked.{Checked}
-use Rattle.run_loading.specs.separation.Codes.{run_function, run_code}
 use Rattle.run_loading.specs.separation.Starts.{IsStart}
 use Rattle.run_loading.specs.separation.Alive.{IsAlive}
-use Rattle.run_loading.proofs.separation.CodesRun.{code_runs}
 use Rattle.run_loading.proofs.separation.Running.{run_alive}
 use Rattle.run_loading.proofs.separation.Sound.{formed}
 use Rattle.fip_machine.specs.Ending.{KnowsRun}
@@ -32,17 +30,17 @@ owned_by (Some (Lent u set root from)) t e = absurd (none-some t e)
 owned_by (Some (Credit k)) t e = absurd (none-some t e)
 
 -- an instruction that a run reads is the one that was verified
-instr_read : (c : PlainCode) (f i : ℕ) (g : PlainFunction) (x : Instr) → function_at c f ≡ Some g → R.instr_at (run_code c) f i ≡ Some x → slice_get g.instrs i ≡ Some x
-instr_read c f i g x is e = sym (ap (λ o. R.instr_in o i) (slice_get-map run_function c.functions f ∙ ap (option_map run_function) is)) ∙ e
+instr_read : (c : PlainCode) (f i : ℕ) (g : PlainFunction) (x : Instr) → function_at c f ≡ Some g → R.instr_at c f i ≡ Some x → slice_get g.instrs i ≡ Some x
+instr_read c f i g x is e = sym (ap (λ o. R.instr_in o i) is) ∙ e
 
 pub known : (v : Checked) (before waits : Kinds) (n : ℕ) (kept : List ℕ) (s : State) (calls : ℕ) → IsStart (plain v.code) before waits n kept s → KnowsRun v before s calls
 known v before waits n kept s calls t k left steps u e r ty drop owned =
     let c = plain v.code in
-    let there : after before (run_code c) k (begun s calls) ≡ Going u left steps = ap (λ (q : R.PlainCode). after before q k (begun s calls)) (code_runs v.code) ∙ e in
+    let there : after before c k (begun s calls) ≡ Going u left steps = e in
     let alive : IsAlive c (results c n) kept u = subst (λ (m : Run). IsAlive c (results c n) kept (state_of m)) there (run_alive c before waits n kept s calls k t) in
     let f = u.running.function in
     let i = u.running.at in
-    let read : R.instr_at (run_code c) f i ≡ Some (I.Drop r) = ap (λ (q : R.PlainCode). R.instr_at q f i) (code_runs v.code) ∙ drop in
+    let read : R.instr_at c f i ≡ Some (I.Drop r) = drop in
     let kinds : before f i ≡ alive.kinds = t.kinds.known f i alive.function alive.kinds alive.is alive.known in
     let o = owned_by (slice_get alive.kinds r) ty (ap (λ (ks : List Kind). owned_type (slice_get ks r)) (sym kinds) ∙ owned) in (
       alive.function,

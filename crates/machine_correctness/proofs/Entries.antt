@@ -8,12 +8,14 @@ use Rattle.fip_machine.specs.fip_language.declared.FunKind.{FunKind}
 use Rattle.fip_machine.specs.fip_language.declared.FunKind.TheVariants.{Fip, Fbip, Fun}
 use Rattle.compiler_correctness.specs.fip_trees.declared.groups.Member.{Member}
 use Rattle.compiler_correctness.specs.fip_trees.Tree.{Instance, Program}
-use Rattle.fip_machine.specs.cell_code.declared.code.Function.{Function}
-use Rattle.run_loading.specs.code_rules.Codes.{PlainCode, PlainFunction, plain_function, function_at, params_of}
+use Rattle.fip_machine.specs.cell_code.Plain.{PlainFunction, PlainCode, function_at}
+use Rattle.run_loading.specs.code_rules.Codes.{params_of}
 use Rattle.compiler_correctness.specs.lowering_relation.LoweredBodies.{has_function, one_more, if_function, function_of}
 use Rattle.compiler_correctness.specs.lowering_simulation.CellEnds.{IsFunctionOf}
 use Rattle.compiler_correctness.specs.cell_lower.Limits.{is_ruled, registers}
-use Rattle.compiler_correctness.specs.cell_lower.Shape.{Header, header, header_of, entry_name, and_if, headers_from, headers}
+pub use Rattle.compiler_correctness.specs.cell_lower.Shape.{plain_header}
+pub use Rattle.compiler_correctness.proofs.SoundnessFunctions.{plain_headers as headers_of}
+use Rattle.compiler_correctness.specs.cell_lower.Shape.{Header, header_of, entry_name, and_if, headers_from, headers}
 
 -- a header is that of an instance whose function has number n
 record IsHeaded (ds : List Instance) (n : ℕ) (h : Header) : Type 0 where
@@ -47,19 +49,6 @@ root_of d h = by d.root refl h
     by : (b : Bool) → d.root ≡ b → 0 < length (if b then d.name else []) → (d.root ≡ true) × (entry_name d ≡ d.name)
     by true e h = (e, ap (λ b. if b then d.name else []) e)
     by false e h = absurd (omega (arith, h))
-
--- what a function says beside its instructions and labels
-abbrev pub plain_header : PlainFunction → Header
-plain_header f = record {
-  signature = record { kind = f.kind; params = f.params; credits = f.credits; results = f.results };
-  name = f.name;
-  registers = f.registers;
-}
-
--- those of functions in memory
-pub headers_of : (fs : List Function) → map plain_header (map plain_function fs) ≡ map header fs
-headers_of [] = refl
-headers_of (f ∷ fs) = ap (λ hs. header f ∷ hs) (headers_of fs)
 
 -- the instance of a function that has a name
 pub record IsNamed (program : Program) (c : PlainCode) (n : ℕ) (f : PlainFunction) : Type 0 where

@@ -8,14 +8,14 @@ use Rattle.fip_machine.specs.fip_language.Table.{Table}
 use Rattle.fip_machine.specs.fip_language.Values.{Values}
 use Rattle.value_text.specs.fip_base.declared.plain.Stack.{Stack}
 use Rattle.fip_machine.specs.cell_code.declared.code.Code.{Code}
-use Rattle.compiler_correctness.specs.machine_semantics.Codes as R
+use Rattle.fip_machine.specs.cell_code.Plain.{PlainFunction, PlainCode, plain, function_at, results_of, results}
 use Rattle.compiler_correctness.specs.machine_semantics.Runs as C
 use Rattle.compiler_correctness.specs.machine_semantics.Runs.{End, Run, Going, Over, Ends, begun, after}
 use Rattle.compiler_correctness.specs.machine_semantics.States.{State}
 use Rattle.compiler_correctness.specs.machine_semantics.Steps.{Kinds}
-use Rattle.run_loading.specs.code_rules.Codes.{PlainCode, PlainFunction, plain, function_at, is_fip, results, results_of}
+use Rattle.run_loading.specs.code_rules.Codes.{is_fip}
 use Rattle.run_loading.specs.code_rules.StackNumbers.{IsStack}
-use Rattle.run_loading.specs.separation.Codes.{run_code, AreKinds}
+use Rattle.run_loading.specs.separation.Codes.{AreKinds}
 use Rattle.run_loading.specs.separation.Starts.{IsStart}
 use Rattle.run_loading.proofs.separation.KindsFound.{kinds_found}
 use Rattle.run_loading.proofs.separation_bounds.Ending.{ends_once}
@@ -34,7 +34,7 @@ use Rattle.machine_correctness.specs.Meant.{IsMeant}
 use Rattle.machine_correctness.specs.Starts.{IsSoundCode, IsCodeOf, Begins}
 use Rattle.machine_correctness.proofs.Entries.{named}
 use Rattle.machine_correctness.proofs.Made.{IsMadeOf, made_of}
-use Rattle.machine_correctness.proofs.Starting.{read, starts, free_is, fip}
+use Rattle.machine_correctness.proofs.Starting.{starts, free_is, fip}
 
 -- ---- the run of the definition
 
@@ -108,15 +108,15 @@ same_end tb types end other l m left k steps j e new given a is h same =
     let other_last : IsSameEnd tb types m left other a = subst (λ (u : State). IsSameEnd tb types u left other a) lasts other_end in
     meant_by tb types other m left e new given a h other_last
 
-pub answers_as_meant : (source : List ℕ) (core : Core) (v : Checked) (before waits : Kinds) (n : ℕ) (f : PlainFunction) (vs : Values) (frames : ℕ) (s : State) (calls : ℕ) (e : Ended) (new : State) (given : List ℕ) → IsCodeOf source core v.code → AreKinds (plain v.code) before waits → Begins v.code n f vs frames s → 0 < length f.name → RunsTo before (R.plain v.code) s calls e new given → IsMeant v.code.types f.results e new given (meaning core f.name NoClosed vs calls frames).answer
+pub answers_as_meant : (source : List ℕ) (core : Core) (v : Checked) (before waits : Kinds) (n : ℕ) (f : PlainFunction) (vs : Values) (frames : ℕ) (s : State) (calls : ℕ) (e : Ended) (new : State) (given : List ℕ) → IsCodeOf source core v.code → AreKinds (plain v.code) before waits → Begins v.code n f vs frames s → 0 < length f.name → RunsTo before (plain v.code) s calls e new given → IsMeant v.code.types f.results e new given (meaning core f.name NoClosed vs calls frames).answer
 answers_as_meant source core v before waits n f vs frames s calls e new given h kinds b some runs =
     let c = plain v.code in
     let a = (meaning core f.name NoClosed vs calls frames).answer in
     let start = (starts v.code before waits n f vs frames s h.is_sound kinds b).0 in
     let meant = ends_as_meant source core v.code before waits n f vs frames s calls h kinds b some in
     let just = runs_just v before waits n [] s calls e new given start runs in
-    let x = ended (after before (R.plain v.code) just.0 (begun s calls)) e new given just.1 in
-    let reported : Ends before (run_code c) s calls x.end x.last x.left x.steps = record { enough = just.0; is = ap (λ (q : R.PlainCode). after before q just.0 (begun s calls)) (read v.code) ∙ x.is } in
+    let x = ended (after before (plain v.code) just.0 (begun s calls)) e new given just.1 in
+    let reported : Ends before c s calls x.end x.last x.left x.steps = record { enough = just.0; is = x.is } in
     let once = ends_once c before waits before waits n [] s calls meant.end x.end meant.last x.last meant.left x.left meant.steps x.steps start kinds meant.ends reported in
     let types : results c n ≡ f.results = ap results_of b.is in
     subst (λ ts. IsMeant v.code.types ts e new given a) types

@@ -9,14 +9,14 @@ use Rattle.fip_machine.specs.fip_language.Values.{Values, cells_of_all}
 use Rattle.value_text.specs.fip_base.declared.plain.Stack.{Stack}
 use Rattle.fip_machine.specs.cell_code.declared.code.Code.{Code}
 use Rattle.compiler_correctness.specs.machine_semantics.Cells.{count_held}
-use Rattle.compiler_correctness.specs.machine_semantics.Codes as R
+use Rattle.fip_machine.specs.cell_code.Plain.{PlainFunction, PlainCode, plain, function_at}
 use Rattle.compiler_correctness.specs.machine_semantics.Gauges.{seen_of, states, seen}
 use Rattle.compiler_correctness.specs.machine_semantics.Runs.{Value, Trap, Out, Deep, Unsound, Run, Going, Over, state_of, begun, after, later}
 use Rattle.compiler_correctness.specs.machine_semantics.States.{State, frames_held, words_held}
 use Rattle.compiler_correctness.specs.machine_semantics.Steps.{Kinds}
-use Rattle.run_loading.specs.code_rules.Codes.{PlainCode, PlainFunction, plain, function_at, is_fip}
+use Rattle.run_loading.specs.code_rules.Codes.{is_fip}
 use Rattle.run_loading.specs.code_rules.StackNumbers.{IsStack}
-use Rattle.run_loading.specs.separation.Codes.{run_code, AreKinds}
+use Rattle.run_loading.specs.separation.Codes.{AreKinds}
 use Rattle.run_loading.specs.separation.Starts.{IsStart}
 use Rattle.run_loading.proofs.separation_bounds.FipRuns.{frames_within, words_within}
 use Rattle.run_loading.proofs.separation_bounds.Falling.{fip_count}
@@ -28,14 +28,14 @@ use Rattle.machine_correctness.specs.Ended.{ReportsJustOver}
 use Rattle.machine_correctness.proofs.VerifiedEnds.{reports_just_run}
 use Rattle.machine_correctness.specs.Gauges.{IsFlat, cells_given}
 use Rattle.machine_correctness.specs.Starts.{IsSoundCode, Begins}
-use Rattle.machine_correctness.proofs.Starting.{read, starts, fip, cells_at_start}
+use Rattle.machine_correctness.proofs.Starting.{starts, fip, cells_at_start}
 use Rattle.fip_machine.proofs.fip_language.Facts.{max_within as most}
 
 -- ---- each state
 
 module _ (c : PlainCode) (before waits : Kinds) (n : ℕ) (f : PlainFunction) (vs : Values) (s : State) (calls : ℕ) (t : IsStart c before waits n [] s) (b : BeginsWith c n s vs) (is : function_at c n ≡ Some f) (k : is_fip f.kind ≡ true) where
   abbrev at : ℕ → State
-  at steps = state_of (after before (run_code c) steps (begun s calls))
+  at steps = state_of (after before c steps (begun s calls))
 
   pub all_cells : (steps size : ℕ) → count_held size (at steps).store ≡ cells_given size vs f.credits
   all_cells steps size = fip_count c before waits n [] s calls steps size t (fip c n f is k) ∙ cells_at_start c before waits n f vs s size t b is
@@ -48,30 +48,30 @@ module _ (c : PlainCode) (before waits : Kinds) (n : ℕ) (f : PlainFunction) (v
 
 -- of code in memory
 module _ (code : Code) (before waits : Kinds) (n : ℕ) (f : PlainFunction) (vs : Values) (frames : ℕ) (s : State) (calls : ℕ) (sound : IsSoundCode code) (kinds : AreKinds (plain code) before waits) (b : Begins code n f vs frames s) (k : is_fip f.kind ≡ true) where
-  abbrev steps_to : R.PlainCode → ℕ → State
+  abbrev steps_to : PlainCode → ℕ → State
   steps_to q steps = state_of (after before q steps (begun s calls))
 
   abbrev t : IsStart (plain code) before waits n [] s × BeginsWith (plain code) n s vs
   t = starts code before waits n f vs frames s sound kinds b
 
-  pub each_cells : (steps size : ℕ) → count_held size (steps_to (R.plain code) steps).store ≡ cells_of_all size vs + count size f.credits
-  each_cells steps size = subst (λ q. count_held size (steps_to q steps).store ≡ cells_of_all size vs + count size f.credits) (read code) (all_cells (plain code) before waits n f vs s calls t.0 t.1 b.is k steps size)
+  pub each_cells : (steps size : ℕ) → count_held size (steps_to (plain code) steps).store ≡ cells_of_all size vs + count size f.credits
+  each_cells steps size = all_cells (plain code) before waits n f vs s calls t.0 t.1 b.is k steps size
 
-  pub each_frames : (steps : ℕ) (stack : Stack) → IsStack (plain code) n stack → frames_held (steps_to (R.plain code) steps) ≤ stack.frames
-  each_frames steps stack number = subst (λ q. frames_held (steps_to q steps) ≤ stack.frames) (read code) (all_frames (plain code) before waits n f vs s calls t.0 t.1 b.is k steps stack number)
+  pub each_frames : (steps : ℕ) (stack : Stack) → IsStack (plain code) n stack → frames_held (steps_to (plain code) steps) ≤ stack.frames
+  each_frames steps stack number = all_frames (plain code) before waits n f vs s calls t.0 t.1 b.is k steps stack number
 
-  pub each_words : (steps : ℕ) (stack : Stack) → IsStack (plain code) n stack → words_held (steps_to (R.plain code) steps) ≤ stack.words
-  each_words steps stack number = subst (λ q. words_held (steps_to q steps) ≤ stack.words) (read code) (all_words (plain code) before waits n f vs s calls t.0 t.1 b.is k steps stack number)
+  pub each_words : (steps : ℕ) (stack : Stack) → IsStack (plain code) n stack → words_held (steps_to (plain code) steps) ≤ stack.words
+  each_words steps stack number = all_words (plain code) before waits n f vs s calls t.0 t.1 b.is k steps stack number
 
 -- ---- all states that are seen
 
-all_states : (P : State → Type 0) (kinds : Kinds) (code : R.PlainCode) (m : ℕ) (r : Run) → ((j : ℕ) → P (state_of (after kinds code j r))) → Every P (states kinds code m r)
+all_states : (P : State → Type 0) (kinds : Kinds) (code : PlainCode) (m : ℕ) (r : Run) → ((j : ℕ) → P (state_of (after kinds code j r))) → Every P (states kinds code m r)
 all_states P kinds code zero (Going s left n) h = (h 0, tt)
 all_states P kinds code (suc m) (Going s left n) h = (h 0, all_states P kinds code m (later kinds code (Going s left n)) (λ j. h (suc j)))
 all_states P kinds code zero (Over e s left n) h = (h 0, tt)
 all_states P kinds code (suc m) (Over e s left n) h = (h 0, tt)
 
-some_state : (kinds : Kinds) (code : R.PlainCode) (m : ℕ) (r : Run) → 0 < length (states kinds code m r)
+some_state : (kinds : Kinds) (code : PlainCode) (m : ℕ) (r : Run) → 0 < length (states kinds code m r)
 some_state kinds code zero (Going s left n) = omega arith
 some_state kinds code (suc m) (Going s left n) = omega arith
 some_state kinds code zero (Over e s left n) = omega arith
@@ -110,7 +110,7 @@ pub record IsFlatRun (vs : Values) (credits : List ℕ) (stack : Stack) (ss : Li
   pub frames : highest_frames ss ≤ stack.frames
   pub words : highest_words ss ≤ stack.words
 
-flat_run : (before : Kinds) (code : R.PlainCode) (s : State) (calls : ℕ) (vs : Values) (credits : List ℕ) (stack : Stack) (m : ℕ) → ((j size : ℕ) → count_held size (state_of (after before code j (begun s calls))).store ≡ cells_given size vs credits) → ((j : ℕ) → frames_held (state_of (after before code j (begun s calls))) ≤ stack.frames) → ((j : ℕ) → words_held (state_of (after before code j (begun s calls))) ≤ stack.words) → IsFlatRun vs credits stack (seen before code m (begun s calls))
+flat_run : (before : Kinds) (code : PlainCode) (s : State) (calls : ℕ) (vs : Values) (credits : List ℕ) (stack : Stack) (m : ℕ) → ((j size : ℕ) → count_held size (state_of (after before code j (begun s calls))).store ≡ cells_given size vs credits) → ((j : ℕ) → frames_held (state_of (after before code j (begun s calls))) ≤ stack.frames) → ((j : ℕ) → words_held (state_of (after before code j (begun s calls))) ≤ stack.words) → IsFlatRun vs credits stack (seen before code m (begun s calls))
 flat_run before code s calls vs credits stack m held in_frames in_words =
     let ss : List State = states before code m (begun s calls) in
     let some = some_state before code m (begun s calls) in
@@ -123,9 +123,9 @@ flat_run before code s calls vs credits stack m held in_frames in_words =
       words = words_bounded stack.words ss (all_states (λ (u : State). words_held u ≤ stack.words) before code m (begun s calls) in_words);
     }
 
-pub runs_flat : (c : PlainCode) (before waits : Kinds) (n : ℕ) (f : PlainFunction) (vs : Values) (s : State) (calls m : ℕ) (stack : Stack) → IsStart c before waits n [] s → BeginsWith c n s vs → function_at c n ≡ Some f → is_fip f.kind ≡ true → IsStack c n stack → IsFlatRun vs f.credits stack (seen before (run_code c) m (begun s calls))
+pub runs_flat : (c : PlainCode) (before waits : Kinds) (n : ℕ) (f : PlainFunction) (vs : Values) (s : State) (calls m : ℕ) (stack : Stack) → IsStart c before waits n [] s → BeginsWith c n s vs → function_at c n ≡ Some f → is_fip f.kind ≡ true → IsStack c n stack → IsFlatRun vs f.credits stack (seen before c m (begun s calls))
 runs_flat c before waits n f vs s calls m stack t b is k number =
-    flat_run before (run_code c) s calls vs f.credits stack m (λ j size. all_cells c before waits n f vs s calls t b is k j size)
+    flat_run before c s calls vs f.credits stack m (λ j size. all_cells c before waits n f vs s calls t b is k j size)
     (λ j. all_frames c before waits n f vs s calls t b is k j stack number) (λ j. all_words c before waits n f vs s calls t b is k j stack number)
 
 -- ---- the gauge
@@ -138,13 +138,13 @@ reports (Over Out s left n) g ss h = h
 reports (Over Deep s left n) g ss h = h
 reports (Over Unsound s left n) g ss h = absurd h
 
-pub gauge_flat : (v : Checked) (before waits : Kinds) (n : ℕ) (f : PlainFunction) (vs : Values) (frames : ℕ) (s : State) (calls : ℕ) (stack : Stack) (g : Gauge) → IsSoundCode v.code → AreKinds (plain v.code) before waits → Begins v.code n f vs frames s → is_fip f.kind ≡ true → IsStack (plain v.code) n stack → ReportsRun before (R.plain v.code) s calls g → IsFlat g vs f.credits stack
+pub gauge_flat : (v : Checked) (before waits : Kinds) (n : ℕ) (f : PlainFunction) (vs : Values) (frames : ℕ) (s : State) (calls : ℕ) (stack : Stack) (g : Gauge) → IsSoundCode v.code → AreKinds (plain v.code) before waits → Begins v.code n f vs frames s → is_fip f.kind ≡ true → IsStack (plain v.code) n stack → ReportsRun before (plain v.code) s calls g → IsFlat g vs f.credits stack
 gauge_flat v before waits n f vs frames s calls stack g sound kinds b k number runs =
     let start = (starts v.code before waits n f vs frames s sound kinds b).0 in
     let just = reports_just_run v before waits n [] s calls g start runs in
-    let ss : List Seen = seen before (R.plain v.code) just.0 (begun s calls) in
-    let t = reports (after before (R.plain v.code) just.0 (begun s calls)) g ss just.1 in
-    let flat : IsFlatRun vs f.credits stack ss = flat_run before (R.plain v.code) s calls vs f.credits stack just.0
+    let ss : List Seen = seen before (plain v.code) just.0 (begun s calls) in
+    let t = reports (after before (plain v.code) just.0 (begun s calls)) g ss just.1 in
+    let flat : IsFlatRun vs f.credits stack ss = flat_run before (plain v.code) s calls vs f.credits stack just.0
     (λ j size. each_cells v.code before waits n f vs frames s calls sound kinds b k j size)
     (λ j. each_frames v.code before waits n f vs frames s calls sound kinds b k j stack number)
     (λ j. each_words v.code before waits n f vs frames s calls sound kinds b k j stack number) in

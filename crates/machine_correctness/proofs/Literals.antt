@@ -2,7 +2,7 @@
 use Rattle.std.proofs.Common.{◌≡◌, ℕ, Some, refl}
 use Rattle.fip_machine.specs.cell_code.declared.code.Instr.{Instr}
 use Rattle.fip_machine.specs.cell_code.declared.code.Instr.TheVariants as I
-use Rattle.run_loading.specs.code_rules.Codes.{PlainCode}
+use Rattle.fip_machine.specs.cell_code.Plain.{PlainCode}
 use Rattle.run_loading.specs.separation.Rows.{FitsLiteral}
 use Rattle.run_loading.specs.separation.Codes.{HasLiterals}
 use Rattle.fip_machine.specs.code_verify.Checked.{HasMachineInt, HasMachineInts}

@@ -16,15 +16,14 @@ use Rattle.compiler_correctness.specs.fip_trees.Tree.{Instance}
 use Rattle.compiler_correctness.specs.tail_groups.Members.{AreMembers}
 use Rattle.compiler_correctness.specs.tail_groups.Registers as T'
 use Rattle.fip_machine.specs.cell_code.declared.code.Code.{Code}
-use Rattle.compiler_correctness.specs.machine_semantics.Codes as R
+use Rattle.fip_machine.specs.cell_code.Plain.{PlainFunction, PlainCode, plain, function_at, results}
 use Rattle.compiler_correctness.specs.machine_semantics.Gauges.{seen}
 use Rattle.compiler_correctness.specs.machine_semantics.Limits.{frame_words}
 use Rattle.compiler_correctness.specs.machine_semantics.Runs as C
 use Rattle.compiler_correctness.specs.machine_semantics.Runs.{End, Value, Over, Ends, begun, after}
 use Rattle.compiler_correctness.specs.machine_semantics.States.{State}
 use Rattle.compiler_correctness.specs.machine_semantics.Steps.{Kinds}
-use Rattle.run_loading.specs.code_rules.Codes.{PlainCode, PlainFunction, plain, function_at, results}
-use Rattle.run_loading.specs.separation.Codes.{run_code, AreKinds}
+use Rattle.run_loading.specs.separation.Codes.{AreKinds}
 use Rattle.run_loading.specs.separation.Starts.{IsStart}
 use Rattle.compiler_correctness.proofs.in_place_safety.Within.{frame_same, variables_at}
 use Rattle.compiler_correctness.proofs.in_place_safety.Checked.{bounded}
@@ -120,7 +119,7 @@ all_same : (code : _) (gs : List U.Frame) → wide_all code gs ≡ words_of_all 
 all_same code [] = refl
 all_same code (g ∷ gs) = ap (λ w. wide_at code g.function + w) (all_same code gs)
 
-frames_same : (c : _) (code : R.PlainCode) (n : ℕ) (r : T.Run) → tree_highest (tree_frames c) code n r ≡ (highest code (wide_at c) n r).frames
+frames_same : (c : _) (code : PlainCode) (n : ℕ) (r : T.Run) → tree_highest (tree_frames c) code n r ≡ (highest code (wide_at c) n r).frames
 frames_same c code zero (T.Going t left m) = omega arith
 frames_same c code (suc n) (T.Going t left m) = ap (max (length t.waiting)) (frames_same c code n (T.later code (T.Going t left m)))
 frames_same c code zero (T.Over a t left m) = omega arith
@@ -129,7 +128,7 @@ frames_same c code (suc n) (T.Over a t left m) = omega arith
 words_state : (c : _) (t : U.State) → tree_words c t ≡ (height (wide_at c) t).words
 words_state c t = ap (λ w. wide_at c t.running.function + w) (all_same c t.waiting)
 
-words_same : (c : _) (code : R.PlainCode) (n : ℕ) (r : T.Run) → tree_highest (tree_words c) code n r ≡ (highest code (wide_at c) n r).words
+words_same : (c : _) (code : PlainCode) (n : ℕ) (r : T.Run) → tree_highest (tree_words c) code n r ≡ (highest code (wide_at c) n r).words
 words_same c code zero (T.Going t left m) = max_none (tree_words c t) _ (words_state c t)
 words_same c code (suc n) (T.Going t left m) =
     ap (λ x. max x (tree_highest (tree_words c) code n (T.later code (T.Going t left m)))) (words_state c t)
@@ -137,11 +136,11 @@ words_same c code (suc n) (T.Going t left m) =
 words_same c code zero (T.Over a t left m) = max_none (tree_words c t) _ (words_state c t)
 words_same c code (suc n) (T.Over a t left m) = max_none (tree_words c t) _ (words_state c t)
 
-highest_over : (code : R.PlainCode) (width : ℕ → ℕ) (m : ℕ) (a : _) (s : U.State) (left j : ℕ) → highest code width m (T.Over a s left j) ≡ height width s
+highest_over : (code : PlainCode) (width : ℕ → ℕ) (m : ℕ) (a : _) (s : U.State) (left j : ℕ) → highest code width m (T.Over a s left j) ≡ height width s
 highest_over code width zero a s left j = refl
 highest_over code width (suc m) a s left j = refl
 
-highest_enough : (code : R.PlainCode) (width : ℕ → ℕ) (n m : ℕ) (r : T.Run) (a : _) (last : U.State) (left steps : ℕ) → T.after code n r ≡ T.Over a last left steps → highest code width (n + m) r ≡ highest code width n r
+highest_enough : (code : PlainCode) (width : ℕ → ℕ) (n m : ℕ) (r : T.Run) (a : _) (last : U.State) (left steps : ℕ) → T.after code n r ≡ T.Over a last left steps → highest code width (n + m) r ≡ highest code width n r
 highest_enough code width zero m (T.Going s l j) a last left steps is = absurd cc
 highest_enough code width (suc n) m (T.Going s l j) a last left steps is =
     let more : suc n + m ≡ suc (n + m) = omega arith in
@@ -152,7 +151,7 @@ highest_enough code width n m (T.Over b s l j) a last left steps is = highest_ov
 -- ---- a run that has calls
 
 -- with no call left it gives none
-some_calls : (before : Kinds) (code : R.PlainCode) (s : State) (calls : ℕ) (ws : List ℕ) (last : State) (left steps : ℕ) → Ends before code s calls (Value ws) last left steps → (k : ℕ) × (calls ≡ suc k)
+some_calls : (before : Kinds) (code : PlainCode) (s : State) (calls : ℕ) (ws : List ℕ) (last : State) (left steps : ℕ) → Ends before code s calls (Value ws) last left steps → (k : ℕ) × (calls ≡ suc k)
 some_calls before code s zero ws last left steps x = absurd (never x.enough x.is)
   where
     never : (n : ℕ) → after before code n (begun s zero) ≡ Over (Value ws) last left steps → ⊥
@@ -164,8 +163,8 @@ module _ (source : List ℕ) (core : Core) (c : PlainCode) (before waits : Kinds
   abbrev width' : ℕ → ℕ
   width' = wide_at c
 
-  abbrev trees : R.PlainCode
-  trees = run_code c
+  abbrev trees : PlainCode
+  trees = c
 
   -- the evaluation of the instance, and what the source means by it
   tree_run : (k : ℕ) → RunsTo trees width' (T.begun (T.entry n vs s.free) (suc k)) (meaning core f.name NoClosed vs (suc k) s.free)
@@ -228,44 +227,44 @@ same_end c n us end other l m left k steps j e x =
     let lasts : l ≡ m = cc in
     record { words = x.0; is = sym ends ∙ x.1; are = subst (λ (u : State). AreWordsOf c.types u.store (results c n) x.0 us) lasts x.2 }
 
-pub made_measured : (source : List ℕ) (core : Core) (c : PlainCode) (before waits : Kinds) (n : ℕ) (f : PlainFunction) (vs results' : Values) (s : State) (calls rest : ℕ) (end : End) (last : State) (left steps : ℕ) → (h : IsMadeOf source core c) → AreMembers h.program.instances h.members → IsStart c before waits n [] s → BeginsWith c n s vs → function_at c n ≡ Some f → 0 < length f.name → (meaning core f.name NoClosed vs calls s.free).answer ≡ Gives results' rest → (e : Ends before (run_code c) s calls end last left steps) → IsMeasured vs results' f.params f.credits (meaning core f.name NoClosed vs calls s.free).peak (seen before (run_code c) e.enough (begun s calls))
+pub made_measured : (source : List ℕ) (core : Core) (c : PlainCode) (before waits : Kinds) (n : ℕ) (f : PlainFunction) (vs results' : Values) (s : State) (calls rest : ℕ) (end : End) (last : State) (left steps : ℕ) → (h : IsMadeOf source core c) → AreMembers h.program.instances h.members → IsStart c before waits n [] s → BeginsWith c n s vs → function_at c n ≡ Some f → 0 < length f.name → (meaning core f.name NoClosed vs calls s.free).answer ≡ Gives results' rest → (e : Ends before c s calls end last left steps) → IsMeasured vs results' f.params f.credits (meaning core f.name NoClosed vs calls s.free).peak (seen before c e.enough (begun s calls))
 made_measured source core c before waits n f vs us s calls rest end last left steps h found t begins is some gives e =
     let meant = ends_as source core c before waits n f vs s calls h t begins is some in
     let once = ends_once c before waits before waits n [] s calls meant.end end meant.last last meant.left left meant.steps steps t t.kinds meant.ends e in
     let x = same_end c n us meant.end end meant.last last meant.left left meant.steps steps once
     (value_end c.types (results c n) meant.last meant.left meant.end us rest (subst (IsSameEnd c.types (results c n) meant.last meant.left meant.end) gives meant.same)) in
-    let words : Ends before (run_code c) s calls (Value x.words) last left steps = record { enough = e.enough; is = e.is ∙ ap (λ d. Over d last left steps) x.is } in
-    let k = some_calls before (run_code c) s calls x.words last left steps words in
+    let words : Ends before c s calls (Value x.words) last left steps = record { enough = e.enough; is = e.is ∙ ap (λ d. Over d last left steps) x.is } in
+    let k = some_calls before c s calls x.words last left steps words in
     let own : t.function ≡ f = same_Some t.function f (sym t.is ∙ is) in
-    let there : Ends before (run_code c) s (suc k.0) (Value x.words) last left steps = record { enough = e.enough; is = subst (λ m. after before (run_code c) e.enough (begun s m) ≡ Over (Value x.words) last left steps) k.1 words.is } in
+    let there : Ends before c s (suc k.0) (Value x.words) last left steps = record { enough = e.enough; is = subst (λ m. after before c e.enough (begun s m) ≡ Over (Value x.words) last left steps) k.1 words.is } in
     record {
       lowest = λ size one. lowest_by_trees c before waits n s vs us calls size x.words last left steps t begins one words x.are
           ∙ ap (λ (g : PlainFunction). cells_of_all size us + cells_of_all size (lent_values g.params vs)) own;
       highest = λ size one. highest_by_trees c before waits n s vs calls e.enough size t begins one
           ∙ ap (λ (g : PlainFunction). cells_of_all size vs + count size g.credits) own;
-      frames = subst (λ m. highest_frames (seen before (run_code c) e.enough (begun s m)) ≡ (meaning core f.name NoClosed vs m s.free).peak.frames) (sym k.1)
+      frames = subst (λ m. highest_frames (seen before c e.enough (begun s m)) ≡ (meaning core f.name NoClosed vs m s.free).peak.frames) (sym k.1)
           (peak_frames source core c before waits n f vs s h found t begins is some k.0 (Value x.words) last left steps there);
-      words = subst (λ m. highest_words (seen before (run_code c) e.enough (begun s m)) ≡ (meaning core f.name NoClosed vs m s.free).peak.words) (sym k.1)
+      words = subst (λ m. highest_words (seen before c e.enough (begun s m)) ≡ (meaning core f.name NoClosed vs m s.free).peak.words) (sym k.1)
           (peak_words source core c before waits n f vs s h found t begins is some k.0 (Value x.words) last left steps there);
     }
 
 -- ---- of code in memory
 
-pub measured : (source : List ℕ) (core : Core) (code : Code) (before waits : Kinds) (n : ℕ) (f : PlainFunction) (vs results' : Values) (frames : ℕ) (s : State) (calls rest : ℕ) (end : End) (last : State) (left steps : ℕ) → (h : IsCodeOf source core code) → AreMembers h.program.instances h.members → AreKinds (plain code) before waits → Begins code n f vs frames s → 0 < length f.name → (meaning core f.name NoClosed vs calls frames).answer ≡ Gives results' rest → (e : Ends before (run_code (plain code)) s calls end last left steps) → IsMeasured vs results' f.params f.credits (meaning core f.name NoClosed vs calls frames).peak (seen before (run_code (plain code)) e.enough (begun s calls))
+pub measured : (source : List ℕ) (core : Core) (code : Code) (before waits : Kinds) (n : ℕ) (f : PlainFunction) (vs results' : Values) (frames : ℕ) (s : State) (calls rest : ℕ) (end : End) (last : State) (left steps : ℕ) → (h : IsCodeOf source core code) → AreMembers h.program.instances h.members → AreKinds (plain code) before waits → Begins code n f vs frames s → 0 < length f.name → (meaning core f.name NoClosed vs calls frames).answer ≡ Gives results' rest → (e : Ends before (plain code) s calls end last left steps) → IsMeasured vs results' f.params f.credits (meaning core f.name NoClosed vs calls frames).peak (seen before (plain code) e.enough (begun s calls))
 measured source core code before waits n f vs us frames s calls rest end last left steps h found kinds b some gives e =
     let t = starts code before waits n f vs frames s h.is_sound kinds b in
     let free = free_is code n f vs frames s b in
-    subst (λ m. IsMeasured vs us f.params f.credits (meaning core f.name NoClosed vs calls m).peak (seen before (run_code (plain code)) e.enough (begun s calls))) free
+    subst (λ m. IsMeasured vs us f.params f.credits (meaning core f.name NoClosed vs calls m).peak (seen before (plain code) e.enough (begun s calls))) free
     (made_measured source core (plain code) before waits n f vs us s calls rest end last left steps (made_of source core code h) found t.0 t.1 b.is some
     (subst (λ m. (meaning core f.name NoClosed vs calls m).answer ≡ Gives us rest) (sym free) gives) e)
 
 -- whatever it ends with, where it has a call
-pub as_high : (source : List ℕ) (core : Core) (code : Code) (before waits : Kinds) (n : ℕ) (f : PlainFunction) (vs : Values) (frames : ℕ) (s : State) (calls : ℕ) (end : End) (last : State) (left steps : ℕ) → (h : IsCodeOf source core code) → AreMembers h.program.instances h.members → AreKinds (plain code) before waits → Begins code n f vs frames s → 0 < length f.name → 0 < calls → (e : Ends before (run_code (plain code)) s calls end last left steps) → IsAsHigh (meaning core f.name NoClosed vs calls frames).peak (seen before (run_code (plain code)) e.enough (begun s calls))
+pub as_high : (source : List ℕ) (core : Core) (code : Code) (before waits : Kinds) (n : ℕ) (f : PlainFunction) (vs : Values) (frames : ℕ) (s : State) (calls : ℕ) (end : End) (last : State) (left steps : ℕ) → (h : IsCodeOf source core code) → AreMembers h.program.instances h.members → AreKinds (plain code) before waits → Begins code n f vs frames s → 0 < length f.name → 0 < calls → (e : Ends before (plain code) s calls end last left steps) → IsAsHigh (meaning core f.name NoClosed vs calls frames).peak (seen before (plain code) e.enough (begun s calls))
 as_high source core code before waits n f vs frames s zero end last left steps h found kinds b some calls e = absurd (omega (arith, calls))
 as_high source core code before waits n f vs frames s (suc k) end last left steps h found kinds b some calls e =
     let t = starts code before waits n f vs frames s h.is_sound kinds b in
     let made = made_of source core code h in
-    subst (λ m. IsAsHigh (meaning core f.name NoClosed vs (suc k) m).peak (seen before (run_code (plain code)) e.enough (begun s (suc k)))) (free_is code n f vs frames s b)
+    subst (λ m. IsAsHigh (meaning core f.name NoClosed vs (suc k) m).peak (seen before (plain code) e.enough (begun s (suc k)))) (free_is code n f vs frames s b)
     (record {
       frames = peak_frames source core (plain code) before waits n f vs s made found t.0 t.1 b.is some k end last left steps e;
       words = peak_words source core (plain code) before waits n f vs s made found t.0 t.1 b.is some k end last left steps e;

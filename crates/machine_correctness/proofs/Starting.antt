@@ -7,15 +7,14 @@ use Rattle.fip_machine.specs.fip_language.Table.{HaveTypes}
 use Rattle.fip_machine.specs.fip_language.Values.{Values, cells_of_all}
 use Rattle.fip_machine.specs.cell_code.declared.code.Code.{Code}
 use Rattle.compiler_correctness.specs.machine_semantics.Cells.{count_held}
-use Rattle.compiler_correctness.specs.machine_semantics.Codes as R
+use Rattle.fip_machine.specs.cell_code.Plain.{PlainFunction, PlainCode, plain, function_at}
 use Rattle.compiler_correctness.specs.machine_semantics.Runs.{loaded}
 use Rattle.compiler_correctness.specs.machine_semantics.States.{State}
 use Rattle.compiler_correctness.specs.machine_semantics.Steps.{Kinds}
-use Rattle.run_loading.specs.code_rules.Codes.{PlainCode, PlainFunction, plain, function_at, is_fip}
+use Rattle.run_loading.specs.code_rules.Codes.{is_fip}
 use Rattle.run_loading.specs.code_rules.StackNumbers.{IsFip}
-use Rattle.run_loading.specs.separation.Codes.{run_code, AreKinds}
+use Rattle.run_loading.specs.separation.Codes.{AreKinds}
 use Rattle.run_loading.specs.separation.Starts.{IsStart}
-use Rattle.run_loading.proofs.separation.CodesRun.{code_runs}
 use Rattle.run_loading.proofs.separation.KindsFound.{kinds_found}
 use Rattle.run_loading.proofs.separation.Loading.{loaded_is}
 use Rattle.run_loading.specs.tree_refinement.Runs.{BeginsWith}
@@ -25,12 +24,8 @@ use Rattle.run_loading.specs.Loading.{first_store, first_words}
 use Rattle.run_loading.proofs.Begins.{begins}
 use Rattle.machine_correctness.specs.Starts.{IsSoundCode, Begins}
 
--- what a run reads of the code
-pub read : (code : Code) → run_code (plain code) ≡ R.plain code
-read code = code_runs code
-
-is_loaded : (code : Code) (n : ℕ) (f : PlainFunction) (vs : Values) (frames : ℕ) (s : State) → (b : Begins code n f vs frames s) → loaded (run_code (plain code)) n s.store b.words frames ≡ Some s
-is_loaded code n f vs frames s b = ap (λ (q : R.PlainCode). loaded q n s.store b.words frames) (read code) ∙ b.loaded
+is_loaded : (code : Code) (n : ℕ) (f : PlainFunction) (vs : Values) (frames : ℕ) (s : State) → (b : Begins code n f vs frames s) → loaded (plain code) n s.store b.words frames ≡ Some s
+is_loaded code n f vs frames s b = b.loaded
 
 abbrev start : (code : Code) (before waits : Kinds) (n : ℕ) (f : PlainFunction) (vs : Values) (frames : ℕ) (s : State) → IsSoundCode code → AreKinds (plain code) before waits → Begins code n f vs frames s → IsStart (plain code) before waits n [] s
 start code before waits n f vs frames s sound kinds b = record {
@@ -77,7 +72,7 @@ of_start code before waits n vs s t b = record {
   words = t.words;
   given = t.given;
   values = begins_values (plain code) before waits n [] s t vs b;
-  loaded = ap (λ (q : R.PlainCode). loaded q n s.store t.words t.free) (sym (read code)) ∙ t.loaded;
+  loaded = t.loaded;
 }
 
 -- the same of the function and the frames that one names
@@ -87,11 +82,11 @@ begins_of code before waits n f vs frames s t b is free =
     let has : s.free ≡ t.free = ap (λ (u : State). u.free) (loaded_is (plain code) n t.function s.store t.words t.free s t.is t.loaded) in
     subst (λ g. Begins code n g vs frames s) own (subst (λ m. Begins code n t.function vs m s) (sym has ∙ free) (of_start code before waits n vs s t b))
 
-pub loaded_begins : (code : Code) (n : ℕ) (f : PlainFunction) (vs : Values) (frames : ℕ) (s : State) → IsSoundCode code → function_at (plain code) n ≡ Some f → HaveTypes code.types (map (λ p. p.ty) f.params) vs → loaded (R.plain code) n (first_store vs f.credits) (first_words vs f.credits) frames ≡ Some s → Begins code n f vs frames s
+pub loaded_begins : (code : Code) (n : ℕ) (f : PlainFunction) (vs : Values) (frames : ℕ) (s : State) → IsSoundCode code → function_at (plain code) n ≡ Some f → HaveTypes code.types (map (λ p. p.ty) f.params) vs → loaded (plain code) n (first_store vs f.credits) (first_words vs f.credits) frames ≡ Some s → Begins code n f vs frames s
 loaded_begins code n f vs frames s sound is have loads =
     let c = plain code in
     let found = kinds_found c in
-    let reads : loaded (run_code c) n (first_store vs f.credits) (first_words vs f.credits) frames ≡ Some s = ap (λ (q : R.PlainCode). loaded q n (first_store vs f.credits) (first_words vs f.credits) frames) (read code) ∙ loads in
+    let reads : loaded c n (first_store vs f.credits) (first_words vs f.credits) frames ≡ Some s = loads in
     let x = begins c found.0 found.1 n f vs frames s sound.sound sound.literals found.2 is have reads in
     let own : x.0.function ≡ f = same_Some x.0.function f (sym x.0.is ∙ is) in
     let given : s.free ≡ frames = ap (λ (u : State). u.free) (loaded_is c n f (first_store vs f.credits) (first_words vs f.credits) frames s is reads) in

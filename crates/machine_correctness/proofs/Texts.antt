@@ -15,15 +15,13 @@ use Rattle.fip_machine.specs.cell_store.Cells as L
 use Rattle.fip_machine.specs.cell_store.Made.{Loading}
 use Rattle.compiler_correctness.specs.machine_semantics.Apart.{AreSpare, IsGiven}
 use Rattle.compiler_correctness.specs.machine_semantics.Cells.{Store, IsSized, IsStore, cell_in, cell_at, size_of, there, released_at, one_if_some, one_if_true}
-use Rattle.compiler_correctness.specs.machine_semantics.Codes as R
+use Rattle.fip_machine.specs.cell_code.Plain.{PlainFunction, plain, function_at}
 use Rattle.compiler_correctness.specs.machine_semantics.Runs.{loaded, lent_words}
 use Rattle.compiler_correctness.specs.machine_semantics.States.{State}
 use Rattle.compiler_correctness.specs.machine_semantics.Steps.{first_frame}
 use Rattle.compiler_correctness.specs.machine_semantics.Trees as C
 use Rattle.compiler_correctness.specs.machine_semantics.Trees.{HasPart}
 use Rattle.compiler_correctness.specs.machine_semantics.Words.{place_word}
-use Rattle.run_loading.specs.code_rules.Codes.{PlainFunction, plain, function_at}
-use Rattle.run_loading.specs.separation.Codes.{run_function, run_code}
 use Rattle.run_loading.proofs.separation.Loading.{loaded_is}
 use Rattle.run_loading.specs.tree_refinement.Agreement.{AreWordsOf}
 use Rattle.fip_machine.specs.machine_cells.Small.{store_of}
@@ -31,7 +29,6 @@ use Rattle.value_text.specs.Loaded.{types_of, live_in, live, AreZero, cell_words
 use Rattle.value_text.specs.Standing as V
 use Rattle.machine_correctness.specs.Meant.{ArePrintable}
 use Rattle.machine_correctness.specs.Starts.{Begins}
-use Rattle.machine_correctness.proofs.Starting.{read}
 
 -- ---- cells
 
@@ -125,7 +122,7 @@ live_there l p st =
 
 -- ---- the start
 
-abbrev given_of : (code : Code) (f : PlainFunction) (bytes : List ℕ) (old new : Loading) (words : List ℕ) → old.cells ≡ [] → IsStore (store_of new.cells new.released) → (l : IsLoaded code.types (types_of f.params) f.credits bytes old new words) → IsGiven code.types (run_function f) (store_of new.cells new.released) [] words
+abbrev given_of : (code : Code) (f : PlainFunction) (bytes : List ℕ) (old new : Loading) (words : List ℕ) → old.cells ≡ [] → IsStore (store_of new.cells new.released) → (l : IsLoaded code.types (types_of f.params) f.credits bytes old new words) → IsGiven code.types f (store_of new.cells new.released) [] words
 given_of code f bytes old new words empty st l = record {
   store = st;
   arguments = l.trees;
@@ -143,17 +140,16 @@ given_of code f bytes old new words empty st l = record {
 abbrev first_state : Code → ℕ → PlainFunction → Store → List ℕ → ℕ → State
 first_state code n f store words frames = record {
   store = store;
-  running = first_frame n (run_function f) words;
+  running = first_frame n f words;
   waiting = [];
   free = frames;
   lent = lent_words code.types f.params words;
 }
 
-pub text_begins : (code : Code) (n : ℕ) (f : PlainFunction) (bytes : List ℕ) (old new : Loading) (words : List ℕ) (frames : ℕ) (s : State) → function_at (plain code) n ≡ Some f → old.cells ≡ [] → IsStore (store_of new.cells new.released) → (l : IsLoaded code.types (types_of f.params) f.credits bytes old new words) → loaded (R.plain code) n (store_of new.cells new.released) words frames ≡ Some s → Begins code n f (values_of l.trees) frames s
+pub text_begins : (code : Code) (n : ℕ) (f : PlainFunction) (bytes : List ℕ) (old new : Loading) (words : List ℕ) (frames : ℕ) (s : State) → function_at (plain code) n ≡ Some f → old.cells ≡ [] → IsStore (store_of new.cells new.released) → (l : IsLoaded code.types (types_of f.params) f.credits bytes old new words) → loaded (plain code) n (store_of new.cells new.released) words frames ≡ Some s → Begins code n f (values_of l.trees) frames s
 text_begins code n f bytes old new words frames s is empty st l loads =
     let store : Store = store_of new.cells new.released in
-    let reads : loaded (run_code (plain code)) n store words frames ≡ Some s = ap (λ (q : R.PlainCode). loaded q n store words frames) (read code) ∙ loads in
-    let same : s ≡ first_state code n f store words frames = loaded_is (plain code) n f store words frames s is reads in
+    let same : s ≡ first_state code n f store words frames = loaded_is (plain code) n f store words frames s is loads in
     subst (λ (u : State). Begins code n f (values_of l.trees) frames u) (sym same)
     (record {
       is = is;

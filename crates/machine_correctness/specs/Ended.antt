@@ -2,7 +2,7 @@
 -- come out.
 -- rev of two items and none, with 2 calls, came to Out: the definition's run is over after 8 steps, out of calls.
 use Rattle.std.specs.Prelude.{ℕ, List}
-use Rattle.compiler_correctness.specs.machine_semantics.Codes.{PlainCode}
+use Rattle.fip_machine.specs.cell_code.Plain.{PlainCode}
 use Rattle.compiler_correctness.specs.machine_semantics.Gauges.{seen}
 use Rattle.compiler_correctness.specs.machine_semantics.States.{State}
 use Rattle.compiler_correctness.specs.machine_semantics.Steps.{Kinds}

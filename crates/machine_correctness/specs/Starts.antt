@@ -10,14 +10,12 @@ use Rattle.compiler_correctness.specs.fip_trees.declared.groups.Member.{Member}
 use Rattle.compiler_correctness.specs.fip_trees.Tree.{Program}
 use Rattle.fip_machine.specs.cell_code.declared.code.Code.{Code}
 use Rattle.compiler_correctness.specs.machine_semantics.Apart.{IsGiven}
-use Rattle.compiler_correctness.specs.machine_semantics.Codes as R
+use Rattle.fip_machine.specs.cell_code.Plain.{PlainFunction, plain, function_at, all_instrs}
 use Rattle.compiler_correctness.specs.machine_semantics.Runs.{loaded}
 use Rattle.compiler_correctness.specs.machine_semantics.States.{State}
 use Rattle.run_loading.specs.code_rules.Breaks.{IsSound}
-use Rattle.run_loading.specs.code_rules.Codes.{PlainFunction, plain, function_at}
-use Rattle.run_loading.specs.separation.Codes.{run_function, HasLiterals}
+use Rattle.run_loading.specs.separation.Codes.{HasLiterals}
 use Rattle.compiler_correctness.specs.lowering_relation.LoweredFunctions.{AreLowered}
-use Rattle.compiler_correctness.specs.cell_lower.Lowered.{all_instrs}
 use Rattle.compiler_correctness.specs.cell_lower.Shape.{header, headers}
 use Rattle.compiler_correctness.specs.source_report.Report.{IsParsed, IsAccepted}
 
@@ -35,7 +33,7 @@ pub record IsCodeOf (source : List ℕ) (core : Core) (code : Code) : Type 0 whe
   pub accepted : IsAccepted source program
   pub types : code.types ≡ program.types
   pub functions : map header code.functions.items ≡ headers members program.instances
-  pub lowered : AreLowered program (all_instrs code)
+  pub lowered : AreLowered program (all_instrs (plain code))
   pub is_sound : IsSoundCode code
 
 -- Function f, which is number n of the code, begins in state s: its words stand for these arguments, there is a cell
@@ -43,6 +41,6 @@ pub record IsCodeOf (source : List ℕ) (core : Core) (code : Code) : Type 0 whe
 pub record Begins (code : Code) (n : ℕ) (f : PlainFunction) (vs : Values) (frames : ℕ) (s : State) : Type 0 where
   pub is : function_at (plain code) n ≡ Some f
   pub words : List ℕ
-  pub given : IsGiven code.types (run_function f) s.store [] words
+  pub given : IsGiven code.types f s.store [] words
   pub values : values_of given.arguments ≡ vs
-  pub loaded : loaded (R.plain code) n s.store words frames ≡ Some s
+  pub loaded : loaded (plain code) n s.store words frames ≡ Some s

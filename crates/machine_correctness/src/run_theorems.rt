@@ -10,15 +10,15 @@ ghost use Rattle.value_text.specs.fip_base.declared.plain.Stack.{Stack};
 ghost use Rattle.fip_machine.specs.cell_code.declared.code.Code.{Code};
 ghost use Rattle.fip_machine.specs.cell_store.Made.{Loading};
 ghost use Rattle.compiler_correctness.specs.machine_semantics.Cells.{IsStore, count_held};
-ghost use Rattle.compiler_correctness.specs.machine_semantics.Codes as R;
+ghost use Rattle.fip_machine.specs.cell_code.Plain.{PlainFunction, plain, function_at};
 ghost use Rattle.compiler_correctness.specs.machine_semantics.Gauges.{seen};
 ghost use Rattle.compiler_correctness.specs.machine_semantics.Runs.{End, Ends, loaded, state_of, begun, after};
 ghost use Rattle.compiler_correctness.specs.machine_semantics.States.{State, frames_held, words_held};
 ghost use Rattle.compiler_correctness.specs.machine_semantics.Steps.{Kinds};
 ghost use Rattle.compiler_correctness.specs.tail_groups.Members.{AreMembers};
-ghost use Rattle.run_loading.specs.code_rules.Codes.{PlainFunction, plain, function_at, is_fip};
+ghost use Rattle.run_loading.specs.code_rules.Codes.{is_fip};
 ghost use Rattle.run_loading.specs.code_rules.StackNumbers.{IsStack};
-ghost use Rattle.run_loading.specs.separation.Codes.{run_code, AreKinds};
+ghost use Rattle.run_loading.specs.separation.Codes.{AreKinds};
 ghost use Rattle.run_loading.specs.tree_refinement.Agreement.{AreWordsOf};
 ghost use Rattle.fip_machine.specs.code_verify.Checked.{Checked};
 ghost use Rattle.fip_machine.specs.declared.gauge.Gauge.{Gauge};
@@ -38,7 +38,7 @@ pub fn a_loaded_function_begins()
     ensures theorem { (code : Code) (n : ℕ) (f : PlainFunction) (vs : Values) (frames : ℕ) (s : State) →
         IsSoundCode code → function_at (plain code) n ≡ Some f →
         HaveTypes code.types (map (λ p. p.ty) f.params) vs →
-        loaded (R.plain code) n (first_store vs f.credits) (first_words vs f.credits) frames ≡ Some s →
+        loaded (plain code) n (first_store vs f.credits) (first_words vs f.credits) frames ≡ Some s →
         Begins code n f vs frames s }
 {}
 
@@ -49,7 +49,7 @@ pub fn what_is_loaded_from_a_text_begins()
         (frames : ℕ) (s : State) → function_at (plain code) n ≡ Some f → old.cells ≡ [] →
         IsStore (store_of new.cells new.released) →
         (l : IsLoaded code.types (types_of f.params) f.credits bytes old new words) →
-        loaded (R.plain code) n (store_of new.cells new.released) words frames ≡ Some s →
+        loaded (plain code) n (store_of new.cells new.released) words frames ≡ Some s →
         Begins code n f (values_of l.trees) frames s }
 {}
 
@@ -64,7 +64,7 @@ pub fn a_machine_ends_as_the_source_means()
     ensures ends { (source : List ℕ) (core : Core) (v : Checked) (before waits : Kinds) (n : ℕ) (f : PlainFunction)
         (vs : Values) (frames : ℕ) (s : State) (calls : ℕ) (e : Ended) (last : State) (given : List ℕ) →
         IsCodeOf source core v.code → AreKinds (plain v.code) before waits → Begins v.code n f vs frames s →
-        0 < length f.name → RunsTo before (R.plain v.code) s calls e last given →
+        0 < length f.name → RunsTo before (plain v.code) s calls e last given →
         IsMeant v.code.types f.results e last given (meaning core f.name NoClosed vs calls frames).answer }
     ensures deep { (source : List ℕ) (core : Core) (code : Code) (n : ℕ) (f : PlainFunction) (vs : Values)
         (frames : ℕ) (s : State) (calls : ℕ) (stack : Stack) → IsCodeOf source core code →
@@ -85,16 +85,16 @@ pub fn a_fip_entry_runs_in_place()
     ensures cells { (code : Code) (before waits : Kinds) (n : ℕ) (f : PlainFunction) (vs : Values) (frames : ℕ)
         (s : State) (calls steps size : ℕ) → IsSoundCode code → AreKinds (plain code) before waits →
         Begins code n f vs frames s → is_fip f.kind ≡ true →
-        count_held size (state_of (after before (R.plain code) steps (begun s calls))).store
+        count_held size (state_of (after before (plain code) steps (begun s calls))).store
         ≡ cells_of_all size vs + count size f.credits }
     ensures frames { (code : Code) (before waits : Kinds) (n : ℕ) (f : PlainFunction) (vs : Values) (frames : ℕ)
         (s : State) (calls steps : ℕ) (stack : Stack) → IsSoundCode code → AreKinds (plain code) before waits →
         Begins code n f vs frames s → is_fip f.kind ≡ true → IsStack (plain code) n stack →
-        frames_held (state_of (after before (R.plain code) steps (begun s calls))) ≤ stack.frames }
+        frames_held (state_of (after before (plain code) steps (begun s calls))) ≤ stack.frames }
     ensures words { (code : Code) (before waits : Kinds) (n : ℕ) (f : PlainFunction) (vs : Values) (frames : ℕ)
         (s : State) (calls steps : ℕ) (stack : Stack) → IsSoundCode code → AreKinds (plain code) before waits →
         Begins code n f vs frames s → is_fip f.kind ≡ true → IsStack (plain code) n stack →
-        words_held (state_of (after before (R.plain code) steps (begun s calls))) ≤ stack.words }
+        words_held (state_of (after before (plain code) steps (begun s calls))) ≤ stack.words }
 {}
 
 /// What the gauge reports of such a run: for each size the lowest and the highest number of held cells are both those of
@@ -103,7 +103,7 @@ pub fn a_gauge_of_a_fip_entry_is_flat()
     ensures theorem { (v : Checked) (before waits : Kinds) (n : ℕ) (f : PlainFunction) (vs : Values) (frames : ℕ)
         (s : State) (calls : ℕ) (stack : Stack) (g : Gauge) → IsSoundCode v.code →
         AreKinds (plain v.code) before waits → Begins v.code n f vs frames s → is_fip f.kind ≡ true →
-        IsStack (plain v.code) n stack → ReportsRun before (R.plain v.code) s calls g → IsFlat g vs f.credits stack }
+        IsStack (plain v.code) n stack → ReportsRun before (plain v.code) s calls g → IsFlat g vs f.credits stack }
 {}
 
 /// What is seen of the states of a run that gives values, by the evaluation that the source means: as the lowest number
@@ -117,9 +117,9 @@ pub fn a_run_is_measured_by_its_evaluation()
         (h : IsCodeOf source core code) → AreMembers h.program.instances h.members →
         AreKinds (plain code) before waits → Begins code n f vs frames s → 0 < length f.name →
         (meaning core f.name NoClosed vs calls frames).answer ≡ Gives results rest →
-        (e : Ends before (run_code (plain code)) s calls end last left steps) →
+        (e : Ends before (plain code) s calls end last left steps) →
         IsMeasured vs results f.params f.credits (meaning core f.name NoClosed vs calls frames).peak
-        (seen before (run_code (plain code)) e.enough (begun s calls)) }
+        (seen before (plain code) e.enough (begun s calls)) }
 {}
 
 /// The most frames beside the entry's and the most words of all frames over the states of a run are the peak of the
@@ -130,7 +130,7 @@ pub fn a_run_is_as_high_as_its_evaluation()
         (vs : Values) (frames : ℕ) (s : State) (calls : ℕ) (end : End) (last : State) (left steps : ℕ) →
         (h : IsCodeOf source core code) → AreMembers h.program.instances h.members →
         AreKinds (plain code) before waits → Begins code n f vs frames s → 0 < length f.name → 0 < calls →
-        (e : Ends before (run_code (plain code)) s calls end last left steps) →
+        (e : Ends before (plain code) s calls end last left steps) →
         IsAsHigh (meaning core f.name NoClosed vs calls frames).peak
-        (seen before (run_code (plain code)) e.enough (begun s calls)) }
+        (seen before (plain code) e.enough (begun s calls)) }
 {}

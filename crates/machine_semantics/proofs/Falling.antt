@@ -13,7 +13,7 @@ use Rattle.cell_code.specs.fip_language.Store.{Cell}
 use Rattle.cell_code.specs.declared.code.Instr.{Instr}
 use Rattle.cell_code.specs.declared.code.Instr.TheVariants as I
 use Rattle.cell_code.specs.declared.kind.Kind.{Kind}
-use Rattle.machine_semantics.specs.Codes.{PlainFunction, PlainCode, function_at}
+use Rattle.cell_code.specs.Plain.{PlainFunction, PlainCode, function_at}
 use Rattle.machine_semantics.specs.Cells.{Store, Change, Write, Release, cell_at, size_of, size_in, written, given_up, changed, changed_by, one_held, held_in, count_held}
 use Rattle.machine_semantics.specs.Kept.{Keeps}
 use Rattle.machine_semantics.specs.States.{Frame, State, Next, Went, Entered, Gave, Trapped, TooDeep, Stuck, frames_held, words_of_frame, words_held}

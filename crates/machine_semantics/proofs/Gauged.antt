@@ -1,7 +1,7 @@
 -- What a gauge reports of the states of a run, by its first state, its last one, and each step.
 use Rattle.std.proofs.Common.{◌≡◌, ℕ, zero, suc, ◌≤◌, min, max, refl, sym, ap, ◌∙◌, subst, arith, List, [], ◌∷◌, map}
 use Rattle.cell_code.specs.fip_language.Gauge.{Seen, lowest, highest, highest_frames, highest_words}
-use Rattle.machine_semantics.specs.Codes.{PlainCode}
+use Rattle.cell_code.specs.Plain.{PlainCode}
 use Rattle.machine_semantics.specs.Cells.{count_held}
 use Rattle.machine_semantics.specs.States.{State, Next, Went, Entered, Gave, Trapped, TooDeep, Stuck, frames_held, words_held}
 use Rattle.machine_semantics.specs.Steps.{Kinds, next}

@@ -4,7 +4,7 @@ use Rattle.std.proofs.Common.{◌≡◌, ℕ, zero, suc, ◌≤◌, refl, sym, a
 use Rattle.std.proofs.lemmas.Bool.Decides.{nat_tests}
 use Rattle.std.specs.Prelude.{option_and_then, unwrap_or}
 use Rattle.cell_code.specs.fip_language.Store.{Cell}
-use Rattle.machine_semantics.specs.Codes.{PlainCode}
+use Rattle.cell_code.specs.Plain.{PlainCode}
 use Rattle.machine_semantics.specs.Cells.{Store, Change, Write, Release, cell_in, cell_at, size_of, size_in, sizes, written, given_up, changed, changed_by}
 use Rattle.machine_semantics.specs.States.{State, Next, Went, Entered}
 use Rattle.machine_semantics.specs.Steps.{Kinds, next, changes_of}

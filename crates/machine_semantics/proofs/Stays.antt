@@ -1,6 +1,6 @@
 -- A run that is over stays as it is.
 use Rattle.std.proofs.Common.{◌≡◌, ℕ, zero, suc, refl}
-use Rattle.machine_semantics.specs.Codes.{PlainCode}
+use Rattle.cell_code.specs.Plain.{PlainCode}
 use Rattle.machine_semantics.specs.States.{State}
 use Rattle.machine_semantics.specs.Steps.{Kinds}
 use Rattle.machine_semantics.specs.Runs.{End, Over, after}

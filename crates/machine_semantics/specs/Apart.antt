@@ -16,7 +16,8 @@ use Rattle.cell_code.specs.declared.code.Instr.TheVariants as I
 use Rattle.cell_code.specs.declared.kind.From.{From}
 use Rattle.cell_code.specs.declared.kind.Kind.{Kind}
 use Rattle.cell_code.specs.declared.kind.Kind.TheVariants as K
-use Rattle.machine_semantics.specs.Codes.{PlainCode, instr_at, results_of}
+use Rattle.cell_code.specs.Plain.{PlainCode, function_at, results_of, results}
+use Rattle.machine_semantics.specs.Codes.{instr_at}
 use Rattle.machine_semantics.specs.Words.{place_word}
 use Rattle.machine_semantics.specs.Cells.{Store, IsStore, cell_at, size_of, there, released_at}
 use Rattle.machine_semantics.specs.Trees.{IsTree}
@@ -175,7 +176,7 @@ AreFrames tb s waits lent (f ∷ fs) (xs ∷ xss) =
 abbrev pub AreWaiting : PlainCode → ℕ → List Frame → Type 0
 AreWaiting code above [] = Unit {0}
 AreWaiting code above (w ∷ ws) = (f : ℕ) × (ss : List ℕ) × (ds : List ℕ)
-    × (instr_at code w.function w.at ≡ Some (I.Call f ss ds)) × (results_of code f ≡ results_of code above)
+    × (instr_at code w.function w.at ≡ Some (I.Call f ss ds)) × (results code f ≡ results code above)
     × AreWaiting code w.function ws
 
 -- The words stand for these trees.
@@ -208,10 +209,10 @@ typed (t ∷ ts) (w ∷ ws) = record { type = t; word = w } ∷ typed ts ws
 -- A run of function f gave these words, from this last state: they stand for trees that are apart from the lent
 -- arguments, the kept and the released cells, and together these are all cells.
 pub record GivesApart (code : PlainCode) (f : ℕ) (kept : List ℕ) (s : State) (ws : List ℕ) : Type 0 where
-  pub number : length ws ≡ length (results_of code f)
+  pub number : length ws ≡ length (results_of (function_at code f))
   pub results : List Placed
   pub lent : List Placed
-  pub stand : AreTrees code.types s.store (typed (results_of code f) ws) results
+  pub stand : AreTrees code.types s.store (typed (results_of (function_at code f)) ws) results
   pub arguments : AreTrees code.types s.store s.lent lent
   pub once : (q : ℕ) → trees_uses q results + (trees_uses q lent + (count q kept + released_at s.store q))
       ≡ there s.store q

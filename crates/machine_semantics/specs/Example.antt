@@ -5,11 +5,12 @@
 use Rattle.std.specs.Prelude.{ℕ, ℤ, pos, Bool, true, false, List, [], ◌∷◌, Option, Some, None, codes}
 use Rattle.cell_code.specs.fip_language.Table.{Shape, Table}
 use Rattle.cell_code.specs.fip_language.Store.{Cell}
+use Rattle.cell_code.specs.declared.code.CodeKind.TheVariants.{Fip, Fbip}
 use Rattle.cell_code.specs.fip_base.declared.plain.Param.{Param}
 use Rattle.cell_code.specs.declared.code.Instr.TheVariants as I
 use Rattle.cell_code.specs.declared.kind.Kind.{Kind}
 use Rattle.cell_code.specs.declared.kind.Kind.TheVariants as K
-use Rattle.machine_semantics.specs.Codes.{PlainFunction, PlainCode}
+use Rattle.cell_code.specs.Plain.{LabelMap, PlainFunction, PlainCode}
 use Rattle.machine_semantics.specs.Cells.{Store}
 use Rattle.machine_semantics.specs.States.{State}
 use Rattle.machine_semantics.specs.Steps.{Kinds}
@@ -28,14 +29,27 @@ types = (record { name = codes "False"; fields = [] } ∷ record { name = codes 
 abbrev pub owned_ints : Param
 owned_ints = record { ty = 2; lent = false }
 
+abbrev pub owned_list : Kind
+owned_list = K.Owned 2 (0 ∷ 1 ∷ [])
+
+-- before instruction 3 the list is known to be a Cons
+abbrev pub cons_known : LabelMap
+cons_known = record {
+  at = 3;
+  kinds = K.Owned 2 (1 ∷ []) ∷ owned_list ∷ K.Gone ∷ K.Gone ∷ K.Gone ∷ K.Gone ∷ K.Gone ∷ [];
+}
+
 abbrev pub rev : PlainFunction
 rev = record {
+  kind = Fip;
+  name = codes "rev";
   params = owned_ints ∷ owned_ints ∷ [];
   credits = [];
   results = 2 ∷ [];
   registers = 7;
   instrs = I.Test 0 0 3 ∷ I.Take 0 [] ∷ I.Ret (1 ∷ []) ∷ I.Take 0 (2 ∷ 3 ∷ []) ∷ I.Put 0 2 1 (2 ∷ 1 ∷ [])
       ∷ I.Tail 0 (3 ∷ 0 ∷ []) ∷ [];
+  labels = cons_known ∷ [];
 }
 
 abbrev pub reversing : PlainCode
@@ -44,9 +58,6 @@ reversing = record { types = types; functions = rev ∷ [] }
 -- no instruction of it asks for a kind
 abbrev pub unknown : Kinds
 unknown f i = []
-
-abbrev pub owned_list : Kind
-owned_list = K.Owned 2 (0 ∷ 1 ∷ [])
 
 -- what is known before its first instruction
 abbrev pub at_start : Kinds
@@ -99,11 +110,14 @@ last store = at 2 store (0 ∷ 1 ∷ 0 ∷ 0 ∷ 0 ∷ 0 ∷ 0 ∷ [])
 -- is lowered to: the tree of its argument is released.
 abbrev pub forget : PlainFunction
 forget = record {
+  kind = Fbip;
+  name = codes "forget";
   params = owned_ints ∷ [];
   credits = [];
   results = 0 ∷ [];
   registers = 2;
   instrs = I.Drop 0 ∷ I.Const 1 (pos 0) ∷ I.Ret (1 ∷ []) ∷ [];
+  labels = [];
 }
 
 abbrev pub forgetting : PlainCode

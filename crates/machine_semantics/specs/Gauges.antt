@@ -5,7 +5,7 @@
 -- definitions, over the list below.
 use Rattle.std.specs.Prelude.{ℕ, zero, suc, List, [], ◌∷◌, map}
 use Rattle.cell_code.specs.fip_language.Gauge.{Seen}
-use Rattle.machine_semantics.specs.Codes.{PlainCode}
+use Rattle.cell_code.specs.Plain.{PlainCode}
 use Rattle.machine_semantics.specs.Cells.{count_held}
 use Rattle.machine_semantics.specs.States.{State, frames_held, words_held}
 use Rattle.machine_semantics.specs.Steps.{Kinds}

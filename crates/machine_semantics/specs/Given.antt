@@ -4,7 +4,7 @@
 use Rattle.std.specs.Prelude.{◌≡◌, ℕ, ◌+◌, List, [], ◌∷◌, ◌++◌, Some, map}
 use Rattle.cell_code.specs.fip_language.Table.{Table}
 use Rattle.cell_code.specs.fip_language.Store.{Cell, Parts, words_of, uses_of_all, count}
-use Rattle.machine_semantics.specs.Codes.{PlainFunction}
+use Rattle.cell_code.specs.Plain.{PlainFunction}
 use Rattle.machine_semantics.specs.Words.{place_word}
 use Rattle.machine_semantics.specs.Cells.{Store, IsStore, cell_at, size_of, there, released_at}
 use Rattle.machine_semantics.specs.Trees.{StandAll}

@@ -9,7 +9,7 @@ use Rattle.std.specs.Prelude.{if◌then◌else◌}
 use Rattle.cell_code.specs.fip_language.declared.TrapKind.{TrapKind}
 use Rattle.cell_code.specs.fip_language.Table.{Table, is_scalar}
 use Rattle.cell_code.specs.fip_base.declared.plain.Param.{Param}
-use Rattle.machine_semantics.specs.Codes.{PlainFunction, PlainCode, function_at}
+use Rattle.cell_code.specs.Plain.{PlainFunction, PlainCode, function_at}
 use Rattle.machine_semantics.specs.Cells.{Store}
 use Rattle.machine_semantics.specs.States.{Typed, State, Next, Went, Entered, Gave, Trapped, TooDeep, Stuck}
 use Rattle.machine_semantics.specs.Steps.{Kinds, first_frame, next}

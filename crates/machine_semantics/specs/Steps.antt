@@ -11,7 +11,8 @@ use Rattle.cell_code.specs.fip_language.declared.TrapKind.{TrapKind}
 use Rattle.cell_code.specs.declared.code.Instr.{Instr}
 use Rattle.cell_code.specs.declared.code.Instr.TheVariants as I
 use Rattle.cell_code.specs.declared.kind.Kind.{Kind}
-use Rattle.machine_semantics.specs.Codes.{PlainFunction, PlainCode, function_at, instr_at}
+use Rattle.cell_code.specs.Plain.{PlainFunction, PlainCode, function_at}
+use Rattle.machine_semantics.specs.Codes.{instr_at}
 use Rattle.machine_semantics.specs.Cells.{Store, Change, changed_by}
 use Rattle.machine_semantics.specs.States.{Frame, State, Next, Went, Entered, Gave, Trapped, TooDeep, Stuck}
 use Rattle.machine_semantics.specs.Rows.{Done, read_all, write_all, operated, done, trap}

@@ -4,7 +4,7 @@
 -- The trace of inc, as fbip, on Cons(1, Nil) has one event, a write of constructor 1 and the words 2 and 0 into cell 0.
 -- Its replay at 0 has Cons(1, Nil) in cell 0, and at 1000000 Cons(2, Nil).
 use Rattle.std.specs.Prelude.{ℕ, zero, suc, List, [], ◌∷◌, ◌++◌, Option, Some, None, map, nat_le, Bool, true, false}
-use Rattle.machine_semantics.specs.Codes.{PlainCode}
+use Rattle.cell_code.specs.Plain.{PlainCode}
 use Rattle.machine_semantics.specs.Cells.{Store, Change, changed}
 use Rattle.machine_semantics.specs.States.{State, Next, Went, Entered, Gave, Trapped, TooDeep, Stuck}
 use Rattle.machine_semantics.specs.Steps.{Kinds, next, changes_of}

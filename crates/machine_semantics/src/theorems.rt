@@ -3,7 +3,7 @@ ghost use Rattle.std.specs.Prelude.{◌≡◌, ℕ, ◌≤◌, [], ◌∷◌, So
 ghost use Rattle.cell_code.specs.fip_language.Table.{Table};
 ghost use Rattle.cell_code.specs.fip_language.Store.{Placed};
 ghost use Rattle.cell_code.specs.fip_language.Gauge.{lowest, highest, highest_frames, highest_words};
-ghost use Rattle.machine_semantics.specs.Codes.{PlainCode};
+ghost use Rattle.cell_code.specs.Plain.{PlainCode};
 ghost use Rattle.machine_semantics.specs.Cells.{Store, Release};
 ghost use Rattle.machine_semantics.specs.Trees.{IsTree, tree_of};
 ghost use Rattle.machine_semantics.specs.States.{State, Went, Entered};

@@ -1,4 +1,5 @@
--- E40, a match with a value that no clause matches; E41, a clause by which no value is matched first.
+-- It serves the search: E40 and E41 as they are looked for in memory. (`source_report::MatchRules` says them of trees.) E40,
+-- a match with a value that no clause matches; E41, a clause by which no value is matched first.
 -- Example: data ints { Nil; Cons(int, ints) }. The clauses Nil and Cons(_, Cons(_, _)) leave the values Cons(i, Nil),
 -- so the match breaks E40 with the text Cons(_, Nil). Of _, 1 the second clause breaks E41. Of 0, 1, 2 the match breaks
 -- E40 with the text 3: literals never are all of int. After Cons(0, _) a clause Cons(_, Nil) is reached.

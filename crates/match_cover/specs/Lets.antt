@@ -1,4 +1,4 @@
--- The lets of a body: the binders of each.
+-- It serves the search: the lets of a body as it lies in memory, the binders of each.
 use Rattle.std.specs.Prelude.{List, [], ◌∷◌, ◌++◌}
 use Rattle.fip_trees.specs.declared.program.Binder.{Binder}
 use Rattle.fip_trees.specs.declared.program.Expression.{Expression}

@@ -1,4 +1,4 @@
--- The matches of a program, and the decision tree of each.
+-- It serves the search: the matches of a program as it lies in memory, and the decision tree of each.
 -- Rules: matches are numbered from 0 over the instances, and in a body as they stand in the text.
 use Rattle.std.specs.Prelude.{◌≡◌, ℕ, ◌-◌, ◌<◌, ◌≤◌, ◌⊎◌, List, [], ◌∷◌, ◌++◌, map, length, Option}
 use Rattle.std.specs.Prelude.{Some, None, slice_get}

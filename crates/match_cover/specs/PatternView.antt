@@ -1,4 +1,4 @@
--- The patterns of a program's trees: without names, and what is read off them.
+-- It serves the search: the patterns of a program's trees in memory, without names, and what is read off them.
 use Rattle.std.specs.Prelude.{◌+◌, List, [], ◌∷◌, ◌++◌, map}
 use Rattle.fip_language.specs.declared.Place.{Place}
 use Rattle.fip_trees.specs.declared.program.Binder.{Binder}

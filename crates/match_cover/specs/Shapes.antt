@@ -1,4 +1,5 @@
--- E42, a variable twice in a pattern or in the binders of a let; E43, a match of more than 64 clauses, or of more than
+-- It serves the search: E42 and E43 as they are looked for in memory. (`source_report::MatchRules` says them of trees.) E42,
+-- a variable twice in a pattern or in the binders of a let; E43, a match of more than 64 clauses, or of more than
 -- 256 pattern nodes in all. Example: Cons(x, Cons(x, x)) breaks E42 at the second x and at the third, of which the
 -- second is the least; a match of two clauses with 256 nodes and 1 breaks E43 at its place.
 use Rattle.std.specs.Prelude.{ℕ, suc, ◌+◌, if◌then◌else◌, List, [], ◌∷◌, ◌++◌}

@@ -67,12 +67,9 @@ impl Variables {
         ensures longer { OnOk result (length self.old.values.items ≤ self.new.end) }
     {
         let base = self.values.len();
-        let Some(place) = base.checked_add(number) else {
-            return Err(NoMemory);
-        };
-        let Some(least) = place.checked_add(1) else {
-            return Err(NoMemory);
-        };
+        // A place that no number names is past all memory, so that it gets no slot.
+        let place = base.saturating_add(number);
+        let least = place.saturating_add(1);
         let mut copy = Vec::new(self.alloc);
         copy.extend_from_slice(part(self.values.as_slice(), self.base, self.end))?;
         self.values.extend_from_slice(copy.as_slice())?;
@@ -131,9 +128,7 @@ impl Variables {
         ensures keeps { OnOk result ((s : Store) → Keeps end s self.old.values.items s self.new.values.items) }
         ensures longer { OnOk result (end ≤ self.new.end) }
     {
-        let Some(last) = end.checked_add(count) else {
-            return Err(NoMemory);
-        };
+        let last = end.saturating_add(count);
         self.values.truncate(end);
         fill(&mut self.values, last)?;
         self.base = end;

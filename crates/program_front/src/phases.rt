@@ -6,12 +6,11 @@ ghost use Rattle.fip_trees.specs.SoundProgram.{IsSoundProgram};
 ghost use Rattle.fip_trees.specs.TreeView as V;
 ghost use Rattle.cell_lower.specs.Shape.{header, headers};
 ghost use Rattle.cell_lower.specs.LaidProgram.{IsAsked, IsLaidOut};
-ghost use Rattle.cell_lower.specs.Lowered.{all_instrs};
 ghost use Rattle.cell_lower.specs.Sizes.{AreSmall};
 ghost use Rattle.credit_check.specs.Tallies.{all_needs};
 ghost use Rattle.cell_lower.specs.lowering_relation.LoweredFunctions.{AreLowered};
 ghost use Rattle.cell_lower.specs.lower_frame.Spelled.{AreSpelt};
-ghost use Rattle.cell_lower.specs.code_rules.Codes.{plain};
+ghost use Rattle.cell_code.specs.Plain.{plain, all_instrs};
 ghost use Rattle.tail_groups.specs.Members.{AreMembers};
 ghost use Rattle.source_report.specs.Report.{bare, IsParsed, IsFlat, IsMatched, IsAccepted, Says};
 ghost use Rattle.program_front.specs.Unmatched.{IsUnmatched};
@@ -55,7 +54,7 @@ pub fn front(alloc: Global, source: &[u8]) -> Result<Lowered, PhaseError>
     ensures types { IfOk result (λ l. l.code.types ≡ (V.program l.typed.program).types) }
     ensures functions { IfOk result (λ l.
         map header l.code.functions.items ≡ headers l.groups (V.program l.typed.program).instances) }
-    ensures lowered { IfOk result (λ l. AreLowered (V.program l.typed.program) (all_instrs l.code)) }
+    ensures lowered { IfOk result (λ l. AreLowered (V.program l.typed.program) (all_instrs (plain l.code))) }
     ensures bounded { IfOk result (λ l. AreSmall (V.program l.typed.program) l.groups l.code.functions.items) }
     ensures spelt { IfOk result (λ l. AreSpelt l.code.functions.items) }
     ensures laid { IfOk result (λ l. IsAsked (V.program l.typed.program) l.needs →
@@ -162,7 +161,7 @@ fn lowered_of(alloc: Global, typed: Typed) -> Result<Lowered, PhaseError>
     ensures functions { IfOk result (λ l.
         map header l.code.functions.items ≡ headers l.groups (V.program l.typed.program).instances) }
     ensures lowered { (source : List ℕ) → IsMatched source (V.program typed.program) →
-        IfOk result (λ l. AreLowered (V.program l.typed.program) (all_instrs l.code)) }
+        IfOk result (λ l. AreLowered (V.program l.typed.program) (all_instrs (plain l.code))) }
     ensures bounded { (source : List ℕ) → IsMatched source (V.program typed.program) →
         IfOk result (λ l. AreSmall (V.program l.typed.program) l.groups l.code.functions.items) }
     ensures spelt { IfOk result (λ l. AreSpelt l.code.functions.items) }

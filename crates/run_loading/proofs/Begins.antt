@@ -16,18 +16,17 @@ use Rattle.tree_refinement.specs.machine_semantics.States.{State}
 use Rattle.tree_refinement.specs.machine_semantics.Steps.{Kinds, first_frame}
 use Rattle.tree_refinement.specs.machine_semantics.Runs.{loaded, loaded_in, lent_words}
 use Rattle.tree_refinement.specs.machine_semantics.Apart.{AreSpare, IsGiven}
-use Rattle.tree_refinement.specs.code_rules.Codes.{PlainCode, PlainFunction, function_at}
+use Rattle.tree_refinement.specs.cell_code.Plain.{PlainFunction, PlainCode, function_at}
 use Rattle.tree_refinement.specs.code_rules.Limits.{most_fields, most_registers, most_results, most_credits}
 use Rattle.tree_refinement.specs.code_rules.Headers.{is_size, are_sizes, are_params, is_formed}
 use Rattle.tree_refinement.specs.code_rules.declared.rule.SoundRule.TheVariants.{S0}
 use Rattle.tree_refinement.specs.code_rules.Breaks.{IsSound}
 use Rattle.tree_refinement.proofs.separation_kinds.Basics.{both, below, less_or_not}
 use Rattle.tree_refinement.proofs.separation_kinds.Agree.{one_here, one_apart}
-use Rattle.tree_refinement.specs.separation.Codes.{run_function, run_code, HasLiterals, AreKinds}
+use Rattle.tree_refinement.specs.separation.Codes.{HasLiterals, AreKinds}
 use Rattle.tree_refinement.specs.separation.Starts.{IsStart}
 use Rattle.tree_refinement.proofs.separation.Sound.{never, formed}
 use Rattle.tree_refinement.proofs.separation.Loading.{loaded_is}
-use Rattle.tree_refinement.proofs.separation.Calling.{run_function_at}
 use Rattle.tree_refinement.specs.Runs.{BeginsWith}
 use Rattle.tree_refinement.proofs.Loading.{begins_values, begins_with}
 use Rattle.run_loading.specs.Loading.{places_of, value_places, all_places, value_word, all_words, credit_places, credit_words, first_store, first_words}
@@ -321,7 +320,7 @@ none_released (suc n) (suc p) = none_released n p
 pub has_all : (s : Store) → Has s 0 s.cells
 has_all s j c e = let z : j ≡ 0 + j = omega arith in subst (λ i. cell_at s i ≡ Some c) z e
 
-abbrev given : (c : PlainCode) (n : ℕ) (f : PlainFunction) (vs : Values) → IsSound c → function_at c n ≡ Some f → HaveTypes c.types (map (λ p. p.ty) f.params) vs → IsGiven c.types (run_function f) (first_store vs f.credits) [] (first_words vs f.credits)
+abbrev given : (c : PlainCode) (n : ℕ) (f : PlainFunction) (vs : Values) → IsSound c → function_at c n ≡ Some f → HaveTypes c.types (map (λ p. p.ty) f.params) vs → IsGiven c.types f (first_store vs f.credits) [] (first_words vs f.credits)
 given c n f vs sound is h =
     let front : List (Option Cell) = all_places 0 vs in
     let back : List (Option Cell) = credit_places f.credits in
@@ -354,13 +353,13 @@ given c n f vs sound is h =
 abbrev first_state : PlainFunction → PlainCode → ℕ → Values → ℕ → State
 first_state f c n vs frames = record {
   store = first_store vs f.credits;
-  running = first_frame n (run_function f) (first_words vs f.credits);
+  running = first_frame n f (first_words vs f.credits);
   waiting = [];
   free = frames;
   lent = lent_words c.types f.params (first_words vs f.credits);
 }
 
-first_begins : (c : PlainCode) (before waits : Kinds) (n : ℕ) (f : PlainFunction) (vs : Values) (frames : ℕ) → IsSound c → HasLiterals c → AreKinds c before waits → function_at c n ≡ Some f → HaveTypes c.types (map (λ p. p.ty) f.params) vs → loaded (run_code c) n (first_store vs f.credits) (first_words vs f.credits) frames ≡ Some (first_state f c n vs frames) → IsStart c before waits n [] (first_state f c n vs frames) × BeginsWith c n (first_state f c n vs frames) vs
+first_begins : (c : PlainCode) (before waits : Kinds) (n : ℕ) (f : PlainFunction) (vs : Values) (frames : ℕ) → IsSound c → HasLiterals c → AreKinds c before waits → function_at c n ≡ Some f → HaveTypes c.types (map (λ p. p.ty) f.params) vs → loaded c n (first_store vs f.credits) (first_words vs f.credits) frames ≡ Some (first_state f c n vs frames) → IsStart c before waits n [] (first_state f c n vs frames) × BeginsWith c n (first_state f c n vs frames) vs
 first_begins c before waits n f vs frames sound literals kinds is h e =
     let start : IsStart c before waits n [] (first_state f c n vs frames) = record {
       sound = sound;
@@ -378,10 +377,10 @@ first_begins c before waits n f vs frames sound literals kinds is h e =
     let own : values_of start.given.arguments ≡ vs = placed_values 0 vs in
     (start, subst (λ us. BeginsWith c n (first_state f c n vs frames) us) (sym same ∙ own) some.1)
 
-pub begins : (c : PlainCode) (before waits : Kinds) (n : ℕ) (f : PlainFunction) (vs : Values) (frames : ℕ) (s : State) → IsSound c → HasLiterals c → AreKinds c before waits → function_at c n ≡ Some f → HaveTypes c.types (map (λ p. p.ty) f.params) vs → loaded (run_code c) n (first_store vs f.credits) (first_words vs f.credits) frames ≡ Some s → IsStart c before waits n [] s × BeginsWith c n s vs
+pub begins : (c : PlainCode) (before waits : Kinds) (n : ℕ) (f : PlainFunction) (vs : Values) (frames : ℕ) (s : State) → IsSound c → HasLiterals c → AreKinds c before waits → function_at c n ≡ Some f → HaveTypes c.types (map (λ p. p.ty) f.params) vs → loaded c n (first_store vs f.credits) (first_words vs f.credits) frames ≡ Some s → IsStart c before waits n [] s × BeginsWith c n s vs
 begins c before waits n f vs frames s sound literals kinds is h e =
     let same : s ≡ first_state f c n vs frames = loaded_is c n f (first_store vs f.credits) (first_words vs f.credits) frames s is e in
     subst (λ s. IsStart c before waits n [] s × BeginsWith c n s vs) (sym same) (first_begins c before waits n f vs frames sound literals kinds is h (e ∙ ap Some same))
 
-pub is_loaded : (c : PlainCode) (n : ℕ) (f : PlainFunction) (vs : Values) (frames : ℕ) → function_at c n ≡ Some f → (s : State) × (loaded (run_code c) n (first_store vs f.credits) (first_words vs f.credits) frames ≡ Some s)
-is_loaded c n f vs frames is = (first_state f c n vs frames, ap (λ o. loaded_in c.types n o (first_store vs f.credits) (first_words vs f.credits) frames) (run_function_at c n f is))
+pub is_loaded : (c : PlainCode) (n : ℕ) (f : PlainFunction) (vs : Values) (frames : ℕ) → function_at c n ≡ Some f → (s : State) × (loaded c n (first_store vs f.credits) (first_words vs f.credits) frames ≡ Some s)
+is_loaded c n f vs frames is = (first_state f c n vs frames, ap (λ o. loaded_in c.types n o (first_store vs f.credits) (first_words vs f.credits) frames) is)

@@ -4,7 +4,7 @@ use Rattle.std.proofs.Common.{◌≡◌, ℕ, zero, suc, ◌-◌, ◌≤◌, Boo
 use Rattle.std.specs.Prelude.{replicate, slice_set, nat_le, nat_eq, if◌then◌else◌}
 use Rattle.tree_refinement.specs.fip_language.Store.{Cell}
 use Rattle.tree_refinement.specs.machine_semantics.Cells.{Store, Change, Write, Release, cell_in, cell_at, size_of, written, given_up, changed}
-use Rattle.tree_refinement.specs.machine_semantics.Codes.{PlainCode}
+use Rattle.tree_refinement.specs.cell_code.Plain.{PlainCode}
 use Rattle.tree_refinement.specs.machine_semantics.States.{State}
 use Rattle.tree_refinement.specs.machine_semantics.Steps.{Kinds}
 use Rattle.tree_refinement.specs.machine_semantics.Runs.{begun, after, state_of}

@@ -11,11 +11,11 @@ use Rattle.tree_refinement.specs.machine_semantics.Runs.{End, Run, Going, Over, 
 use Rattle.tree_refinement.specs.machine_semantics.Traces.{Event, events_of, done_changes, events}
 use Rattle.tree_refinement.proofs.machine_semantics.Followed.{Followed, followed}
 use Rattle.tree_refinement.proofs.machine_semantics.Sizes.{went_keeps}
-use Rattle.tree_refinement.specs.code_rules.Codes.{PlainCode, results}
+use Rattle.tree_refinement.specs.cell_code.Plain.{PlainCode, results}
 use Rattle.tree_refinement.specs.code_rules.Breaks.{IsSound}
 use Rattle.tree_refinement.proofs.separation_kinds.Basics.{pick, chosen, refused, equal, equal_is, unequal_is, length_map}
 use Rattle.tree_refinement.proofs.separation.Stores.{same_place, IsWritten, is_written}
-use Rattle.tree_refinement.specs.separation.Codes.{run_code, HasLiterals, AreKinds}
+use Rattle.tree_refinement.specs.separation.Codes.{HasLiterals, AreKinds}
 use Rattle.tree_refinement.specs.separation.Starts.{IsStart}
 use Rattle.tree_refinement.specs.separation.Alive.{IsAlive}
 use Rattle.tree_refinement.proofs.separation.Loading.{start_alive}
@@ -165,16 +165,16 @@ length_sizes old new e = sym (length_map size_in new.cells) ∙ ap (λ xs. lengt
 
 -- events of the run from here on
 abbrev Reported : PlainCode → Kinds → ℕ → Run → List Loaded → ℕ → ℕ → Type 0
-Reported c before n r live least last = AreEvents live least last (events before (run_code c) n r)
+Reported c before n r live least last = AreEvents live least last (events before c n r)
 
 over_reported : (c : PlainCode) (before : Kinds) (n : ℕ) (e : End) (s : State) (left k : ℕ) (live : List Loaded) (least last : ℕ) → Reported c before n (Over e s left k) live least last
 over_reported c before zero e s left k live least last = tt
 over_reported c before (suc n) e s left k live least last = tt
 
 -- the run after a step, where the next is x
-onward : (c : PlainCode) (before waits : Kinds) (types kept : List ℕ) (n k last left : ℕ) (cs : List Change) (s : State) (x : Next) (live : List Loaded) (least : ℕ) → IsStore s.store → length s.store.cells < 2 ^ 32 → least ≤ suc k → suc k ≤ last → IsPlain s.store cs → AreLive live s.store → x ≡ next before (run_code c) s → Followed cs s x → GoodRun c types kept (comes s left (suc k) x) → ((t : State) (rest : ℕ) (more : List Loaded) (low : ℕ) → GoodRun c types kept (Going t rest (suc k)) → length t.store.cells < 2 ^ 32 → low ≤ suc k → AreLive more t.store → Reported c before n (Going t rest (suc k)) more low last) → AreEvents live least last (events_of (suc k) (done_changes cs x) ++ events before (run_code c) n (comes s left (suc k) x))
-onward c before waits types kept n k last left cs s (Went t) live least store short low high plain h is f g others = plain_events cs live s.store t.store least (suc k) last (events before (run_code c) n (Going t left (suc k))) store short low high plain h f
-    (λ more least below alive. others t left more least g (subst (λ m. m < 2 ^ 32) (sym (length_sizes s.store t.store (went_keeps before (run_code c) s t (sym is)).sizes)) short) below alive)
+onward : (c : PlainCode) (before waits : Kinds) (types kept : List ℕ) (n k last left : ℕ) (cs : List Change) (s : State) (x : Next) (live : List Loaded) (least : ℕ) → IsStore s.store → length s.store.cells < 2 ^ 32 → least ≤ suc k → suc k ≤ last → IsPlain s.store cs → AreLive live s.store → x ≡ next before c s → Followed cs s x → GoodRun c types kept (comes s left (suc k) x) → ((t : State) (rest : ℕ) (more : List Loaded) (low : ℕ) → GoodRun c types kept (Going t rest (suc k)) → length t.store.cells < 2 ^ 32 → low ≤ suc k → AreLive more t.store → Reported c before n (Going t rest (suc k)) more low last) → AreEvents live least last (events_of (suc k) (done_changes cs x) ++ events before c n (comes s left (suc k) x))
+onward c before waits types kept n k last left cs s (Went t) live least store short low high plain h is f g others = plain_events cs live s.store t.store least (suc k) last (events before c n (Going t left (suc k))) store short low high plain h f
+    (λ more least below alive. others t left more least g (subst (λ m. m < 2 ^ 32) (sym (length_sizes s.store t.store (went_keeps before c s t (sym is)).sizes)) short) below alive)
 onward c before waits types kept n k last zero cs s (Entered t) live least store short low high plain h is f g others = over_reported c before n _ s 0 (suc k) live least last
 onward c before waits types kept n k last (suc left) cs s (Entered t) live least store short low high plain h is f g others = others t left live least g (subst (λ (u : Store). length u.cells < 2 ^ 32) (sym f) short) low (subst (AreLive live) (sym f) h)
 onward c before waits types kept n k last left cs s (Gave ws) live least store short low high plain h is f g others = over_reported c before n _ s left (suc k) live least last
@@ -186,8 +186,8 @@ onward c before waits types kept n k last left cs s Stuck live least store short
 reported : (c : PlainCode) (before waits : Kinds) (types kept : List ℕ) (n k last left : ℕ) (s : State) (live : List Loaded) (least : ℕ) → IsSound c → HasLiterals c → AreKinds c before waits → HaveFewConstructors c.types → k + n ≤ last → least ≤ suc k → GoodRun c types kept (Going s left k) → length s.store.cells < 2 ^ 32 → AreLive live s.store → Reported c before n (Going s left k) live least last
 reported c before waits types kept zero k last left s live least sound literals kinds few high low g short h = tt
 reported c before waits types kept (suc n) k last left s live least sound literals kinds few high low g short h =
-    onward c before waits types kept n k last left (changes_of before (run_code c) s) s (next before (run_code c) s) live least g.store short low (omega arith)
-    (step_plain c before waits types kept s sound literals kinds few short g) h refl (followed before (run_code c) s)
+    onward c before waits types kept n k last left (changes_of before c s) s (next before c s) live least g.store short low (omega arith)
+    (step_plain c before waits types kept s sound literals kinds few short g) h refl (followed before c s)
     (later_good c before waits types kept (Going s left k) sound literals kinds g)
     (λ t rest more least good short low alive. reported c before waits types kept n (suc k) last rest t more least sound literals kinds few (omega arith) (omega arith) good short alive)
 
@@ -195,7 +195,7 @@ begun_reported : (c : PlainCode) (before waits : Kinds) (types kept : List ℕ) 
 begun_reported c before waits types kept steps zero s sound literals kinds few a short h = over_reported c before steps _ s 0 0 (loaded_from 0 s.store.cells) 1 steps
 begun_reported c before waits types kept steps (suc left) s sound literals kinds few a short h = reported c before waits types kept steps 0 steps left s (loaded_from 0 s.store.cells) 1 sound literals kinds few (omega arith) (omega arith) a short h
 
-pub run_is_traced : (c : PlainCode) (before waits : Kinds) (n : ℕ) (kept : List ℕ) (s : State) (calls steps : ℕ) → IsStart c before waits n kept s → HaveFewConstructors c.types → IsWritable s.store → length (events before (run_code c) steps (begun s calls)) < 2 ^ 32 → steps < 2 ^ 64 → IsTrace (trace_of before (run_code c) s calls steps)
+pub run_is_traced : (c : PlainCode) (before waits : Kinds) (n : ℕ) (kept : List ℕ) (s : State) (calls steps : ℕ) → IsStart c before waits n kept s → HaveFewConstructors c.types → IsWritable s.store → length (events before c steps (begun s calls)) < 2 ^ 32 → steps < 2 ^ 64 → IsTrace (trace_of before c s calls steps)
 run_is_traced c before waits n kept s calls steps start few w number small =
     let a = start_alive c before waits n kept s start in
     let places = w.places in

@@ -19,7 +19,7 @@ use Rattle.tree_refinement.specs.machine_semantics.States.{State}
 use Rattle.tree_refinement.specs.machine_semantics.Rows as W
 use Rattle.tree_refinement.specs.machine_semantics.Steps.{Kinds, changes_in, changes_at, changes_of, instr_of, kinds_of}
 use Rattle.tree_refinement.specs.machine_semantics.Apart.{holding_uses, owned_uses}
-use Rattle.tree_refinement.specs.code_rules.Codes.{PlainCode}
+use Rattle.tree_refinement.specs.cell_code.Plain.{PlainCode}
 use Rattle.tree_refinement.specs.code_rules.Types.{fields}
 use Rattle.tree_refinement.specs.code_rules.Kinds.{at}
 use Rattle.tree_refinement.specs.code_rules.Ranges.{are_below, is_constructor}
@@ -33,7 +33,7 @@ use Rattle.tree_refinement.proofs.separation_kinds.Giving.{credit_of, given}
 use Rattle.tree_refinement.specs.separation.Rows.{IsReady}
 use Rattle.tree_refinement.proofs.separation.Reading.{place_is}
 use Rattle.tree_refinement.proofs.separation.Stores.{there_few}
-use Rattle.tree_refinement.specs.separation.Codes.{run_code, HasLiterals, AreKinds}
+use Rattle.tree_refinement.specs.separation.Codes.{HasLiterals, AreKinds}
 use Rattle.tree_refinement.specs.separation.Alive.{lower_trees, IsAlive}
 use Rattle.tree_refinement.proofs.separation.Local.{ready}
 use Rattle.tree_refinement.proofs.separation.Returning.{run_instr_at}
@@ -190,8 +190,8 @@ act_plain c types kept s (I.Tail f rs) few short a g = none s.store _ refl
 act_plain c types kept s (I.Ret rs) few short a g = none s.store _ refl
 act_plain c types kept s (I.Jump target) few short a g = none s.store _ refl
 
-pub step_plain : (c : PlainCode) (before waits : Kinds) (types kept : List ℕ) (s : State) → IsSound c → HasLiterals c → AreKinds c before waits → HaveFewConstructors c.types → length s.store.cells < 2 ^ 32 → IsAlive c types kept s → IsPlain s.store (changes_of before (run_code c) s)
+pub step_plain : (c : PlainCode) (before waits : Kinds) (types kept : List ℕ) (s : State) → IsSound c → HasLiterals c → AreKinds c before waits → HaveFewConstructors c.types → length s.store.cells < 2 ^ 32 → IsAlive c types kept s → IsPlain s.store (changes_of before c s)
 step_plain c before waits types kept s sound literals kinds few short a =
-    let instr : instr_of (run_code c) s ≡ Some a.instr = run_instr_at c s.running.function s.running.at a.function a.instr a.is a.is_instr in
+    let instr : instr_of c s ≡ Some a.instr = run_instr_at c s.running.function s.running.at a.function a.instr a.is a.is_instr in
     let known : kinds_of before s ≡ a.kinds = kinds.known s.running.function s.running.at a.function a.kinds a.is a.known in
-    subst (IsPlain s.store) (sym (ap₂ (λ ks x. changes_at (run_code c) ks s x) known instr)) (act_plain c types kept s a.instr few short a (ready c types kept s sound literals a))
+    subst (IsPlain s.store) (sym (ap₂ (λ ks x. changes_at c ks s x) known instr)) (act_plain c types kept s a.instr few short a (ready c types kept s sound literals a))

@@ -8,7 +8,7 @@ use Rattle.std.specs.Prelude.{Option, Some, None}
 use Rattle.std.specs.Fmt.{decimal}
 use Rattle.tree_refinement.specs.fip_language.Store.{Cell}
 use Rattle.tree_refinement.specs.machine_semantics.Cells.{Store}
-use Rattle.tree_refinement.specs.machine_semantics.Codes.{PlainCode}
+use Rattle.tree_refinement.specs.cell_code.Plain.{PlainCode}
 use Rattle.tree_refinement.specs.machine_semantics.States.{State}
 use Rattle.tree_refinement.specs.machine_semantics.Steps.{Kinds}
 use Rattle.tree_refinement.specs.machine_semantics.Runs.{begun}

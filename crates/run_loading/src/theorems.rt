@@ -3,15 +3,14 @@ ghost use Rattle.std.specs.Prelude.{◌≡◌, ◌⊎◌, ℕ, ◌+◌, ◌^◌,
 ghost use Rattle.tree_refinement.specs.fip_language.Table.{Table, HaveTypes};
 ghost use Rattle.tree_refinement.specs.fip_language.Values.{Values, words_needed_by_all};
 ghost use Rattle.tree_refinement.specs.fip_language.Store.{Cell};
-ghost use Rattle.tree_refinement.specs.machine_semantics.Codes.{PlainCode};
+ghost use Rattle.tree_refinement.specs.cell_code.Plain.{PlainFunction, PlainCode, function_at};
 ghost use Rattle.tree_refinement.specs.machine_semantics.Example.{flat};
 ghost use Rattle.tree_refinement.specs.machine_semantics.Runs.{loaded, begun, after, state_of};
 ghost use Rattle.tree_refinement.specs.machine_semantics.States.{State};
 ghost use Rattle.tree_refinement.specs.machine_semantics.Steps.{Kinds};
 ghost use Rattle.tree_refinement.specs.machine_semantics.Traces.{events};
-ghost use Rattle.tree_refinement.specs.code_rules.Codes as S;
 ghost use Rattle.tree_refinement.specs.code_rules.Breaks.{IsSound};
-ghost use Rattle.tree_refinement.specs.separation.Codes.{run_code, HasLiterals, AreKinds};
+ghost use Rattle.tree_refinement.specs.separation.Codes.{HasLiterals, AreKinds};
 ghost use Rattle.tree_refinement.specs.separation.Starts.{IsStart};
 ghost use Rattle.tree_refinement.specs.Runs.{BeginsWith};
 ghost use Rattle.run_loading.specs.Loading.{first_store, first_words, words_of_credits, unreleased};
@@ -75,28 +74,28 @@ pub fn an_example_of_a_file()
 /// cells of these and of its credits are all cells, and its first registers stand for the arguments. For who runs a
 /// function on the text of its arguments.
 pub fn a_loaded_run_begins()
-    ensures there { (c : S.PlainCode) (n : ℕ) (f : S.PlainFunction) (vs : Values) (frames : ℕ) →
-        S.function_at c n ≡ Some f → (s : State)
-        × (loaded (run_code c) n (first_store vs f.credits) (first_words vs f.credits) frames ≡ Some s) }
-    ensures starts { (c : S.PlainCode) (before waits : Kinds) (n : ℕ) (f : S.PlainFunction) (vs : Values)
-        (frames : ℕ) (s : State) → IsSound c → HasLiterals c → AreKinds c before waits → S.function_at c n ≡ Some f →
+    ensures there { (c : PlainCode) (n : ℕ) (f : PlainFunction) (vs : Values) (frames : ℕ) →
+        function_at c n ≡ Some f → (s : State)
+        × (loaded c n (first_store vs f.credits) (first_words vs f.credits) frames ≡ Some s) }
+    ensures starts { (c : PlainCode) (before waits : Kinds) (n : ℕ) (f : PlainFunction) (vs : Values)
+        (frames : ℕ) (s : State) → IsSound c → HasLiterals c → AreKinds c before waits → function_at c n ≡ Some f →
         HaveTypes c.types (map (λ p. p.ty) f.params) vs →
-        loaded (run_code c) n (first_store vs f.credits) (first_words vs f.credits) frames ≡ Some s →
+        loaded c n (first_store vs f.credits) (first_words vs f.credits) frames ≡ Some s →
         IsStart c before waits n [] s }
-    ensures stands { (c : S.PlainCode) (before waits : Kinds) (n : ℕ) (f : S.PlainFunction) (vs : Values)
-        (frames : ℕ) (s : State) → IsSound c → HasLiterals c → AreKinds c before waits → S.function_at c n ≡ Some f →
+    ensures stands { (c : PlainCode) (before waits : Kinds) (n : ℕ) (f : PlainFunction) (vs : Values)
+        (frames : ℕ) (s : State) → IsSound c → HasLiterals c → AreKinds c before waits → function_at c n ≡ Some f →
         HaveTypes c.types (map (λ p. p.ty) f.params) vs →
-        loaded (run_code c) n (first_store vs f.credits) (first_words vs f.credits) frames ≡ Some s →
+        loaded c n (first_store vs f.credits) (first_words vs f.credits) frames ≡ Some s →
         BeginsWith c n s vs }
 {}
 
 /// What a run of sound code did to its cells is a trace, which can be written down, unless there are too many events or
 /// steps to count; for a run begins in a store that can be written down. For who asks why a trace is refused.
 pub fn what_a_run_did_is_a_trace()
-    ensures run { (c : S.PlainCode) (before waits : Kinds) (n : ℕ) (kept : List ℕ) (s : State)
+    ensures run { (c : PlainCode) (before waits : Kinds) (n : ℕ) (kept : List ℕ) (s : State)
         (calls steps : ℕ) → IsStart c before waits n kept s → HaveFewConstructors c.types → IsWritable s.store →
-        length (events before (run_code c) steps (begun s calls)) < 2 ^ 32 → steps < 2 ^ 64 →
-        IsTrace (trace_of before (run_code c) s calls steps) }
+        length (events before c steps (begun s calls)) < 2 ^ 32 → steps < 2 ^ 64 →
+        IsTrace (trace_of before c s calls steps) }
     ensures loaded { (types : Table) (ts : List ℕ) (vs : Values) (credits : List ℕ) → HaveFewConstructors types →
         HaveTypes types ts vs → length (first_store vs credits).cells < 2 ^ 32 →
         IsWritable (first_store vs credits) }

@@ -7,14 +7,13 @@ use Rattle.separation_kinds.specs.fip_language.Store.{Cell, Placed, PlacedInt, B
 use Rattle.separation_kinds.specs.cell_code.declared.kind.From.{From}
 use Rattle.separation_kinds.specs.cell_code.declared.kind.Kind.{Kind}
 use Rattle.separation_kinds.specs.cell_code.declared.kind.Kind.TheVariants.{Gone, Scalar, Owned, Lent, Credit}
-use Rattle.separation_kinds.specs.machine_semantics.Codes as R
+use Rattle.separation_kinds.specs.cell_code.Plain.{PlainCode, results}
 use Rattle.separation_kinds.specs.machine_semantics.Cells.{Store}
 use Rattle.separation_kinds.specs.machine_semantics.Trees.{IsTree, StandAll}
 use Rattle.separation_kinds.specs.machine_semantics.Rows.{named}
 use Rattle.separation_kinds.specs.machine_semantics.States.{Frame, State}
 use Rattle.separation_kinds.specs.machine_semantics.Steps.{Kinds}
 use Rattle.separation_kinds.specs.machine_semantics.Apart.{Holding, Tree, Slot, RootIn, HoldsTree, HoldsSpare, Fits, LiesWithin, LiesIn, slot_trees, IsRooted, IsFrom, IsLentTree, IsLentRight, IsFrame, AreFrames, AreWaiting, AreTrees, trees_uses, held_tree, owned_tree, Apart, typed, GivesApart}
-use Rattle.separation_kinds.specs.code_rules.Codes.{PlainCode, PlainFunction, results, results_of}
 use Rattle.separation_kinds.specs.code_rules.Types.{numbers}
 use Rattle.separation_kinds.specs.code_rules.Kinds.{at, is_owned}
 use Rattle.separation_kinds.specs.Meanings.{part_of, Roots, Rooted, Framed, Means, AreMeant, word_at, slot_of, slots_of}
@@ -22,7 +21,7 @@ use Rattle.separation_kinds.proofs.Basics.{get_map, get_number}
 use Rattle.separation_kinds.proofs.KindLemmas.{owned_within, not_gone_within, roots_gone}
 use Rattle.separation_kinds.proofs.Reaching.{same_tree}
 use Rattle.separation.proofs.Reading.{named_is, get_words, stand_length}
-use Rattle.separation.specs.Codes.{run_function, run_code, AreKinds}
+use Rattle.separation.specs.Codes.{AreKinds}
 use Rattle.separation.specs.Alive.{Frozen, frozen_slots, lower_trees, AreAllWaiting, IsAlive, IsGiven}
 use Rattle.separation.proofs.Lower.{slots_owned}
 use Rattle.separation.proofs.Returning.{run_instr_at}
@@ -125,22 +124,14 @@ frames_are c before waits s lent types above (w ∷ ws) (g ∷ gs) k a =
       frames_are c before waits s lent types w.function ws gs k a.1,
     )
 
-results_same : (fs : List PlainFunction) (n : ℕ) → R.results_in (slice_get (map run_function fs) n) ≡ results_of (slice_get fs n)
-results_same [] n = refl
-results_same (f ∷ fs) zero = refl
-results_same (f ∷ fs) (suc n) = results_same fs n
-
-pub run_results : (c : PlainCode) (n : ℕ) → R.results_of (run_code c) n ≡ results c n
-run_results c n = results_same c.functions n
-
-waiting_are : (c : PlainCode) (s : Store) (lent : List Placed) (types : List ℕ) (above : ℕ) (ws : List Frame) (gs : List Frozen) → AreAllWaiting c s lent types above ws gs → AreWaiting (run_code c) above ws
+waiting_are : (c : PlainCode) (s : Store) (lent : List Placed) (types : List ℕ) (above : ℕ) (ws : List Frame) (gs : List Frozen) → AreAllWaiting c s lent types above ws gs → AreWaiting c above ws
 waiting_are c s lent types above [] gs a = tt
 waiting_are c s lent types above (w ∷ ws) [] a = absurd a
 waiting_are c s lent types above (w ∷ ws) (g ∷ gs) a =
     let i = a.0 in
-    (i.callee, i.sources, i.destinations, run_instr_at c w.function w.at i.function _ i.is i.instr, run_results c i.callee ∙ i.results ∙ sym (run_results c above), waiting_are c s lent types w.function ws gs a.1)
+    (i.callee, i.sources, i.destinations, run_instr_at c w.function w.at i.function _ i.is i.instr, i.results, waiting_are c s lent types w.function ws gs a.1)
 
-pub alive_apart : (c : PlainCode) (before waits : Kinds) (types kept : List ℕ) (s : State) → AreKinds c before waits → IsAlive c types kept s → Apart before waits (run_code c) kept s
+pub alive_apart : (c : PlainCode) (before waits : Kinds) (types kept : List ℕ) (s : State) → AreKinds c before waits → IsAlive c types kept s → Apart before waits c kept s
 alive_apart c before waits types kept s k a = record {
   store = a.store;
   slots = slots_of a.kinds (word_at s.running.words) a.holds;
@@ -169,12 +160,12 @@ list_uses : (q : ℕ) (xs : Parts) → trees_uses q (tree_list xs) ≡ uses_of_a
 list_uses q NoParts = refl
 list_uses q (MoreParts x xs) = ap (λ n. uses q x + n) (list_uses q xs)
 
-pub given_apart : (c : PlainCode) (n : ℕ) (kept : List ℕ) (s : State) (ws : List ℕ) → IsGiven c (results c n) kept s ws → GivesApart (run_code c) n kept s ws
+pub given_apart : (c : PlainCode) (n : ℕ) (kept : List ℕ) (s : State) (ws : List ℕ) → IsGiven c (results c n) kept s ws → GivesApart c n kept s ws
 given_apart c n kept s ws g = record {
-  number = ap length g.words ∙ stand_length c.types s.store (results c n) g.results g.stand ∙ ap length (sym (run_results c n));
+  number = ap length g.words ∙ stand_length c.types s.store (results c n) g.results g.stand;
   results = tree_list g.results;
   lent = g.lent;
-  stand = subst (λ ts. AreTrees c.types s.store (typed ts ws) (tree_list g.results)) (sym (run_results c n)) (subst (λ vs. AreTrees c.types s.store (typed (results c n) vs) (tree_list g.results)) (sym g.words) (trees_are c.types s.store (results c n) g.results g.stand));
+  stand = subst (λ vs. AreTrees c.types s.store (typed (results c n) vs) (tree_list g.results)) (sym g.words) (trees_are c.types s.store (results c n) g.results g.stand);
   arguments = g.arguments;
   once = λ q. let e = list_uses q g.results in let o = g.once q in omega arith;
 }

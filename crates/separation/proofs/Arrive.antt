@@ -7,7 +7,8 @@ use Rattle.separation_kinds.specs.cell_code.declared.code.Instr.TheVariants as I
 use Rattle.separation_kinds.specs.cell_code.declared.kind.Kind.{Kind}
 use Rattle.separation_kinds.specs.machine_semantics.Cells.{Store}
 use Rattle.separation_kinds.specs.machine_semantics.Apart.{Holding}
-use Rattle.separation_kinds.specs.code_rules.Codes.{PlainCode, PlainFunction, function_at, label_at}
+use Rattle.separation_kinds.specs.cell_code.Plain.{PlainFunction, PlainCode, function_at}
+use Rattle.separation_kinds.specs.code_rules.Codes.{label_at}
 use Rattle.separation_kinds.specs.code_rules.Kinds.{at}
 use Rattle.separation_kinds.specs.code_rules.Ranges.{in_range, is_target}
 use Rattle.separation_kinds.specs.code_rules.Leaves.{Leaves, Jumps}

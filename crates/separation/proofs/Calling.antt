@@ -9,12 +9,12 @@ use Rattle.separation_kinds.specs.cell_code.declared.code.Instr.TheVariants as I
 use Rattle.separation_kinds.specs.cell_code.declared.kind.Kind.{Kind}
 use Rattle.separation_kinds.specs.cell_code.declared.kind.Kind.TheVariants.{Credit}
 use Rattle.separation_kinds.specs.machine_semantics.Cells.{Store}
-use Rattle.separation_kinds.specs.machine_semantics.Codes as R
+use Rattle.separation_kinds.specs.cell_code.Plain.{PlainFunction, PlainCode, function_at, results_of, results}
 use Rattle.separation_kinds.specs.machine_semantics.Rows.{read_all}
 use Rattle.separation_kinds.specs.machine_semantics.States.{State}
 use Rattle.separation_kinds.specs.machine_semantics.Steps.{first_words, first_frame, called, called_with, replaced}
 use Rattle.separation_kinds.specs.machine_semantics.Apart.{Holding, owned_uses, owned_trees}
-use Rattle.separation_kinds.specs.code_rules.Codes.{PlainCode, PlainFunction, function_at, label_at, params, credits, results, params_of, credits_of, results_of}
+use Rattle.separation_kinds.specs.code_rules.Codes.{label_at, params, credits, params_of, credits_of}
 use Rattle.separation_kinds.specs.code_rules.Kinds.{at, is_free, are_free}
 use Rattle.separation_kinds.specs.code_rules.Entry.{param_kind, gones, entry}
 use Rattle.separation_kinds.specs.code_rules.Ranges.{are_below}
@@ -24,19 +24,15 @@ use Rattle.separation_kinds.specs.code_rules.Endings.{nothing_owned}
 use Rattle.separation_kinds.specs.code_rules.Flow.{IsInstr, KnownAt, is_as_asked}
 use Rattle.separation_kinds.specs.code_rules.Breaks.{IsSound}
 use Rattle.separation_kinds.specs.Meanings.{AreMeant, owned_by, sum_from, word_at}
-use Rattle.separation_kinds.proofs.Basics.{pick, both, equal, below, get_map, length_map}
+use Rattle.separation_kinds.proofs.Basics.{pick, both, equal, below, length_map}
 use Rattle.separation_kinds.proofs.KindLemmas.{free_uses, owned_within}
 use Rattle.separation_kinds.proofs.Words.{read_words}
 use Rattle.separation_kinds.proofs.Passing.{Covers, all_passed, all_handed, all_lent, EachMeans, kinds_uses, each_argument, arguments_sum, hold_at, entered_meant, entered_sum}
 use Rattle.separation.proofs.ReadingRows.{get_some}
-use Rattle.separation.specs.Codes.{run_function, run_code}
 use Rattle.separation.specs.Alive.{Frozen, frozen_slots, lower_trees, IsAlive, IsGood}
 use Rattle.separation.proofs.Sound.{formed, HasForm, has_form, good_map, spends}
 use Rattle.separation.proofs.Lower.{slots_owned, lies_owned, lies_left, lies_right, all_above}
 pub use Rattle.separation_kinds.proofs.machine_semantics.cell_code.fip_base.fip_language.Facts.{length_append, some_of as some_left}
-
-pub run_function_at : (c : PlainCode) (n : ℕ) (f : PlainFunction) → function_at c n ≡ Some f → R.function_at (run_code c) n ≡ Some (run_function f)
-run_function_at c n f is = get_map run_function c.functions n f is
 
 -- ---- arguments
 
@@ -163,7 +159,7 @@ begins c s under n g ws hs rs sound is number e =
 
 -- ---- Call
 
-by_free : (c : PlainCode) (types kept : List ℕ) (s : State) (n : ℕ) (g : R.PlainFunction) (vs : List ℕ) (free : ℕ) → ((free : ℕ) → IsAlive c types kept (record s { running = first_frame n g vs; waiting = s.running ∷ s.waiting; free = free })) → IsGood c types kept s (called_with s n g free vs)
+by_free : (c : PlainCode) (types kept : List ℕ) (s : State) (n : ℕ) (g : PlainFunction) (vs : List ℕ) (free : ℕ) → ((free : ℕ) → IsAlive c types kept (record s { running = first_frame n g vs; waiting = s.running ∷ s.waiting; free = free })) → IsGood c types kept s (called_with s n g free vs)
 by_free c types kept s n g vs zero h = tt
 by_free c types kept s n g vs (suc free) h = h free
 
@@ -174,7 +170,7 @@ tail_is false o left e = absurd (none-some left e)
 pub callee_at : (c : PlainCode) (n : ℕ) → nat_lt n (length c.functions) ≡ true → (g : PlainFunction) × (function_at c n ≡ Some g)
 callee_at c n e = get_some c.functions n (below n (length c.functions) e)
 
-entered_alive : (c : PlainCode) (types kept : List ℕ) (s : State) (n : ℕ) (rs ds : List ℕ) (left : List Kind) (g : PlainFunction) (free : ℕ) → IsSound c → (a : IsAlive c types kept s) → IsInstr a.function s.running.at (I.Call n rs ds) → is_as_asked c a.function s.running.at a.kinds (I.Call n rs ds) ≡ true → function_at c n ≡ Some g → arguments c false a.kinds n rs ≡ Some left → IsAlive c types kept (record s { running = first_frame n (run_function g) (map (word_at s.running.words) rs); waiting = s.running ∷ s.waiting; free = free })
+entered_alive : (c : PlainCode) (types kept : List ℕ) (s : State) (n : ℕ) (rs ds : List ℕ) (left : List Kind) (g : PlainFunction) (free : ℕ) → IsSound c → (a : IsAlive c types kept s) → IsInstr a.function s.running.at (I.Call n rs ds) → is_as_asked c a.function s.running.at a.kinds (I.Call n rs ds) ≡ true → function_at c n ≡ Some g → arguments c false a.kinds n rs ≡ Some left → IsAlive c types kept (record s { running = first_frame n g (map (word_at s.running.words) rs); waiting = s.running ∷ s.waiting; free = free })
 entered_alive c types kept s n rs ds left g free sound a instr asked is e =
     let below : List Placed = lower_trees a.frozen a.lent in
     let ws : List ℕ = s.running.words in
@@ -230,7 +226,7 @@ entered_alive c types kept s n rs ds left g free sound a instr asked is e =
           omega arith;
     }
 
-pub call_good : (c : PlainCode) (types kept : List ℕ) (s : State) (n : ℕ) (rs ds : List ℕ) → IsSound c → (a : IsAlive c types kept s) → IsInstr a.function s.running.at (I.Call n rs ds) → is_as_asked c a.function s.running.at a.kinds (I.Call n rs ds) ≡ true → IsGood c types kept s (called s n (R.function_at (run_code c) n) (read_all s.running.words rs))
+pub call_good : (c : PlainCode) (types kept : List ℕ) (s : State) (n : ℕ) (rs ds : List ℕ) → IsSound c → (a : IsAlive c types kept s) → IsInstr a.function s.running.at (I.Call n rs ds) → is_as_asked c a.function s.running.at a.kinds (I.Call n rs ds) ≡ true → IsGood c types kept s (called s n (function_at c n) (read_all s.running.words rs))
 call_good c types kept s n rs ds sound a instr asked =
     let p = both (nat_lt n (length c.functions) && (are_below a.function.registers rs && are_below a.function.registers ds)) _ asked in
     let q = both (nat_lt n (length c.functions)) (are_below a.function.registers rs && are_below a.function.registers ds) p.0 in
@@ -239,8 +235,8 @@ call_good c types kept s n rs ds sound a instr asked =
     let g = callee_at c n q.0 in
     let left = some_left (arguments c false a.kinds n rs) t.0 in
     let read : read_all s.running.words rs ≡ Some (map (word_at s.running.words) rs) = read_words s.running.words rs (subst (λ m. are_below m rs ≡ true) (sym (a.long ∙ a.wide)) r.0) in
-    subst (λ o. IsGood c types kept s (called s n o (read_all s.running.words rs))) (sym (run_function_at c n g.0 g.1)) (subst (λ o. IsGood c types kept s (called s n (Some (run_function g.0)) o)) (sym read)
-    (by_free c types kept s n (run_function g.0) (map (word_at s.running.words) rs) s.free (λ free. entered_alive c types kept s n rs ds left.0 g.0 free sound a instr asked g.1 left.1)))
+    subst (λ o. IsGood c types kept s (called s n o (read_all s.running.words rs))) (sym g.1) (subst (λ o. IsGood c types kept s (called s n (Some g.0) o)) (sym read)
+    (by_free c types kept s n g.0 (map (word_at s.running.words) rs) s.free (λ free. entered_alive c types kept s n rs ds left.0 g.0 free sound a instr asked g.1 left.1)))
 
 -- ---- Tail
 
@@ -262,7 +258,7 @@ sum_none f i (suc n) h = let a = h i in let b = sum_none f (suc i) n h in omega 
 pub free_sum : (q : ℕ) (ks : List Kind) (hs : ℕ → Holding) (n : ℕ) → are_free ks ≡ true → owned_by q (at ks) hs n ≡ 0
 free_sum q ks hs n e = sum_none (λ r. owned_uses q (at ks r) (hs r)) 0 n (λ r. free_uses q (at ks r) (hs r) (free_at ks r e))
 
-tail_alive : (c : PlainCode) (types kept : List ℕ) (s : State) (n : ℕ) (rs : List ℕ) (left : List Kind) (g : PlainFunction) → IsSound c → (a : IsAlive c types kept s) → function_at c n ≡ Some g → arguments c true a.kinds n rs ≡ Some left → are_free left ≡ true → results c n ≡ a.function.results → IsAlive c types kept (record s { running = first_frame n (run_function g) (map (word_at s.running.words) rs) })
+tail_alive : (c : PlainCode) (types kept : List ℕ) (s : State) (n : ℕ) (rs : List ℕ) (left : List Kind) (g : PlainFunction) → IsSound c → (a : IsAlive c types kept s) → function_at c n ≡ Some g → arguments c true a.kinds n rs ≡ Some left → are_free left ≡ true → results c n ≡ a.function.results → IsAlive c types kept (record s { running = first_frame n g (map (word_at s.running.words) rs) })
 tail_alive c types kept s n rs left g sound a is e free same =
     let below : List Placed = lower_trees a.frozen a.lent in
     let ws : List ℕ = s.running.words in
@@ -296,7 +292,7 @@ tail_alive c types kept s n rs left g sound a is e free same =
           omega arith;
     }
 
-pub tail_good : (c : PlainCode) (types kept : List ℕ) (s : State) (n : ℕ) (rs : List ℕ) → IsSound c → (a : IsAlive c types kept s) → IsInstr a.function s.running.at (I.Tail n rs) → is_as_asked c a.function s.running.at a.kinds (I.Tail n rs) ≡ true → IsGood c types kept s (replaced s n (R.function_at (run_code c) n) (read_all s.running.words rs))
+pub tail_good : (c : PlainCode) (types kept : List ℕ) (s : State) (n : ℕ) (rs : List ℕ) → IsSound c → (a : IsAlive c types kept s) → IsInstr a.function s.running.at (I.Tail n rs) → is_as_asked c a.function s.running.at a.kinds (I.Tail n rs) ≡ true → IsGood c types kept s (replaced s n (function_at c n) (read_all s.running.words rs))
 tail_good c types kept s n rs sound a instr asked =
     let p = both (nat_lt n (length c.functions) && are_below a.function.registers rs) _ asked in
     let q = both (nat_lt n (length c.functions)) (are_below a.function.registers rs) p.0 in
@@ -306,5 +302,5 @@ tail_good c types kept s n rs sound a instr asked =
     let free : are_free left.0 ≡ true = subst (λ o. nothing_owned o ≡ true) left.1 (spends c s.running.function s.running.at a.function a.kinds (I.Tail n rs) sound a.is (record { known = a.known; instr = instr })) in
     let fit = tail_is (same_types (results c n) a.function.results) (arguments c true a.kinds n rs) left.0 left.1 in
     let read : read_all s.running.words rs ≡ Some (map (word_at s.running.words) rs) = read_words s.running.words rs (subst (λ m. are_below m rs ≡ true) (sym (a.long ∙ a.wide)) q.1) in
-    subst (λ o. IsGood c types kept s (replaced s n o (read_all s.running.words rs))) (sym (run_function_at c n g.0 g.1)) (subst (λ o. IsGood c types kept s (replaced s n (Some (run_function g.0)) o)) (sym read)
+    subst (λ o. IsGood c types kept s (replaced s n o (read_all s.running.words rs))) (sym g.1) (subst (λ o. IsGood c types kept s (replaced s n (Some g.0) o)) (sym read)
     (tail_alive c types kept s n rs left.0 g.0 sound a g.1 fit.1 free (same_types_is (results c n) a.function.results fit.0)))

@@ -10,12 +10,12 @@ use Rattle.separation_kinds.specs.machine_semantics.Cells.{there, released_at}
 use Rattle.separation_kinds.specs.machine_semantics.Steps.{Kinds}
 use Rattle.separation_kinds.specs.machine_semantics.Apart.{IsGiven}
 use Rattle.separation_kinds.specs.machine_semantics.Example.{listed, first}
-use Rattle.separation_kinds.specs.code_rules.Codes.{PlainFunction}
+use Rattle.separation_kinds.specs.cell_code.Plain.{PlainFunction}
 use Rattle.separation_kinds.specs.code_rules.Example.{reversal, function_of, rev_with, nil_taken, acc_given, cons_taken, cons_put, again, cons_known}
 use Rattle.separation_kinds.proofs.code_rules.Examples.{reversal_sound}
 use Rattle.separation_kinds.proofs.Agree.{one_apart}
 use Rattle.separation.specs.Rows.{FitsLiteral}
-use Rattle.separation.specs.Codes.{run_function, HasLiterals, AreKinds}
+use Rattle.separation.specs.Codes.{HasLiterals, AreKinds}
 use Rattle.separation.specs.Starts.{IsStart}
 use Rattle.separation_kinds.proofs.machine_semantics.cell_code.fip_base.fip_language.Facts.{fits_small as small}
 
@@ -58,7 +58,7 @@ cons = record { name = codes "Cons"; fields = 0 ∷ 2 ∷ [] }
 abbrev nil : Shape
 nil = record { name = codes "Nil"; fields = [] }
 
-given : IsGiven reversal.types (run_function rev) listed [] (3 ∷ 0 ∷ [])
+given : IsGiven reversal.types rev listed [] (3 ∷ 0 ∷ [])
 given = record {
   store = record {
     sized = ((omega arith, omega arith), ((omega arith, omega arith), tt));

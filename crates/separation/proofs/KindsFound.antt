@@ -9,7 +9,8 @@ use Rattle.separation_kinds.specs.cell_code.declared.code.Instr.TheVariants as I
 use Rattle.separation_kinds.specs.cell_code.declared.kind.From.{From}
 use Rattle.separation_kinds.specs.cell_code.declared.kind.Kind.{Kind}
 use Rattle.separation_kinds.specs.machine_semantics.Steps.{Kinds}
-use Rattle.separation_kinds.specs.code_rules.Codes.{PlainCode, PlainFunction, function_at, label_at}
+use Rattle.separation_kinds.specs.cell_code.Plain.{PlainFunction, PlainCode, function_at}
+use Rattle.separation_kinds.specs.code_rules.Codes.{label_at}
 use Rattle.separation_kinds.specs.code_rules.Kinds.{at, from_of}
 use Rattle.separation_kinds.specs.code_rules.Entry.{entry}
 use Rattle.separation_kinds.specs.code_rules.Taking.{part, is_heir, Chain, IsReached}

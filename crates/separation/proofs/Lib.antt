@@ -17,7 +17,6 @@ pub mod Stepping
 pub mod Loading
 pub mod Apartness
 pub mod Running
-pub mod CodesRun
 pub mod KindsFound
 pub mod Examples
 pub use Rattle.separation_kinds.proofs.code_rules as code_rules

@@ -15,7 +15,7 @@ use Rattle.separation_kinds.specs.machine_semantics.Steps.{Kinds, first_frame}
 use Rattle.separation_kinds.specs.machine_semantics.Runs.{lent_words, loaded, loaded_in}
 use Rattle.separation_kinds.specs.machine_semantics.Apart.{Holding, Nothing, Tree, Spare, LiesWithin, LiesIn, owned_uses, trees_uses, AreTrees, AreSpare}
 use Rattle.separation_kinds.specs.machine_semantics.Apart as A
-use Rattle.separation_kinds.specs.code_rules.Codes.{PlainCode, PlainFunction, function_at, results}
+use Rattle.separation_kinds.specs.cell_code.Plain.{PlainFunction, PlainCode, function_at, results}
 use Rattle.separation_kinds.specs.code_rules.Types.{is_type, is_scalar_type, all}
 use Rattle.separation_kinds.specs.code_rules.Kinds.{at}
 use Rattle.separation_kinds.specs.code_rules.Entry.{param_kind, gones, entry}
@@ -28,11 +28,10 @@ use Rattle.separation_kinds.proofs.Passing.{kind_lent, at_gones, gones_sum}
 use Rattle.separation_kinds.proofs.Takes.{sum_shift}
 use Rattle.separation.proofs.ReadingRows.{get_some}
 use Rattle.separation.proofs.Reading.{stand_length}
-use Rattle.separation.specs.Codes.{run_function, run_code}
 use Rattle.separation.specs.Alive.{IsAlive}
 use Rattle.separation.specs.Starts.{IsStart}
 use Rattle.separation.proofs.Sound.{formed, has_form}
-use Rattle.separation.proofs.Calling.{run_function_at, known_entry, entry_wide, first_long, length_append}
+use Rattle.separation.proofs.Calling.{known_entry, entry_wide, first_long, length_append}
 
 -- what the registers of the entry hold: the arguments' trees, then the credits' cells
 abbrev pub load_holds : Parts → List ℕ → ℕ → Holding
@@ -155,8 +154,8 @@ load_lent_words tb s (p ∷ ps) (MoreParts x xs) rest g =
     pick_two P true a c d e x y = x
     pick_two P false a c d e x y = y
 
-pub loaded_is : (c : PlainCode) (n : ℕ) (f : PlainFunction) (store : Store) (ws : List ℕ) (free : ℕ) (s : State) → function_at c n ≡ Some f → loaded (run_code c) n store ws free ≡ Some s → s ≡ record { store = store; running = first_frame n (run_function f) ws; waiting = []; free = free; lent = lent_words c.types f.params ws }
-loaded_is c n f store ws free s is e = sym (same_Some _ s (sym (ap (λ o. loaded_in c.types n o store ws free) (run_function_at c n f is)) ∙ e))
+pub loaded_is : (c : PlainCode) (n : ℕ) (f : PlainFunction) (store : Store) (ws : List ℕ) (free : ℕ) (s : State) → function_at c n ≡ Some f → loaded c n store ws free ≡ Some s → s ≡ record { store = store; running = first_frame n f ws; waiting = []; free = free; lent = lent_words c.types f.params ws }
+loaded_is c n f store ws free s is e = sym (same_Some _ s (sym (ap (λ o. loaded_in c.types n o store ws free) is) ∙ e))
 
 spare_length : (s : Store) (cs ss : List ℕ) → AreSpare s cs ss → length ss ≡ length cs
 spare_length s [] [] c = refl
@@ -164,7 +163,7 @@ spare_length s [] (p ∷ ps) c = absurd c
 spare_length s (k ∷ ks) [] c = absurd c
 spare_length s (k ∷ ks) (p ∷ ps) c = ap suc (spare_length s ks ps c.1)
 
-first_alive : (c : PlainCode) (n : ℕ) (f : PlainFunction) (store : Store) (kept ws : List ℕ) (free : ℕ) → IsSound c → function_at c n ≡ Some f → A.IsGiven c.types (run_function f) store kept ws → IsAlive c (results c n) kept (record { store = store; running = first_frame n (run_function f) ws; waiting = []; free = free; lent = lent_words c.types f.params ws })
+first_alive : (c : PlainCode) (n : ℕ) (f : PlainFunction) (store : Store) (kept ws : List ℕ) (free : ℕ) → IsSound c → function_at c n ≡ Some f → A.IsGiven c.types f store kept ws → IsAlive c (results c n) kept (record { store = store; running = first_frame n f ws; waiting = []; free = free; lent = lent_words c.types f.params ws })
 first_alive c n f store kept ws free sound is g =
     let form = has_form c f (formed c n f sound is) in
     let x = get_some f.instrs 0 form.some in

@@ -6,7 +6,7 @@ use Rattle.separation_kinds.specs.machine_semantics.Cells.{Store}
 use Rattle.separation_kinds.specs.machine_semantics.States.{State}
 use Rattle.separation_kinds.specs.machine_semantics.Rows as R
 use Rattle.separation_kinds.specs.machine_semantics.Steps.{went, went_with, trapped}
-use Rattle.separation_kinds.specs.code_rules.Codes.{PlainCode}
+use Rattle.separation_kinds.specs.cell_code.Plain.{PlainCode}
 use Rattle.separation_kinds.specs.code_rules.Kinds.{at}
 use Rattle.separation_kinds.specs.code_rules.Flow.{IsReachedAt}
 use Rattle.separation_kinds.specs.code_rules.Breaks.{IsSound}

@@ -7,7 +7,7 @@ use Rattle.separation_kinds.specs.cell_code.declared.kind.Kind.TheVariants.{Gone
 use Rattle.separation_kinds.specs.machine_semantics.Cells.{Store}
 use Rattle.separation_kinds.specs.machine_semantics.States.{Frame, Typed}
 use Rattle.separation_kinds.specs.machine_semantics.Apart.{Holding, Nothing, Tree, Spare, Slot, LiesWithin, LiesIn, owned_uses, slots_uses, frames_uses, trees_uses, held_tree, owned_tree, owned_trees, trees_below, AreTrees}
-use Rattle.separation_kinds.specs.code_rules.Codes.{PlainCode, results}
+use Rattle.separation_kinds.specs.cell_code.Plain.{PlainCode, results}
 use Rattle.separation_kinds.specs.code_rules.Types.{numbers}
 use Rattle.separation_kinds.specs.code_rules.Kinds.{at, is_owned}
 use Rattle.separation_kinds.specs.Meanings.{owned_by, sum_from, word_at, slot_of, slots_of}

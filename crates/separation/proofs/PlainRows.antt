@@ -15,7 +15,7 @@ use Rattle.separation_kinds.specs.machine_semantics.Trees.{Stands}
 use Rattle.separation_kinds.specs.machine_semantics.States.{State}
 use Rattle.separation_kinds.specs.machine_semantics.Rows as R
 use Rattle.separation_kinds.specs.machine_semantics.Apart.{Holding, Tree, owned_uses}
-use Rattle.separation_kinds.specs.code_rules.Codes.{PlainCode, PlainFunction}
+use Rattle.separation_kinds.specs.cell_code.Plain.{PlainFunction, PlainCode}
 use Rattle.separation_kinds.specs.code_rules.Types.{is_scalar_type, fields, fields_of, count}
 use Rattle.separation_kinds.specs.code_rules.Kinds.{at, is_free, is_owned, is_credit}
 use Rattle.separation_kinds.specs.code_rules.Ranges.{is_constructor}

@@ -18,7 +18,7 @@ use Rattle.separation_kinds.specs.machine_semantics.Trees.{IsTree, Stands}
 use Rattle.separation_kinds.specs.machine_semantics.States.{State}
 use Rattle.separation_kinds.specs.machine_semantics.Rows as R
 use Rattle.separation_kinds.specs.machine_semantics.Apart.{Holding, Tree, RootIn, LiesWithin, owned_uses}
-use Rattle.separation_kinds.specs.code_rules.Codes.{PlainCode, PlainFunction}
+use Rattle.separation_kinds.specs.cell_code.Plain.{PlainFunction, PlainCode}
 use Rattle.separation_kinds.specs.code_rules.Types.{is_type, is_scalar_type, fields, all, lent_kind}
 use Rattle.separation_kinds.specs.code_rules.Kinds.{at, is_free, is_owned, is_scalar_of, set_of, root_of}
 use Rattle.separation_kinds.specs.code_rules.Ranges.{is_target}

@@ -6,7 +6,8 @@ use Rattle.separation_kinds.specs.cell_code.declared.code.Instr.{Instr}
 use Rattle.separation_kinds.specs.cell_code.declared.kind.Kind.{Kind}
 use Rattle.separation_kinds.specs.code_rules.declared.rule.SoundRule.{SoundRule}
 use Rattle.separation_kinds.specs.code_rules.declared.rule.SoundRule.TheVariants.{S0, S1, S2, S3, S4, S5, S6, S7, S8, S9}
-use Rattle.separation_kinds.specs.code_rules.Codes.{PlainCode, PlainFunction, LabelMap, function_at, label_at, is_fip}
+use Rattle.separation_kinds.specs.cell_code.Plain.{LabelMap, PlainFunction, PlainCode, function_at}
+use Rattle.separation_kinds.specs.code_rules.Codes.{label_at, is_fip}
 use Rattle.separation_kinds.specs.code_rules.Tables.{AreSoundTables, bool_shapes}
 use Rattle.separation_kinds.specs.code_rules.Headers.{is_formed, are_good_maps, are_good_kinds, are_params, are_sizes, are_types}
 use Rattle.separation_kinds.specs.code_rules.Limits.{most_registers, most_results, most_credits}

@@ -13,7 +13,7 @@ use Rattle.separation_kinds.specs.machine_semantics.Trees.{HasPart, IsTree, Stan
 use Rattle.separation_kinds.specs.machine_semantics.States.{State}
 use Rattle.separation_kinds.specs.machine_semantics.Rows as R
 use Rattle.separation_kinds.specs.machine_semantics.Apart.{Holding, Nothing, Tree, Spare, RootIn, holding_uses, owned_uses}
-use Rattle.separation_kinds.specs.code_rules.Codes.{PlainCode, PlainFunction}
+use Rattle.separation_kinds.specs.cell_code.Plain.{PlainFunction, PlainCode}
 use Rattle.separation_kinds.specs.code_rules.Types.{fields, fields_of}
 use Rattle.separation_kinds.specs.code_rules.Kinds.{has, at, is_owned}
 use Rattle.separation_kinds.specs.code_rules.Ranges.{are_below}

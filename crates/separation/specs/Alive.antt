@@ -10,7 +10,7 @@ use Rattle.separation_kinds.specs.machine_semantics.Cells.{Store, IsStore, there
 use Rattle.separation_kinds.specs.machine_semantics.Trees.{StandAll}
 use Rattle.separation_kinds.specs.machine_semantics.States.{Frame, State, Next, Went, Entered, Gave, Trapped, TooDeep, Stuck}
 use Rattle.separation_kinds.specs.machine_semantics.Apart.{Holding, Slot, frames_uses, trees_uses, trees_below, AreTrees}
-use Rattle.separation_kinds.specs.code_rules.Codes.{PlainCode, PlainFunction, function_at, results}
+use Rattle.separation_kinds.specs.cell_code.Plain.{PlainFunction, PlainCode, function_at, results}
 use Rattle.separation_kinds.specs.code_rules.Kinds.{at}
 use Rattle.separation_kinds.specs.code_rules.Handing.{arguments}
 use Rattle.separation_kinds.specs.code_rules.Flow.{is_as_asked, IsInstr, KnownAt}

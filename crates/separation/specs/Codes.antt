@@ -1,15 +1,14 @@
--- A sound code as it is run, and the kinds that are known of its registers.
+-- What a run of a sound code relies on: ints of 64 bits, and the kinds that are known of its registers.
 --
 -- Of the reversal of a list, register 0 owns a list with constructor 0 or 1 before instruction 0, and register 0 is a
 -- credit of size 2 before instruction 4. At a Call the kinds that wait are those after its arguments.
-use Rattle.std.specs.Prelude.{◌≡◌, ℕ, false, List, Some, map, FitsSigned}
+use Rattle.std.specs.Prelude.{◌≡◌, ℕ, false, List, Some, FitsSigned}
 use Rattle.std.specs.Int.{w64}
 use Rattle.separation_kinds.specs.cell_code.declared.code.Instr.{Instr}
 use Rattle.separation_kinds.specs.cell_code.declared.code.Instr.TheVariants as I
 use Rattle.separation_kinds.specs.cell_code.declared.kind.Kind.{Kind}
-use Rattle.separation_kinds.specs.machine_semantics.Codes as R
 use Rattle.separation_kinds.specs.machine_semantics.Steps.{Kinds}
-use Rattle.separation_kinds.specs.code_rules.Codes.{PlainCode, PlainFunction, function_at}
+use Rattle.separation_kinds.specs.cell_code.Plain.{PlainFunction, PlainCode, function_at}
 use Rattle.separation_kinds.specs.code_rules.Handing.{arguments}
 use Rattle.separation_kinds.specs.code_rules.Flow.{IsInstr, KnownAt}
 
@@ -30,20 +29,6 @@ FitsLiteral (I.Call g rs ds) = Unit {0}
 FitsLiteral (I.Tail g rs) = Unit {0}
 FitsLiteral (I.Ret rs) = Unit {0}
 FitsLiteral (I.Jump target) = Unit {0}
-
--- what a run reads of a function
-abbrev pub run_function : PlainFunction → R.PlainFunction
-run_function f = record {
-  params = f.params;
-  credits = f.credits;
-  results = f.results;
-  registers = f.registers;
-  instrs = f.instrs;
-}
-
--- what it reads of a code
-abbrev pub run_code : PlainCode → R.PlainCode
-run_code c = record { types = c.types; functions = map run_function c.functions }
 
 -- All ints that the code writes have 64 bits, as those of every code in memory have.
 abbrev pub HasLiterals : PlainCode → Type 0

@@ -12,7 +12,7 @@ use Rattle.separation_kinds.specs.machine_semantics.Cells.{Store, IsStore, cell_
 use Rattle.separation_kinds.specs.machine_semantics.States.{State}
 use Rattle.separation_kinds.specs.machine_semantics.Rows as R
 use Rattle.separation_kinds.specs.machine_semantics.Apart.{Holding, trees_uses}
-use Rattle.separation_kinds.specs.code_rules.Codes.{PlainCode, PlainFunction}
+use Rattle.separation_kinds.specs.cell_code.Plain.{PlainFunction, PlainCode}
 use Rattle.separation_kinds.specs.code_rules.Kinds.{at}
 use Rattle.separation_kinds.specs.code_rules.Ranges.{in_range}
 use Rattle.separation_kinds.specs.code_rules.Asked.{sources, destinations}

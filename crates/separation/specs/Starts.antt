@@ -7,9 +7,9 @@ use Rattle.separation_kinds.specs.machine_semantics.Steps.{Kinds}
 use Rattle.separation_kinds.specs.machine_semantics.States.{State}
 use Rattle.separation_kinds.specs.machine_semantics.Runs.{loaded}
 use Rattle.separation_kinds.specs.machine_semantics.Given.{IsGiven}
-use Rattle.separation_kinds.specs.code_rules.Codes.{PlainCode, PlainFunction, function_at}
+use Rattle.separation_kinds.specs.cell_code.Plain.{PlainFunction, PlainCode, function_at}
 use Rattle.separation_kinds.specs.code_rules.Breaks.{IsSound}
-use Rattle.separation.specs.Codes.{run_function, run_code, HasLiterals, AreKinds}
+use Rattle.separation.specs.Codes.{HasLiterals, AreKinds}
 
 -- Function n of a sound code begins in state s, beside these kept cells.
 pub record IsStart (c : PlainCode) (before waits : Kinds) (n : ℕ) (kept : List ℕ) (s : State) : Type 0 where
@@ -19,6 +19,6 @@ pub record IsStart (c : PlainCode) (before waits : Kinds) (n : ℕ) (kept : List
   pub function : PlainFunction
   pub is : function_at c n ≡ Some function
   pub words : List ℕ
-  pub given : IsGiven c.types (run_function function) s.store kept words
+  pub given : IsGiven c.types function s.store kept words
   pub free : ℕ
-  pub loaded : loaded (run_code c) n s.store words free ≡ Some s
+  pub loaded : loaded c n s.store words free ≡ Some s

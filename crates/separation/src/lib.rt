@@ -6,5 +6,5 @@ mod state_theorems;
 
 pub use state_theorems::{
     a_loaded_state_is_apart, an_example_begins, each_step_keeps_what_holds, every_state_is_apart,
-    kinds_are_there, no_instruction_is_stuck, results_are_apart, runs_read_the_code,
+    kinds_are_there, no_instruction_is_stuck, results_are_apart,
 };

@@ -1,23 +1,16 @@
 // The theorems of runs of sound code. Each is the contract of a function that does nothing.
 ghost use Rattle.std.specs.Prelude.{◌≡◌, ℕ, List, []};
-ghost use Rattle.separation_kinds.specs.cell_code.declared.code.Code.{Code};
-ghost use Rattle.separation_kinds.specs.machine_semantics.Codes as R;
+ghost use Rattle.separation_kinds.specs.cell_code.Plain.{PlainCode, results};
 ghost use Rattle.separation_kinds.specs.machine_semantics.States.{State};
 ghost use Rattle.separation_kinds.specs.machine_semantics.Steps.{Kinds, next};
 ghost use Rattle.separation_kinds.specs.machine_semantics.Runs.{Value, Unsound, Over, state_of, begun, after};
 ghost use Rattle.separation_kinds.specs.machine_semantics.Apart.{Apart, GivesApart};
 ghost use Rattle.separation_kinds.specs.machine_semantics.Example.{listed, first};
-ghost use Rattle.separation_kinds.specs.code_rules.Codes.{PlainCode, plain, results};
 ghost use Rattle.separation_kinds.specs.code_rules.Breaks.{IsSound};
 ghost use Rattle.separation_kinds.specs.code_rules.Example.{reversal};
-ghost use Rattle.separation.specs.Codes.{run_code, HasLiterals, AreKinds};
+ghost use Rattle.separation.specs.Codes.{HasLiterals, AreKinds};
 ghost use Rattle.separation.specs.Alive.{IsAlive, IsGood};
 ghost use Rattle.separation.specs.Starts.{IsStart};
-
-/// A code in memory is run as it is verified. For who runs the code that the verifier took.
-pub fn runs_read_the_code()
-    ensures theorem { (c : Code) → run_code (plain c) ≡ R.plain c }
-{}
 
 /// Every code has its kinds: those before each instruction that is reached, and those that wait at a Call. For who
 /// doubts that a run can begin.
@@ -28,7 +21,7 @@ pub fn kinds_are_there()
 /// The state in which an entry of sound code begins has its cells apart. For who loads a run.
 pub fn a_loaded_state_is_apart()
     ensures theorem { (c : PlainCode) (before waits : Kinds) (n : ℕ) (kept : List ℕ) (s : State) →
-        IsStart c before waits n kept s → Apart before waits (run_code c) kept s }
+        IsStart c before waits n kept s → Apart before waits c kept s }
 {}
 
 /// What holds of every state of a run, in the form that each step keeps: it holds of the first one; what comes after
@@ -39,9 +32,9 @@ pub fn each_step_keeps_what_holds()
         IsStart c before waits n kept s → IsAlive c (results c n) kept s }
     ensures next { (c : PlainCode) (before waits : Kinds) (types kept : List ℕ) (s : State) → IsSound c →
         HasLiterals c → AreKinds c before waits → IsAlive c types kept s →
-        IsGood c types kept s (next before (run_code c) s) }
+        IsGood c types kept s (next before c s) }
     ensures apart { (c : PlainCode) (before waits : Kinds) (types kept : List ℕ) (s : State) →
-        AreKinds c before waits → IsAlive c types kept s → Apart before waits (run_code c) kept s }
+        AreKinds c before waits → IsAlive c types kept s → Apart before waits c kept s }
 {}
 
 /// Every state of a run of sound code has its cells apart, with the same kept cells, however the code was made. For who
@@ -49,14 +42,14 @@ pub fn each_step_keeps_what_holds()
 pub fn every_state_is_apart()
     ensures theorem { (c : PlainCode) (before waits : Kinds) (n : ℕ) (kept : List ℕ) (s : State) (calls steps : ℕ) →
         IsStart c before waits n kept s →
-        Apart before waits (run_code c) kept (state_of (after before (run_code c) steps (begun s calls))) }
+        Apart before waits c kept (state_of (after before c steps (begun s calls))) }
 {}
 
 /// No run of sound code ends because an instruction can't be done. For who runs it without a test.
 pub fn no_instruction_is_stuck()
     ensures theorem { (c : PlainCode) (before waits : Kinds) (n : ℕ) (kept : List ℕ) (s : State) (calls steps : ℕ)
         (last : State) (left done : ℕ) → IsStart c before waits n kept s →
-        after before (run_code c) steps (begun s calls) ≡ Over Unsound last left done → ⊥ }
+        after before c steps (begun s calls) ≡ Over Unsound last left done → ⊥ }
 {}
 
 /// The words that a run of sound code gives stand for trees of the entry's result types, which are apart from the lent
@@ -64,8 +57,8 @@ pub fn no_instruction_is_stuck()
 pub fn results_are_apart()
     ensures theorem { (c : PlainCode) (before waits : Kinds) (n : ℕ) (kept : List ℕ) (s : State) (calls steps : ℕ)
         (words : List ℕ) (last : State) (left done : ℕ) → IsStart c before waits n kept s →
-        after before (run_code c) steps (begun s calls) ≡ Over (Value words) last left done →
-        GivesApart (run_code c) n kept last words }
+        after before c steps (begun s calls) ≡ Over (Value words) last left done →
+        GivesApart c n kept last words }
 {}
 
 /// The reversal of a list of two items begins in the state that has just the two cells. For who wants to see that what

@@ -6,7 +6,8 @@ use Rattle.std.proofs.lemmas.Option.{same_Some}
 use Rattle.separation.specs.machine_semantics.Cells.{Store}
 use Rattle.separation.specs.machine_semantics.States.{Frame, words_of_frame}
 use Rattle.separation.specs.fip_language.Store.{Placed}
-use Rattle.separation.specs.code_rules.Codes.{PlainCode, PlainFunction, function_at, is_fip}
+use Rattle.separation.specs.cell_code.Plain.{PlainFunction, PlainCode, function_at}
+use Rattle.separation.specs.code_rules.Codes.{is_fip}
 use Rattle.separation.specs.code_rules.Limits.{frame_words}
 use Rattle.separation.specs.code_rules.StackNumbers.{IsFip, words_of, words_at}
 use Rattle.separation.proofs.separation_kinds.Basics.{chosen}

@@ -8,11 +8,9 @@ use Rattle.separation.specs.machine_semantics.Kept.{Keeps}
 use Rattle.separation.specs.machine_semantics.States.{State, Next, Went, Entered, Gave, Trapped, TooDeep, Stuck}
 use Rattle.separation.specs.machine_semantics.Steps.{Kinds, next}
 use Rattle.separation.specs.machine_semantics.Runs.{Run, Going, Over, state_of, begun, comes, later, after}
-use Rattle.separation.specs.machine_semantics.Codes as R
+use Rattle.separation.specs.cell_code.Plain.{PlainCode}
 use Rattle.separation.proofs.machine_semantics.Sizes.{went_keeps, entered_keeps}
-use Rattle.separation.specs.code_rules.Codes.{PlainCode}
 use Rattle.separation.specs.code_rules.StackNumbers.{IsFip}
-use Rattle.separation.specs.Codes.{run_code}
 use Rattle.separation.specs.Starts.{IsStart}
 use Rattle.separation.proofs.Running.{run_alive}
 use Rattle.separation_bounds.specs.Held.{IsHeld}
@@ -96,41 +94,41 @@ comes_keeps s zero n TooDeep a b = keeps_itself s.store
 comes_keeps s (suc left) n TooDeep a b = keeps_itself s.store
 comes_keeps s left n Stuck a b = keeps_itself s.store
 
-later_keeps : (kinds : Kinds) (code : R.PlainCode) (r : Run) → Keeps (state_of r).store (state_of (later kinds code r)).store
+later_keeps : (kinds : Kinds) (code : PlainCode) (r : Run) → Keeps (state_of r).store (state_of (later kinds code r)).store
 later_keeps kinds code (Going s left n) = comes_keeps s left (suc n) (next kinds code s) (went_keeps kinds code s) (entered_keeps kinds code s)
 later_keeps kinds code (Over e s left n) = keeps_itself s.store
 
-after_keeps : (kinds : Kinds) (code : R.PlainCode) (k : ℕ) (r : Run) → Keeps (state_of r).store (state_of (after kinds code k r)).store
+after_keeps : (kinds : Kinds) (code : PlainCode) (k : ℕ) (r : Run) → Keeps (state_of r).store (state_of (after kinds code k r)).store
 after_keeps kinds code zero r = keeps_itself (state_of r).store
 after_keeps kinds code (suc k) r = keeps_both (state_of r).store (state_of (later kinds code r)).store (state_of (after kinds code k (later kinds code r))).store (later_keeps kinds code r) (after_keeps kinds code k (later kinds code r))
 
-pub after_later : (kinds : Kinds) (code : R.PlainCode) (k : ℕ) (r : Run) → after kinds code (suc k) r ≡ later kinds code (after kinds code k r)
+pub after_later : (kinds : Kinds) (code : PlainCode) (k : ℕ) (r : Run) → after kinds code (suc k) r ≡ later kinds code (after kinds code k r)
 after_later kinds code zero r = refl
 after_later kinds code (suc k) r = after_later kinds code k (later kinds code r)
 
-step_keeps : (kinds : Kinds) (code : R.PlainCode) (k : ℕ) (r : Run) → Keeps (state_of (after kinds code k r)).store (state_of (after kinds code (suc k) r)).store
+step_keeps : (kinds : Kinds) (code : PlainCode) (k : ℕ) (r : Run) → Keeps (state_of (after kinds code k r)).store (state_of (after kinds code (suc k) r)).store
 step_keeps kinds code k r = subst (λ u. Keeps (state_of (after kinds code k r)).store (state_of u).store) (sym (after_later kinds code k r)) (later_keeps kinds code (after kinds code k r))
 
 begun_state : (s : State) (calls : ℕ) → state_of (begun s calls) ≡ s
 begun_state s zero = refl
 begun_state s (suc left) = refl
 
-pub run_held : (c : PlainCode) (before waits : Kinds) (n : ℕ) (kept : List ℕ) (s : State) (calls k q : ℕ) → IsStart c before waits n kept s → IsHeld (state_of (after before (run_code c) (suc k) (begun s calls))).store q → IsHeld (state_of (after before (run_code c) k (begun s calls))).store q
-run_held c before waits n kept s calls k q t h = held_before (state_of (after before (run_code c) k (begun s calls))).store (state_of (after before (run_code c) (suc k) (begun s calls))).store q (run_alive c before waits n kept s calls k t).store (run_alive c before waits n kept s calls (suc k) t).store (step_keeps before (run_code c) k (begun s calls)) h
+pub run_held : (c : PlainCode) (before waits : Kinds) (n : ℕ) (kept : List ℕ) (s : State) (calls k q : ℕ) → IsStart c before waits n kept s → IsHeld (state_of (after before c (suc k) (begun s calls))).store q → IsHeld (state_of (after before c k (begun s calls))).store q
+run_held c before waits n kept s calls k q t h = held_before (state_of (after before c k (begun s calls))).store (state_of (after before c (suc k) (begun s calls))).store q (run_alive c before waits n kept s calls k t).store (run_alive c before waits n kept s calls (suc k) t).store (step_keeps before c k (begun s calls)) h
 
-pub run_count : (c : PlainCode) (before waits : Kinds) (n : ℕ) (kept : List ℕ) (s : State) (calls k size : ℕ) → IsStart c before waits n kept s → count_held size (state_of (after before (run_code c) (suc k) (begun s calls))).store ≤ count_held size (state_of (after before (run_code c) k (begun s calls))).store
-run_count c before waits n kept s calls k size t = count_falls size (state_of (after before (run_code c) k (begun s calls))).store (state_of (after before (run_code c) (suc k) (begun s calls))).store (run_alive c before waits n kept s calls k t).store (run_alive c before waits n kept s calls (suc k) t).store (step_keeps before (run_code c) k (begun s calls))
+pub run_count : (c : PlainCode) (before waits : Kinds) (n : ℕ) (kept : List ℕ) (s : State) (calls k size : ℕ) → IsStart c before waits n kept s → count_held size (state_of (after before c (suc k) (begun s calls))).store ≤ count_held size (state_of (after before c k (begun s calls))).store
+run_count c before waits n kept s calls k size t = count_falls size (state_of (after before c k (begun s calls))).store (state_of (after before c (suc k) (begun s calls))).store (run_alive c before waits n kept s calls k t).store (run_alive c before waits n kept s calls (suc k) t).store (step_keeps before c k (begun s calls))
 
-pub start_keeps : (kinds : Kinds) (code : R.PlainCode) (k : ℕ) (s : State) (calls : ℕ) → Keeps s.store (state_of (after kinds code k (begun s calls))).store
+pub start_keeps : (kinds : Kinds) (code : PlainCode) (k : ℕ) (s : State) (calls : ℕ) → Keeps s.store (state_of (after kinds code k (begun s calls))).store
 start_keeps kinds code k s calls = subst (λ (u : State). Keeps u.store (state_of (after kinds code k (begun s calls))).store) (begun_state s calls) (after_keeps kinds code k (begun s calls))
 
 back : (s t : Store) → t.released ≡ s.released → Keeps s t → Keeps t s
 back s t e k = record { sizes = sym k.sizes; released = λ q on. subst (λ rs. slice_get rs q ≡ Some true) e on }
 
-pub fip_count : (c : PlainCode) (before waits : Kinds) (n : ℕ) (kept : List ℕ) (s : State) (calls k size : ℕ) → IsStart c before waits n kept s → IsFip c n → count_held size (state_of (after before (run_code c) k (begun s calls))).store ≡ count_held size s.store
+pub fip_count : (c : PlainCode) (before waits : Kinds) (n : ℕ) (kept : List ℕ) (s : State) (calls k size : ℕ) → IsStart c before waits n kept s → IsFip c n → count_held size (state_of (after before c k (begun s calls))).store ≡ count_held size s.store
 fip_count c before waits n kept s calls k size t fip =
-    let u : Store = (state_of (after before (run_code c) k (begun s calls))).store in
-    let keeps : Keeps s.store u = start_keeps before (run_code c) k s calls in
+    let u : Store = (state_of (after before c k (begun s calls))).store in
+    let keeps : Keeps s.store u = start_keeps before c k s calls in
     let good : IsStore u = (run_alive c before waits n kept s calls k t).store in
     let first : IsStore s.store = subst (λ (v : State). IsStore v.store) (begun_state s calls) (run_alive c before waits n kept s calls 0 t).store in
     let down = count_falls size s.store u first good keeps in

@@ -6,10 +6,10 @@ use Rattle.separation.specs.machine_semantics.Cells.{Store}
 use Rattle.separation.specs.machine_semantics.States.{State, Next, Went, Entered, Gave, Trapped, TooDeep, Stuck, frames_held, words_of_frame, words_held}
 use Rattle.separation.specs.machine_semantics.Steps.{Kinds, next}
 use Rattle.separation.specs.machine_semantics.Runs.{Deep, Run, Going, Over, state_of, begun, comes, later, after}
-use Rattle.separation.specs.code_rules.Codes.{PlainCode, results}
+use Rattle.separation.specs.cell_code.Plain.{PlainCode, results}
 use Rattle.separation.specs.code_rules.StackNumbers.{IsFip, IsStack, words_at}
 use Rattle.separation.specs.code_rules.Breaks.{IsSound}
-use Rattle.separation.specs.Codes.{run_code, HasLiterals, AreKinds}
+use Rattle.separation.specs.Codes.{HasLiterals, AreKinds}
 use Rattle.separation.specs.Starts.{IsStart}
 use Rattle.separation.proofs.Loading.{start_alive, loaded_is}
 use Rattle.separation.proofs.Running.{GoodRun, later_good, run_alive, begun_good}
@@ -35,13 +35,13 @@ comes_fip c own frames weight words n d first s zero k TooDeep f g = (f, λ e. c
 comes_fip c own frames weight words n d first s (suc left) k TooDeep f g = (f, λ e. g)
 comes_fip c own frames weight words n d first s left k Stuck f g = (f, λ e. cc)
 
-later_fip : (c : PlainCode) (before waits : Kinds) (own frames weight words : ℕ → ℕ) (n d : ℕ) (types kept : List ℕ) (first : Store) (r : Run) → IsSound c → AreKinds c before waits → AreNumbers c own frames weight words → GoodRun c types kept r → FipRun c own frames weight words n d first r → FipRun c own frames weight words n d first (later before (run_code c) r)
-later_fip c before waits own frames weight words n d types kept first (Going s left k) sound kinds m a f = comes_fip c own frames weight words n d first s left (suc k) (next before (run_code c) s) f (next_in_place c before waits own frames weight words n d types kept s sound kinds m a f.place)
+later_fip : (c : PlainCode) (before waits : Kinds) (own frames weight words : ℕ → ℕ) (n d : ℕ) (types kept : List ℕ) (first : Store) (r : Run) → IsSound c → AreKinds c before waits → AreNumbers c own frames weight words → GoodRun c types kept r → FipRun c own frames weight words n d first r → FipRun c own frames weight words n d first (later before c r)
+later_fip c before waits own frames weight words n d types kept first (Going s left k) sound kinds m a f = comes_fip c own frames weight words n d first s left (suc k) (next before c s) f (next_in_place c before waits own frames weight words n d types kept s sound kinds m a f.place)
 later_fip c before waits own frames weight words n d types kept first (Over e s left k) sound kinds m a f = f
 
-after_fip : (c : PlainCode) (before waits : Kinds) (own frames weight words : ℕ → ℕ) (n d : ℕ) (types kept : List ℕ) (first : Store) (k : ℕ) (r : Run) → IsSound c → HasLiterals c → AreKinds c before waits → AreNumbers c own frames weight words → GoodRun c types kept r → FipRun c own frames weight words n d first r → FipRun c own frames weight words n d first (after before (run_code c) k r)
+after_fip : (c : PlainCode) (before waits : Kinds) (own frames weight words : ℕ → ℕ) (n d : ℕ) (types kept : List ℕ) (first : Store) (k : ℕ) (r : Run) → IsSound c → HasLiterals c → AreKinds c before waits → AreNumbers c own frames weight words → GoodRun c types kept r → FipRun c own frames weight words n d first r → FipRun c own frames weight words n d first (after before c k r)
 after_fip c before waits own frames weight words n d types kept first zero r sound literals kinds m a f = f
-after_fip c before waits own frames weight words n d types kept first (suc k) r sound literals kinds m a f = after_fip c before waits own frames weight words n d types kept first k (later before (run_code c) r) sound literals kinds m (later_good c before waits types kept r sound literals kinds a) (later_fip c before waits own frames weight words n d types kept first r sound kinds m a f)
+after_fip c before waits own frames weight words n d types kept first (suc k) r sound literals kinds m a f = after_fip c before waits own frames weight words n d types kept first k (later before c r) sound literals kinds m (later_good c before waits types kept r sound literals kinds a) (later_fip c before waits own frames weight words n d types kept first r sound kinds m a f)
 
 begun_fip : (c : PlainCode) (own frames weight words : ℕ → ℕ) (n d : ℕ) (first : Store) (s : State) (calls : ℕ) → FipState c own frames weight words n d first s → FipRun c own frames weight words n d first (begun s calls)
 begun_fip c own frames weight words n d first s zero f = (f, λ e. cc)
@@ -62,7 +62,7 @@ start_fip c before waits own frames weight words n kept s t fip =
       released = refl;
     }
 
-run_fip : (c : PlainCode) (before waits : Kinds) (own frames weight words : ℕ → ℕ) (n : ℕ) (kept : List ℕ) (s : State) (calls k : ℕ) → IsStart c before waits n kept s → IsFip c n → AreNumbers c own frames weight words → FipRun c own frames weight words n s.free s.store (after before (run_code c) k (begun s calls))
+run_fip : (c : PlainCode) (before waits : Kinds) (own frames weight words : ℕ → ℕ) (n : ℕ) (kept : List ℕ) (s : State) (calls k : ℕ) → IsStart c before waits n kept s → IsFip c n → AreNumbers c own frames weight words → FipRun c own frames weight words n s.free s.store (after before c k (begun s calls))
 run_fip c before waits own frames weight words n kept s calls k t fip m = after_fip c before waits own frames weight words n s.free (results c n) kept s.store k (begun s calls) t.sound t.literals t.kinds m (begun_good c (results c n) kept s calls (start_alive c before waits n kept s t)) (begun_fip c own frames weight words n s.free s.store s calls (start_fip c before waits own frames weight words n kept s t fip))
 
 fip_state : (c : PlainCode) (own frames weight words : ℕ → ℕ) (n d : ℕ) (first : Store) (r : Run) → FipRun c own frames weight words n d first r → FipState c own frames weight words n d first (state_of r)
@@ -74,17 +74,17 @@ numbers_of c n stack i = record { frames_in = i.are_frames.0.calls_in; words_in 
 
 -- ---- the stack
 
-pub frames_within : (c : PlainCode) (before waits : Kinds) (n : ℕ) (kept : List ℕ) (s : State) (calls k : ℕ) (stack : Stack) → IsStart c before waits n kept s → IsFip c n → IsStack c n stack → frames_held (state_of (after before (run_code c) k (begun s calls))) ≤ stack.frames
+pub frames_within : (c : PlainCode) (before waits : Kinds) (n : ℕ) (kept : List ℕ) (s : State) (calls k : ℕ) (stack : Stack) → IsStart c before waits n kept s → IsFip c n → IsStack c n stack → frames_held (state_of (after before c k (begun s calls))) ≤ stack.frames
 frames_within c before waits n kept s calls k stack t fip i =
-    let r : Run = after before (run_code c) k (begun s calls) in
+    let r : Run = after before c k (begun s calls) in
     let f = fip_state c own_frames i.frames (words_at c) i.words n s.free s.store r (run_fip c before waits own_frames i.frames (words_at c) i.words n kept s calls k t fip (numbers_of c n stack i)) in
     let a = covered_frames c own_frames i.frames (i.frames n) (state_of r).running.function (state_of r).waiting (λ f. refl) f.place.frames_covered in
     let e = ap (λ (s : Stack). s.frames) i.is in
     omega arith
 
-pub words_within : (c : PlainCode) (before waits : Kinds) (n : ℕ) (kept : List ℕ) (s : State) (calls k : ℕ) (stack : Stack) → IsStart c before waits n kept s → IsFip c n → IsStack c n stack → words_held (state_of (after before (run_code c) k (begun s calls))) ≤ stack.words
+pub words_within : (c : PlainCode) (before waits : Kinds) (n : ℕ) (kept : List ℕ) (s : State) (calls k : ℕ) (stack : Stack) → IsStart c before waits n kept s → IsFip c n → IsStack c n stack → words_held (state_of (after before c k (begun s calls))) ≤ stack.words
 words_within c before waits n kept s calls k stack t fip i =
-    let r : Run = after before (run_code c) k (begun s calls) in
+    let r : Run = after before c k (begun s calls) in
     let u : State = state_of r in
     let m = numbers_of c n stack i in
     let f = fip_state c own_frames i.frames (words_at c) i.words n s.free s.store r (run_fip c before waits own_frames i.frames (words_at c) i.words n kept s calls k t fip m) in
@@ -101,10 +101,10 @@ words_within c before waits n kept s calls k stack t fip i =
 end_deep : (c : PlainCode) (frames words_own words : ℕ → ℕ) (n d : ℕ) (first : Store) (r : Run) (last : State) (left done : ℕ) → r ≡ Over Deep last left done → FipRun c own_frames frames words_own words n d first r → frames n ≤ d → ⊥
 end_deep c frames words_own words n d first r last left done is f = (subst (FipRun c own_frames frames words_own words n d first) is f).1 refl (λ f. refl)
 
-pub never_deep : (c : PlainCode) (before waits : Kinds) (n : ℕ) (kept : List ℕ) (s : State) (calls k : ℕ) (stack : Stack) (last : State) (left done : ℕ) → IsStart c before waits n kept s → IsFip c n → IsStack c n stack → stack.frames ≤ s.free → after before (run_code c) k (begun s calls) ≡ Over Deep last left done → ⊥
+pub never_deep : (c : PlainCode) (before waits : Kinds) (n : ℕ) (kept : List ℕ) (s : State) (calls k : ℕ) (stack : Stack) (last : State) (left done : ℕ) → IsStart c before waits n kept s → IsFip c n → IsStack c n stack → stack.frames ≤ s.free → after before c k (begun s calls) ≡ Over Deep last left done → ⊥
 never_deep c before waits n kept s calls k stack last left done t fip i enough is =
     let e = ap (λ (s : Stack). s.frames) i.is in
-    end_deep c i.frames (words_at c) i.words n s.free s.store (after before (run_code c) k (begun s calls)) last left done is (run_fip c before waits own_frames i.frames (words_at c) i.words n kept s calls k t fip (numbers_of c n stack i)) (omega arith)
+    end_deep c i.frames (words_at c) i.words n s.free s.store (after before c k (begun s calls)) last left done is (run_fip c before waits own_frames i.frames (words_at c) i.words n kept s calls k t fip (numbers_of c n stack i)) (omega arith)
 
 -- ---- cells
 
@@ -115,5 +115,5 @@ no_numbers c = record { frames_in = λ f g k calls. none k; words_in = λ f g k 
     none true = omega arith
     none false = omega arith
 
-pub fip_releases : (c : PlainCode) (before waits : Kinds) (n : ℕ) (kept : List ℕ) (s : State) (calls k : ℕ) → IsStart c before waits n kept s → IsFip c n → (state_of (after before (run_code c) k (begun s calls))).store.released ≡ s.store.released
-fip_releases c before waits n kept s calls k t fip = (fip_state c (λ f. 0) (λ f. 0) (λ f. 0) (λ f. 0) n s.free s.store (after before (run_code c) k (begun s calls)) (run_fip c before waits (λ f. 0) (λ f. 0) (λ f. 0) (λ f. 0) n kept s calls k t fip (no_numbers c))).released
+pub fip_releases : (c : PlainCode) (before waits : Kinds) (n : ℕ) (kept : List ℕ) (s : State) (calls k : ℕ) → IsStart c before waits n kept s → IsFip c n → (state_of (after before c k (begun s calls))).store.released ≡ s.store.released
+fip_releases c before waits n kept s calls k t fip = (fip_state c (λ f. 0) (λ f. 0) (λ f. 0) (λ f. 0) n s.free s.store (after before c k (begun s calls)) (run_fip c before waits (λ f. 0) (λ f. 0) (λ f. 0) (λ f. 0) n kept s calls k t fip (no_numbers c))).released

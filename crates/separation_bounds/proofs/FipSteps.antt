@@ -6,20 +6,20 @@ use Rattle.separation.specs.fip_language.declared.TrapKind.{TrapKind}
 use Rattle.separation.specs.cell_code.declared.code.Instr.{Instr}
 use Rattle.separation.specs.cell_code.declared.code.Instr.TheVariants as I
 use Rattle.separation.specs.call_groups.Stacks.{charge}
-use Rattle.separation.specs.machine_semantics.Codes as R
+use Rattle.separation.specs.cell_code.Plain.{PlainFunction, PlainCode, function_at}
 use Rattle.separation.specs.machine_semantics.Cells.{Store, changed_by}
 use Rattle.separation.specs.machine_semantics.Rows as D
 use Rattle.separation.specs.machine_semantics.States.{Frame, State, Next, Went, Entered, Gave, Trapped, TooDeep, Stuck}
 use Rattle.separation.specs.machine_semantics.Steps.{Kinds, went, went_with, called, called_with, replaced, returned, resumed, trapped, act, act_at, next, instr_of, kinds_of}
 use Rattle.separation.specs.machine_semantics.Steps as T
-use Rattle.separation.specs.code_rules.Codes.{PlainCode, PlainFunction, function_at, is_fip, is_weak, is_weaker}
+use Rattle.separation.specs.code_rules.Codes.{is_fip, is_weak, is_weaker}
 use Rattle.separation.specs.code_rules.Ranges.{in_range}
 use Rattle.separation.specs.code_rules.Endings.{releases}
 use Rattle.separation.specs.code_rules.Calls.{IsCall, CallsAt}
 use Rattle.separation.specs.code_rules.StackNumbers.{IsFip, FipCalls}
 use Rattle.separation.specs.code_rules.Breaks.{IsSound}
 use Rattle.separation.proofs.separation_kinds.Basics.{both, below}
-use Rattle.separation.specs.Codes.{run_code, AreKinds}
+use Rattle.separation.specs.Codes.{AreKinds}
 use Rattle.separation.specs.Alive.{IsAlive}
 use Rattle.separation.proofs.Sound.{formed, ranged, keeps_fip}
 use Rattle.separation.proofs.Local.{reached}
@@ -87,7 +87,7 @@ calls_at c types kept s x g waits sound a e call h = record {
   there = h;
 }
 
-called_in_place : (c : PlainCode) (own frames weight words : ℕ → ℕ) (n d : ℕ) (s : State) (g : ℕ) (o : Option R.PlainFunction) (vs : Option (List ℕ)) → AreNumbers c own frames weight words → IsFip c g → FipCalls c s.running.function g true → InPlace c own frames weight words n d s → StaysInPlace c own frames weight words n d s (called s g o vs)
+called_in_place : (c : PlainCode) (own frames weight words : ℕ → ℕ) (n d : ℕ) (s : State) (g : ℕ) (o : Option PlainFunction) (vs : Option (List ℕ)) → AreNumbers c own frames weight words → IsFip c g → FipCalls c s.running.function g true → InPlace c own frames weight words n d s → StaysInPlace c own frames weight words n d s (called s g o vs)
 called_in_place c own frames weight words n d s g None vs m fip calls p = tt
 called_in_place c own frames weight words n d s g (Some f) None m fip calls p = tt
 called_in_place c own frames weight words n d s g (Some f) (Some vs) m fip calls p = by s.free refl
@@ -110,7 +110,7 @@ called_in_place c own frames weight words n d s g (Some f) (Some vs) m fip calls
       refl,
     )
 
-replaced_in_place : (c : PlainCode) (own frames weight words : ℕ → ℕ) (n d : ℕ) (s : State) (g : ℕ) (o : Option R.PlainFunction) (vs : Option (List ℕ)) → AreNumbers c own frames weight words → IsFip c g → FipCalls c s.running.function g false → InPlace c own frames weight words n d s → StaysInPlace c own frames weight words n d s (replaced s g o vs)
+replaced_in_place : (c : PlainCode) (own frames weight words : ℕ → ℕ) (n d : ℕ) (s : State) (g : ℕ) (o : Option PlainFunction) (vs : Option (List ℕ)) → AreNumbers c own frames weight words → IsFip c g → FipCalls c s.running.function g false → InPlace c own frames weight words n d s → StaysInPlace c own frames weight words n d s (replaced s g o vs)
 replaced_in_place c own frames weight words n d s g None vs m fip calls p = tt
 replaced_in_place c own frames weight words n d s g (Some f) None m fip calls p = tt
 replaced_in_place c own frames weight words n d s g (Some f) (Some vs) m fip calls p =
@@ -132,14 +132,14 @@ resumed_in_place c own frames weight words n d s w ws (Some vs) e p =
     let b = subst (AreCovered c weight words (words n) s.running.function) e p.words_covered in
     (record { fip = a.0; frames_covered = a.2; words_covered = b.2; free = (let x = p.free in let l = ap length e in omega arith) }, refl)
 
-returned_in_place : (c : PlainCode) (own frames weight words : ℕ → ℕ) (n d : ℕ) (s : State) (ws : List Frame) (o : Option (List ℕ)) → s.waiting ≡ ws → InPlace c own frames weight words n d s → StaysInPlace c own frames weight words n d s (returned (run_code c) s ws o)
+returned_in_place : (c : PlainCode) (own frames weight words : ℕ → ℕ) (n d : ℕ) (s : State) (ws : List Frame) (o : Option (List ℕ)) → s.waiting ≡ ws → InPlace c own frames weight words n d s → StaysInPlace c own frames weight words n d s (returned c s ws o)
 returned_in_place c own frames weight words n d s ws None e p = tt
 returned_in_place c own frames weight words n d s [] (Some vs) e p = tt
-returned_in_place c own frames weight words n d s (w ∷ ws) (Some vs) e p = resumed_in_place c own frames weight words n d s w ws (option_and_then (λ ds. D.write_all w.words ds vs) (T.destinations (run_code c) w)) e p
+returned_in_place c own frames weight words n d s (w ∷ ws) (Some vs) e p = resumed_in_place c own frames weight words n d s w ws (option_and_then (λ ds. D.write_all w.words ds vs) (T.destinations c w)) e p
 
 -- ---- every step
 
-act_in_place : (c : PlainCode) (own frames weight words : ℕ → ℕ) (n d : ℕ) (types kept : List ℕ) (s : State) (x : Instr) → IsSound c → AreNumbers c own frames weight words → (a : IsAlive c types kept s) → a.instr ≡ x → releases c x ≡ false → in_range c a.function s.running.at x ≡ true → InPlace c own frames weight words n d s → StaysInPlace c own frames weight words n d s (act (run_code c) a.kinds s x)
+act_in_place : (c : PlainCode) (own frames weight words : ℕ → ℕ) (n d : ℕ) (types kept : List ℕ) (s : State) (x : Instr) → IsSound c → AreNumbers c own frames weight words → (a : IsAlive c types kept s) → a.instr ≡ x → releases c x ≡ false → in_range c a.function s.running.at x ≡ true → InPlace c own frames weight words n d s → StaysInPlace c own frames weight words n d s (act c a.kinds s x)
 act_in_place c own frames weight words n d types kept s (I.Const e v) sound m a is r b p = went_in_place c own frames weight words n d s _ (quiet c a.kinds s (I.Const e v) r) p
 act_in_place c own frames weight words n d types kept s (I.Atom e t k) sound m a is r b p = went_in_place c own frames weight words n d s _ (quiet c a.kinds s (I.Atom e t k) r) p
 act_in_place c own frames weight words n d types kept s (I.Move e q) sound m a is r b p = went_in_place c own frames weight words n d s _ (quiet c a.kinds s (I.Move e q) r) p
@@ -160,10 +160,10 @@ act_in_place c own frames weight words n d types kept s (I.Tail g rs) sound m a 
 act_in_place c own frames weight words n d types kept s (I.Ret rs) sound m a is r b p = returned_in_place c own frames weight words n d s s.waiting (D.read_all s.running.words rs) refl p
 act_in_place c own frames weight words n d types kept s (I.Jump target) sound m a is r b p = went_in_place c own frames weight words n d s (D.done c.types a.kinds s (I.Jump target)) (quiet c a.kinds s (I.Jump target) r) p
 
-pub next_in_place : (c : PlainCode) (before waits : Kinds) (own frames weight words : ℕ → ℕ) (n d : ℕ) (types kept : List ℕ) (s : State) → IsSound c → AreKinds c before waits → AreNumbers c own frames weight words → IsAlive c types kept s → InPlace c own frames weight words n d s → StaysInPlace c own frames weight words n d s (next before (run_code c) s)
+pub next_in_place : (c : PlainCode) (before waits : Kinds) (own frames weight words : ℕ → ℕ) (n d : ℕ) (types kept : List ℕ) (s : State) → IsSound c → AreKinds c before waits → AreNumbers c own frames weight words → IsAlive c types kept s → InPlace c own frames weight words n d s → StaysInPlace c own frames weight words n d s (next before c s)
 next_in_place c before waits own frames weight words n d types kept s sound kinds m a p =
-    let instr : instr_of (run_code c) s ≡ Some a.instr = run_instr_at c s.running.function s.running.at a.function a.instr a.is a.is_instr in
+    let instr : instr_of c s ≡ Some a.instr = run_instr_at c s.running.function s.running.at a.function a.instr a.is a.is_instr in
     let known : kinds_of before s ≡ a.kinds = kinds.known s.running.function s.running.at a.function a.kinds a.is a.known in
     let fip : is_fip a.function.kind ≡ true = ap (λ (f : PlainFunction). is_fip f.kind) (same_Some a.function p.fip.0 (sym a.is ∙ p.fip.1)) ∙ p.fip.2 in
-    subst (StaysInPlace c own frames weight words n d s) (sym (ap₂ (λ ks x. act_at (run_code c) ks s x) known instr))
+    subst (StaysInPlace c own frames weight words n d s) (sym (ap₂ (λ ks x. act_at c ks s x) known instr))
     (act_in_place c own frames weight words n d types kept s a.instr sound m a refl (keeps_fip c s.running.function s.running.at a.function a.kinds a.instr sound a.is (reached c types kept s a) fip) (ranged c s.running.function s.running.at a.function a.instr sound a.is a.is_instr) p)

@@ -10,9 +10,8 @@ use Rattle.separation.specs.machine_semantics.States.{State}
 use Rattle.separation.specs.machine_semantics.Steps.{Kinds}
 use Rattle.separation.specs.machine_semantics.Runs.{Over, Value, state_of, begun, after}
 use Rattle.separation.specs.machine_semantics.Apart.{GivesApart}
-use Rattle.separation.specs.code_rules.Codes.{PlainCode}
+use Rattle.separation.specs.cell_code.Plain.{PlainCode}
 use Rattle.separation.specs.code_rules.StackNumbers.{IsFip}
-use Rattle.separation.specs.Codes.{run_code, run_function}
 use Rattle.separation.specs.Starts.{IsStart}
 use Rattle.separation.proofs.Running.{run_alive}
 use Rattle.separation_bounds.specs.ByTrees.{cells_of_trees, one_if_sized, cells_at}
@@ -21,13 +20,13 @@ use Rattle.separation_bounds.proofs.Weights.{first_held, last_held}
 use Rattle.separation.proofs.separation_kinds.machine_semantics.cell_code.fip_base.fip_language.Facts.{head_same, tail_same}
 
 pub start_held : (c : PlainCode) (before waits : Kinds) (n : ℕ) (kept : List ℕ) (s : State) (k : ℕ) → (t : IsStart c before waits n kept s) → count_held k s.store ≡ cells_of_all k (values_of t.given.arguments) + (count k t.function.credits + cells_at k s.store kept)
-start_held c before waits n kept s k t = first_held c.types (run_function t.function) s.store kept t.words k t.given
+start_held c before waits n kept s k t = first_held c.types t.function s.store kept t.words k t.given
 
-end_store : (c : PlainCode) (before waits : Kinds) (n : ℕ) (kept : List ℕ) (s : State) (calls steps : ℕ) (words : List ℕ) (last : State) (left done : ℕ) → IsStart c before waits n kept s → after before (run_code c) steps (begun s calls) ≡ Over (Value words) last left done → IsStore last.store
+end_store : (c : PlainCode) (before waits : Kinds) (n : ℕ) (kept : List ℕ) (s : State) (calls steps : ℕ) (words : List ℕ) (last : State) (left done : ℕ) → IsStart c before waits n kept s → after before c steps (begun s calls) ≡ Over (Value words) last left done → IsStore last.store
 end_store c before waits n kept s calls steps words last left done t is = subst (λ r. IsStore (state_of r).store) is (run_alive c before waits n kept s calls steps t).store
 
-pub end_held : (c : PlainCode) (before waits : Kinds) (n : ℕ) (kept : List ℕ) (s : State) (calls steps : ℕ) (words : List ℕ) (last : State) (left done k : ℕ) → IsStart c before waits n kept s → after before (run_code c) steps (begun s calls) ≡ Over (Value words) last left done → (g : GivesApart (run_code c) n kept last words) → count_held k last.store ≡ cells_of_trees k g.results + (cells_of_trees k g.lent + cells_at k last.store kept)
-end_held c before waits n kept s calls steps words last left done k t is g = last_held (run_code c) n kept last words k (end_store c before waits n kept s calls steps words last left done t is) g
+pub end_held : (c : PlainCode) (before waits : Kinds) (n : ℕ) (kept : List ℕ) (s : State) (calls steps : ℕ) (words : List ℕ) (last : State) (left done k : ℕ) → IsStart c before waits n kept s → after before c steps (begun s calls) ≡ Over (Value words) last left done → (g : GivesApart c n kept last words) → count_held k last.store ≡ cells_of_trees k g.results + (cells_of_trees k g.lent + cells_at k last.store kept)
+end_held c before waits n kept s calls steps words last left done k t is g = last_held c n kept last words k (end_store c before waits n kept s calls steps words last left done t is) g
 
 one : (k : ℕ) (o p : Option Cell) → size_in o ≡ size_in p → IsSized o → IsSized p → one_if_sized k o ≡ one_if_sized k p
 one k None None e a b = refl
@@ -46,10 +45,10 @@ cells_same : (k : ℕ) (s u : Store) (ps : List ℕ) → IsStore s → IsStore u
 cells_same k s u [] a b h = refl
 cells_same k s u (p ∷ ps) a b h = let x = same_sized k u.cells s.cells p h.sizes b.sized a.sized in let y = cells_same k s u ps a b h in omega arith
 
-pub fip_gives_back : (c : PlainCode) (before waits : Kinds) (n : ℕ) (kept : List ℕ) (s : State) (calls steps : ℕ) (words : List ℕ) (last : State) (left done k : ℕ) → (t : IsStart c before waits n kept s) → IsFip c n → after before (run_code c) steps (begun s calls) ≡ Over (Value words) last left done → (g : GivesApart (run_code c) n kept last words) → cells_of_trees k g.results + cells_of_trees k g.lent ≡ cells_of_all k (values_of t.given.arguments) + count k t.function.credits
+pub fip_gives_back : (c : PlainCode) (before waits : Kinds) (n : ℕ) (kept : List ℕ) (s : State) (calls steps : ℕ) (words : List ℕ) (last : State) (left done k : ℕ) → (t : IsStart c before waits n kept s) → IsFip c n → after before c steps (begun s calls) ≡ Over (Value words) last left done → (g : GivesApart c n kept last words) → cells_of_trees k g.results + cells_of_trees k g.lent ≡ cells_of_all k (values_of t.given.arguments) + count k t.function.credits
 fip_gives_back c before waits n kept s calls steps words last left done k t fip is g =
     let store = end_store c before waits n kept s calls steps words last left done t is in
-    let keeps : Keeps s.store last.store = subst (λ r. Keeps s.store (state_of r).store) is (start_keeps before (run_code c) steps s calls) in
+    let keeps : Keeps s.store last.store = subst (λ r. Keeps s.store (state_of r).store) is (start_keeps before c steps s calls) in
     let same : count_held k last.store ≡ count_held k s.store = subst (λ r. count_held k (state_of r).store ≡ count_held k s.store) is (fip_count c before waits n kept s calls steps k t fip) in
     let x = start_held c before waits n kept s k t in
     let y = end_held c before waits n kept s calls steps words last left done k t is g in

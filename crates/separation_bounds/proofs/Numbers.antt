@@ -6,7 +6,8 @@ use Rattle.separation.specs.fip_base.declared.plain.Stack.{Stack}
 use Rattle.separation.specs.call_groups.Stacks.{base_frames, own_frames}
 use Rattle.separation.specs.code_rules.Breaks.{IsSound}
 use Rattle.separation.specs.code_rules.Calls.{Path, SameGroup, CallsAt}
-use Rattle.separation.specs.code_rules.Codes.{PlainCode, PlainFunction, is_fip}
+use Rattle.separation.specs.cell_code.Plain.{PlainFunction, PlainCode}
+use Rattle.separation.specs.code_rules.Codes.{is_fip}
 use Rattle.separation.specs.code_rules.StackNumbers.{FipCalls, words_of, words_at, HasStack}
 use Rattle.separation.specs.code_rules.declared.rule.SoundRule.TheVariants.{S0, S8}
 use Rattle.separation_bounds.proofs.Bounds.{Way}

@@ -11,7 +11,7 @@ use Rattle.separation.specs.cell_code.declared.kind.Kind.{Kind}
 use Rattle.separation.specs.machine_semantics.Cells.{Store, Change, Write, Release, cell_at, size_of, written, changed, changed_by}
 use Rattle.separation.specs.machine_semantics.States.{State}
 use Rattle.separation.specs.machine_semantics.Rows as R
-use Rattle.separation.specs.code_rules.Codes.{PlainCode, PlainFunction}
+use Rattle.separation.specs.cell_code.Plain.{PlainFunction, PlainCode}
 use Rattle.separation.specs.code_rules.Ranges.{in_range, is_target}
 use Rattle.separation.specs.code_rules.Endings.{releases}
 use Rattle.separation.proofs.separation_kinds.Basics.{pick, both, below}

@@ -9,7 +9,7 @@ use Rattle.separation.specs.fip_language.Store.{Cell, Placed, PlacedInt, Bare, A
 use Rattle.separation.specs.machine_semantics.Cells.{Store, IsStore, cell_in, cell_at, size_of, one_if_some, one_if_true, one_held, held_in, count_held}
 use Rattle.separation.specs.machine_semantics.Trees.{HasPart, Stands, StandAll}
 use Rattle.separation.specs.machine_semantics.States.{Typed, State}
-use Rattle.separation.specs.machine_semantics.Codes as R
+use Rattle.separation.specs.cell_code.Plain.{PlainFunction, PlainCode}
 use Rattle.separation.specs.machine_semantics.Apart.{AreTrees, AreSpare, trees_uses, IsGiven, GivesApart}
 use Rattle.separation.proofs.separation_kinds.Agree.{one_here, one_apart}
 use Rattle.separation_bounds.specs.ByTrees.{cells_of_trees, one_if_sized, cells_at}
@@ -135,7 +135,7 @@ held_is k [] rs f l h = refl
 held_is k (o ∷ os) [] f l h = absurd (let z : ⊥ = omega arith in z)
 held_is k (o ∷ os) (r ∷ rs) f l h = let a = one_held_is k o r (f 0) (h 0) in let b = held_is k os rs (λ q. f (suc q)) (omega arith) (λ q. h (suc q)) in omega arith
 
-pub first_held : (tb : Table) (g : R.PlainFunction) (s : Store) (kept ws : List ℕ) (k : ℕ) → (i : IsGiven tb g s kept ws) → count_held k s ≡ cells_of_all k (values_of i.arguments) + (count k g.credits + cells_at k s kept)
+pub first_held : (tb : Table) (g : PlainFunction) (s : Store) (kept ws : List ℕ) (k : ℕ) → (i : IsGiven tb g s kept ws) → count_held k s ≡ cells_of_all k (values_of i.arguments) + (count k g.credits + cells_at k s kept)
 first_held tb g s kept ws k i =
     let f : ℕ → ℕ = λ q. uses_of_all q i.arguments + (count q i.spares + count q kept) in
     let a = held_is k s.cells s.released f i.store.wide (λ q. let o = i.once q in omega arith) in
@@ -147,7 +147,7 @@ first_held tb g s kept ws k i =
     let w = places_weight k s kept in
     omega arith
 
-pub last_held : (code : R.PlainCode) (n : ℕ) (kept : List ℕ) (s : State) (ws : List ℕ) (k : ℕ) → IsStore s.store → (g : GivesApart code n kept s ws) → count_held k s.store ≡ cells_of_trees k g.results + (cells_of_trees k g.lent + cells_at k s.store kept)
+pub last_held : (code : PlainCode) (n : ℕ) (kept : List ℕ) (s : State) (ws : List ℕ) (k : ℕ) → IsStore s.store → (g : GivesApart code n kept s ws) → count_held k s.store ≡ cells_of_trees k g.results + (cells_of_trees k g.lent + cells_at k s.store kept)
 last_held code n kept s ws k store g =
     let f : ℕ → ℕ = λ q. trees_uses q g.results + (trees_uses q g.lent + count q kept) in
     let a = held_is k s.store.cells s.store.released f store.wide (λ q. let o = g.once q in omega arith) in

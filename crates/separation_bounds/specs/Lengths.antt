@@ -3,7 +3,7 @@
 -- The reversal of a list has six instructions, so a run of it with three calls takes at most 18 steps.
 use Rattle.std.specs.Prelude.{◌≡◌, ◌≤◌, ℕ, Some, length}
 use Rattle.separation.specs.machine_semantics.Runs.{Run, Going, Over}
-use Rattle.separation.specs.code_rules.Codes.{PlainCode, PlainFunction, function_at}
+use Rattle.separation.specs.cell_code.Plain.{PlainFunction, PlainCode, function_at}
 
 -- the steps that were done
 abbrev pub steps_of : Run → ℕ

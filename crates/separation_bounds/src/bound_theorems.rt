@@ -9,9 +9,9 @@ ghost use Rattle.separation.specs.machine_semantics.States.{State, frames_held, 
 ghost use Rattle.separation.specs.machine_semantics.Steps.{Kinds};
 ghost use Rattle.separation.specs.machine_semantics.Runs.{End, Ends, Value, Deep, Over, state_of, begun, after};
 ghost use Rattle.separation.specs.machine_semantics.Apart.{GivesApart};
-ghost use Rattle.separation.specs.code_rules.Codes.{PlainCode};
+ghost use Rattle.separation.specs.cell_code.Plain.{PlainCode};
 ghost use Rattle.separation.specs.code_rules.StackNumbers.{IsFip, IsStack};
-ghost use Rattle.separation.specs.Codes.{run_code, AreKinds};
+ghost use Rattle.separation.specs.Codes.{AreKinds};
 ghost use Rattle.separation.specs.Starts.{IsStart};
 ghost use Rattle.separation_bounds.specs.ByTrees.{cells_of_trees, cells_at};
 ghost use Rattle.separation_bounds.specs.Held.{IsHeld};
@@ -22,12 +22,12 @@ ghost use Rattle.separation_bounds.specs.Lengths.{steps_of, AreAtMost};
 pub fn held_cells_only_fall()
     ensures among { (c : PlainCode) (before waits : Kinds) (n : ℕ) (kept : List ℕ) (s : State) (calls steps p : ℕ) →
         IsStart c before waits n kept s →
-        IsHeld (state_of (after before (run_code c) (suc steps) (begun s calls))).store p →
-        IsHeld (state_of (after before (run_code c) steps (begun s calls))).store p }
+        IsHeld (state_of (after before c (suc steps) (begun s calls))).store p →
+        IsHeld (state_of (after before c steps (begun s calls))).store p }
     ensures fewer { (c : PlainCode) (before waits : Kinds) (n : ℕ) (kept : List ℕ) (s : State)
         (calls steps size : ℕ) → IsStart c before waits n kept s →
-        count_held size (state_of (after before (run_code c) (suc steps) (begun s calls))).store
-        ≤ count_held size (state_of (after before (run_code c) steps (begun s calls))).store }
+        count_held size (state_of (after before c (suc steps) (begun s calls))).store
+        ≤ count_held size (state_of (after before c steps (begun s calls))).store }
 {}
 
 /// In a run of a fip entry of sound code no cell is released, so as many are held of each size in every state as in the
@@ -35,10 +35,10 @@ pub fn held_cells_only_fall()
 pub fn fip_runs_release_nothing()
     ensures released { (c : PlainCode) (before waits : Kinds) (n : ℕ) (kept : List ℕ) (s : State)
         (calls steps : ℕ) → IsStart c before waits n kept s → IsFip c n →
-        (state_of (after before (run_code c) steps (begun s calls))).store.released ≡ s.store.released }
+        (state_of (after before c steps (begun s calls))).store.released ≡ s.store.released }
     ensures held { (c : PlainCode) (before waits : Kinds) (n : ℕ) (kept : List ℕ) (s : State)
         (calls steps size : ℕ) → IsStart c before waits n kept s → IsFip c n →
-        count_held size (state_of (after before (run_code c) steps (begun s calls))).store
+        count_held size (state_of (after before c steps (begun s calls))).store
         ≡ count_held size s.store }
 {}
 
@@ -47,10 +47,10 @@ pub fn fip_runs_release_nothing()
 pub fn fip_runs_stay_within_their_stack()
     ensures frames { (c : PlainCode) (before waits : Kinds) (n : ℕ) (kept : List ℕ) (s : State) (calls steps : ℕ)
         (stack : Stack) → IsStart c before waits n kept s → IsFip c n → IsStack c n stack →
-        frames_held (state_of (after before (run_code c) steps (begun s calls))) ≤ stack.frames }
+        frames_held (state_of (after before c steps (begun s calls))) ≤ stack.frames }
     ensures words { (c : PlainCode) (before waits : Kinds) (n : ℕ) (kept : List ℕ) (s : State) (calls steps : ℕ)
         (stack : Stack) → IsStart c before waits n kept s → IsFip c n → IsStack c n stack →
-        words_held (state_of (after before (run_code c) steps (begun s calls))) ≤ stack.words }
+        words_held (state_of (after before c steps (begun s calls))) ≤ stack.words }
 {}
 
 /// With as many free frames as its stack number says, a run of a fip entry of sound code never ends for want of one.
@@ -59,7 +59,7 @@ pub fn fip_runs_are_never_too_deep()
     ensures theorem { (c : PlainCode) (before waits : Kinds) (n : ℕ) (kept : List ℕ) (s : State) (calls steps : ℕ)
         (stack : Stack) (last : State) (left done : ℕ) → IsStart c before waits n kept s → IsFip c n →
         IsStack c n stack → stack.frames ≤ s.free →
-        after before (run_code c) steps (begun s calls) ≡ Over Deep last left done → ⊥ }
+        after before c steps (begun s calls) ≡ Over Deep last left done → ⊥ }
 {}
 
 /// A run of sound code takes at most as many steps for each of its calls as its longest function has instructions, so
@@ -67,7 +67,7 @@ pub fn fip_runs_are_never_too_deep()
 pub fn a_run_takes_few_steps()
     ensures theorem { (c : PlainCode) (before waits : Kinds) (n : ℕ) (kept : List ℕ) (s : State)
         (calls steps most : ℕ) → IsStart c before waits n kept s → AreAtMost c most →
-        steps_of (after before (run_code c) steps (begun s calls)) ≤ calls * most }
+        steps_of (after before c steps (begun s calls)) ≤ calls * most }
 {}
 
 /// A run of sound code ends, with any number of calls; and in one way, whichever kinds are given, and as much is seen
@@ -75,14 +75,14 @@ pub fn a_run_takes_few_steps()
 pub fn a_run_ends()
     ensures some { (c : PlainCode) (before waits : Kinds) (n : ℕ) (kept : List ℕ) (s : State) (calls : ℕ) →
         IsStart c before waits n kept s → (e : End) × (last : State) × (left : ℕ) × (steps : ℕ)
-        × Ends before (run_code c) s calls e last left steps }
+        × Ends before c s calls e last left steps }
     ensures one { (c : PlainCode) (before waits first other : Kinds) (n : ℕ) (kept : List ℕ) (s : State)
         (calls : ℕ) (e d : End) (last end : State) (left more steps done : ℕ) → IsStart c before waits n kept s →
-        AreKinds c first other → Ends before (run_code c) s calls e last left steps →
-        Ends first (run_code c) s calls d end more done → Over e last left steps ≡ Over d end more done }
+        AreKinds c first other → Ends before c s calls e last left steps →
+        Ends first c s calls d end more done → Over e last left steps ≡ Over d end more done }
     ensures seen { (c : PlainCode) (before waits first other : Kinds) (n : ℕ) (kept : List ℕ) (s : State)
         (calls steps : ℕ) → IsStart c before waits n kept s → AreKinds c first other →
-        seen before (run_code c) steps (begun s calls) ≡ seen first (run_code c) steps (begun s calls) }
+        seen before c steps (begun s calls) ≡ seen first c steps (begun s calls) }
 {}
 
 /// The held cells of each size are, in the first state, those of the arguments' values, the credits and the kept cells,
@@ -95,8 +95,8 @@ pub fn held_cells_are_those_of_the_trees()
         + (count size t.function.credits + cells_at size s.store kept) }
     ensures last { (c : PlainCode) (before waits : Kinds) (n : ℕ) (kept : List ℕ) (s : State) (calls steps : ℕ)
         (words : List ℕ) (last : State) (left done size : ℕ) → IsStart c before waits n kept s →
-        after before (run_code c) steps (begun s calls) ≡ Over (Value words) last left done →
-        (g : GivesApart (run_code c) n kept last words) → count_held size last.store
+        after before c steps (begun s calls) ≡ Over (Value words) last left done →
+        (g : GivesApart c n kept last words) → count_held size last.store
         ≡ cells_of_trees size g.results + (cells_of_trees size g.lent + cells_at size last.store kept) }
 {}
 
@@ -106,8 +106,8 @@ pub fn held_cells_are_those_of_the_trees()
 pub fn fip_runs_give_back_their_cells()
     ensures theorem { (c : PlainCode) (before waits : Kinds) (n : ℕ) (kept : List ℕ) (s : State) (calls steps : ℕ)
         (words : List ℕ) (last : State) (left done size : ℕ) → (t : IsStart c before waits n kept s) → IsFip c n →
-        after before (run_code c) steps (begun s calls) ≡ Over (Value words) last left done →
-        (g : GivesApart (run_code c) n kept last words) →
+        after before c steps (begun s calls) ≡ Over (Value words) last left done →
+        (g : GivesApart c n kept last words) →
         cells_of_trees size g.results + cells_of_trees size g.lent
         ≡ cells_of_all size (values_of t.given.arguments) + count size t.function.credits }
 {}

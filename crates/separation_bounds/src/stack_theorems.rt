@@ -2,7 +2,7 @@
 ghost use Rattle.std.specs.Prelude.{ℕ, Option, Some};
 ghost use Rattle.separation.specs.fip_base.declared.plain.Stack.{Stack};
 ghost use Rattle.separation.specs.code_rules.Breaks.{IsSound};
-ghost use Rattle.separation.specs.code_rules.Codes.{PlainCode};
+ghost use Rattle.separation.specs.cell_code.Plain.{PlainCode};
 ghost use Rattle.separation.specs.code_rules.StackNumbers.{HasStack};
 
 /// It can't be that a function of sound code holds no number of frames and words at the most, and isn't one that has

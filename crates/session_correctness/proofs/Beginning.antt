@@ -3,15 +3,13 @@ use Rattle.std.proofs.Common.{◌≡◌, ℕ, Some, sym, ap, ◌∙◌, subst}
 use Rattle.tree_refinement.specs.fip_language.Store.{values_of}
 use Rattle.tree_refinement.specs.fip_language.Values.{Values}
 use Rattle.tree_refinement.specs.cell_code.declared.code.Code.{Code}
-use Rattle.tree_refinement.specs.machine_semantics.Codes as R
+use Rattle.tree_refinement.specs.cell_code.Plain.{PlainFunction, plain}
 use Rattle.tree_refinement.specs.machine_semantics.Runs.{loaded}
 use Rattle.tree_refinement.specs.machine_semantics.States.{State}
 use Rattle.tree_refinement.specs.machine_semantics.Steps.{Kinds}
 use Rattle.tree_refinement.specs.code_rules.Breaks.{IsSound}
-use Rattle.tree_refinement.specs.code_rules.Codes.{PlainFunction, plain}
-use Rattle.tree_refinement.specs.separation.Codes.{run_code, HasLiterals, AreKinds}
+use Rattle.tree_refinement.specs.separation.Codes.{HasLiterals, AreKinds}
 use Rattle.tree_refinement.specs.separation.Starts.{IsStart}
-use Rattle.tree_refinement.proofs.separation.CodesRun.{code_runs}
 use Rattle.tree_refinement.proofs.separation.Loading.{loaded_is}
 use Rattle.tree_refinement.specs.Runs.{BeginsWith}
 use Rattle.tree_refinement.proofs.Loading.{begins_values, begins_with}
@@ -19,8 +17,8 @@ use Rattle.session_correctness.specs.Beside.{BeginsBeside}
 use Rattle.std.specs.Prelude.{List}
 
 module _ (code : Code) (before waits : Kinds) (n : ℕ) (f : PlainFunction) (vs : Values) (frames : ℕ) (kept : List ℕ) (s : State) (b : BeginsBeside code n f vs frames kept s) where
-  pub is_loaded : loaded (run_code (plain code)) n s.store b.words frames ≡ Some s
-  is_loaded = ap (λ (q : R.PlainCode). loaded q n s.store b.words frames) (code_runs code) ∙ b.loaded
+  pub is_loaded : loaded (plain code) n s.store b.words frames ≡ Some s
+  is_loaded = b.loaded
 
   pub free_is : s.free ≡ frames
   free_is = ap (λ (u : State). u.free) (loaded_is (plain code) n f s.store b.words frames s b.is is_loaded)

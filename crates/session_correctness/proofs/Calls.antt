@@ -16,8 +16,7 @@ use Rattle.tree_refinement.specs.machine_semantics.Trees.{Stands, StandAll}
 use Rattle.tree_refinement.proofs.separation_kinds.Agree.{stands_agree, stand_all_agree}
 use Rattle.tree_refinement.proofs.separation_kinds.Shapes.{scalar_bare}
 use Rattle.tree_refinement.proofs.separation.Stores.{there_few}
-use Rattle.tree_refinement.specs.code_rules.Codes.{PlainCode, results}
-use Rattle.tree_refinement.specs.separation.Codes.{run_code}
+use Rattle.separation_bounds.specs.cell_code.Plain.{PlainCode, results}
 use Rattle.tree_refinement.specs.separation.Starts.{IsStart}
 use Rattle.session_semantics.specs.Lines.{Given}
 use Rattle.session_semantics.specs.Talk.{used_by}
@@ -116,7 +115,7 @@ module _ (c : PlainCode) (before waits : Kinds) (n : ℕ) (kept : List ℕ) (s :
       (every_but_all (λ (x : Lodged). Stands c.types s.store x.type x.tree) (used_by c.types ps gs) ls stand)
 
   -- After a run that gives words, with the lent values of the line given up.
-  pub done : (calls k : ℕ) (ws : List ℕ) (last : State) (left steps : ℕ) (u : Store) → after before (run_code c) k (begun s calls) ≡ Over (Value ws) last left steps → IsGivenUp (lent_fresh_uses ps gs xs) last.store u → IsHeldWith c.types following (results c n) ws u
+  pub done : (calls k : ℕ) (ws : List ℕ) (last : State) (left steps : ℕ) (u : Store) → after before c k (begun s calls) ≡ Over (Value ws) last left steps → IsGivenUp (lent_fresh_uses ps gs xs) last.store u → IsHeldWith c.types following (results c n) ws u
   done calls k ws last left steps u is up =
       let g : Gives c.types ps xs kept (results c n) ws last.store = run_gives c before waits n kept s t calls k ws last left steps is in
       let l : Leaves c.types ps xs kept s.store last.store = subst (λ r. Leaves c.types ps xs kept s.store (state_of r).store) is (run_leaves c before waits n kept s t calls k) in
@@ -142,9 +141,9 @@ module _ (c : PlainCode) (before waits : Kinds) (n : ℕ) (kept : List ℕ) (s :
   held_once last q l = let o = l.once q in let e = lent_too q in omega (arith, o, e)
 
   -- After any state of the run, with all that was used up given up.
-  pub ended : (calls k : ℕ) (u : Store) → IsGivenUp gone (state_of (after before (run_code c) k (begun s calls))).store u → IsHeld c.types following u
+  pub ended : (calls k : ℕ) (u : Store) → IsGivenUp gone (state_of (after before c k (begun s calls))).store u → IsHeld c.types following u
   ended calls k u up =
-      let last : Store = (state_of (after before (run_code c) k (begun s calls))).store in
+      let last : Store = (state_of (after before c k (begun s calls))).store in
       let l : Leaves c.types ps xs kept s.store last = run_leaves c before waits n kept s t calls k in
       held_after last u l up.cells up.wide (λ q.
       let f = at_first q in
@@ -152,8 +151,8 @@ module _ (c : PlainCode) (before waits : Kinds) (n : ℕ) (kept : List ℕ) (s :
       apart_without_value (gone q) (lodged_uses following q) (released_at s.store q) (released_at last q) (released_at u q) (there last q) (there_few last q) (omega (arith, f, e)) (held_once last q l) (rises_at s.store last q l.keeps) (up.here q) (up.other q))
 
   -- The same, where all cells but those of what is held are given up.
-  pub swept : (calls k : ℕ) (u : Store) → IsSwept (lodged_uses following) (state_of (after before (run_code c) k (begun s calls))).store u → IsHeld c.types following u
+  pub swept : (calls k : ℕ) (u : Store) → IsSwept (lodged_uses following) (state_of (after before c k (begun s calls))).store u → IsHeld c.types following u
   swept calls k u up =
-      let last : Store = (state_of (after before (run_code c) k (begun s calls))).store in
+      let last : Store = (state_of (after before c k (begun s calls))).store in
       let l : Leaves c.types ps xs kept s.store last = run_leaves c before waits n kept s t calls k in
       held_after last u l up.cells up.wide (λ q. apart_by_sweep (lodged_uses following q) (released_at last q) (released_at u q) (there last q) (there_few last q) (held_once last q l) (up.here q) (up.other q))

@@ -3,6 +3,7 @@
 use Rattle.std.proofs.Common.{◌≡◌, ℕ, zero, suc, ◌+◌, ◌-◌, ◌*◌, ◌<◌, ◌≤◌, Bool, true, false, List, [], ◌∷◌, ◌++◌, length, map, max, Option, Some, None, refl, ap, ◌∙◌, arith, if◌then◌else◌, nat_eq}
 use Rattle.std.proofs.Math.Nat.{mul-suc}
 use Rattle.tree_refinement.specs.fip_base.declared.plain.Param.{Param}
+use Rattle.tree_refinement.specs.cell_code.declared.code.CodeKind.TheVariants.{Fip}
 use Rattle.tree_refinement.specs.fip_language.Every.{Every}
 use Rattle.tree_refinement.specs.fip_language.Store.{Cell, Parts, NoParts, MoreParts, values_of, words_of, uses_of_all}
 use Rattle.tree_refinement.specs.fip_language.Table.{Table}
@@ -12,7 +13,7 @@ use Rattle.separation_bounds.specs.ByTrees.{one_if_sized}
 use Rattle.tree_refinement.proofs.separation_bounds.Weights.{first_held}
 use Rattle.tree_refinement.specs.machine_semantics.Apart.{IsGiven}
 use Rattle.tree_refinement.specs.machine_semantics.Cells.{Store, IsStore, IsSized, size_in, count_held, held_in}
-use Rattle.tree_refinement.specs.machine_semantics.Codes as R
+use Rattle.separation_bounds.specs.cell_code.Plain.{PlainFunction}
 use Rattle.tree_refinement.specs.machine_semantics.Kept.{Keeps}
 use Rattle.tree_refinement.specs.machine_semantics.Trees.{StandAll}
 use Rattle.session_semantics.specs.Talk.{over_sizes}
@@ -79,8 +80,8 @@ parts_stand tb s [] h = tt
 parts_stand tb s (l ∷ ls) h = (h.0, parts_stand tb s ls h.1)
 
 -- what is held, as the arguments of a function
-abbrev as_arguments : List Lodged → R.PlainFunction
-as_arguments ls = record { params = params_of ls; credits = []; results = []; registers = 0; instrs = [] }
+abbrev as_arguments : List Lodged → PlainFunction
+as_arguments ls = record { kind = Fip; name = []; params = params_of ls; credits = []; results = []; registers = 0; instrs = []; labels = [] }
 
 abbrev given : (tb : Table) (s : Store) (ls : List Lodged) → IsHeld tb ls s → IsGiven tb (as_arguments ls) s [] (words_of (parts_of ls) ++ [])
 given tb s ls h = record {

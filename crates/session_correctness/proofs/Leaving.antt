@@ -13,9 +13,8 @@ use Rattle.tree_refinement.specs.machine_semantics.Runs.{End, Run, Over, Value, 
 use Rattle.tree_refinement.specs.machine_semantics.States.{State, Typed}
 use Rattle.tree_refinement.specs.machine_semantics.Steps.{Kinds}
 use Rattle.tree_refinement.specs.machine_semantics.Trees.{Stands, StandAll}
-use Rattle.tree_refinement.specs.code_rules.Codes.{PlainCode, results}
+use Rattle.separation_bounds.specs.cell_code.Plain.{PlainCode, results}
 use Rattle.tree_refinement.specs.separation.Alive.{IsAlive, IsGiven}
-use Rattle.tree_refinement.specs.separation.Codes.{run_code}
 use Rattle.tree_refinement.specs.separation.Starts.{IsStart}
 use Rattle.tree_refinement.proofs.separation.Loading.{lent_trees, is_lent_tree, loaded_is}
 use Rattle.tree_refinement.proofs.separation.Running.{GoodRun, GoodEnd, run_alive, run_good}
@@ -111,13 +110,13 @@ module _ (c : PlainCode) (before waits : Kinds) (n : ℕ) (kept : List ℕ) (s :
   start_lends = subst (λ ts. AreTrees c.types s.store ts lent) (sym lent_are) (lent_words_stand c.types s.store t.function.params t.given.arguments rest t.given.stand)
 
   -- In each state of the run the kept cells and those of the lent arguments are as they were.
-  pub run_leaves : (calls k : ℕ) → Leaves c.types t.function.params t.given.arguments kept s.store (state_of (after before (run_code c) k (begun s calls))).store
+  pub run_leaves : (calls k : ℕ) → Leaves c.types t.function.params t.given.arguments kept s.store (state_of (after before c k (begun s calls))).store
   run_leaves calls k =
-      let last : State = state_of (after before (run_code c) k (begun s calls)) in
+      let last : State = state_of (after before c k (begun s calls)) in
       let alive : IsAlive c (results c n) kept last = run_alive c before waits n kept s calls k t in
       let lends : Lends c s.lent lent last = run_lends c before waits n kept s calls k lent t start_lends in
       let same : alive.lent ≡ lent = trees_once c.types last.store s.lent alive.lent lent (subst (λ ts. AreTrees c.types last.store ts alive.lent) lends.0 alive.arguments) lends.1 in
-      let keeps : Keeps s.store last.store = start_keeps before (run_code c) k s calls in
+      let keeps : Keeps s.store last.store = start_keeps before c k s calls in
       record {
         store = alive.store;
         keeps = keeps;
@@ -133,9 +132,9 @@ module _ (c : PlainCode) (before waits : Kinds) (n : ℕ) (kept : List ℕ) (s :
   end_good r e last left steps is g = (subst (GoodRun c (results c n) kept) is g).1
 
   -- The words that it gives stand for trees, which with these and the released cells are all cells.
-  pub run_gives : (calls k : ℕ) (ws : List ℕ) (last : State) (left steps : ℕ) → after before (run_code c) k (begun s calls) ≡ Over (Value ws) last left steps → Gives c.types t.function.params t.given.arguments kept (results c n) ws last.store
+  pub run_gives : (calls k : ℕ) (ws : List ℕ) (last : State) (left steps : ℕ) → after before c k (begun s calls) ≡ Over (Value ws) last left steps → Gives c.types t.function.params t.given.arguments kept (results c n) ws last.store
   run_gives calls k ws last left steps is =
-      let g : IsGiven c (results c n) kept last ws = end_good (after before (run_code c) k (begun s calls)) (Value ws) last left steps is (run_good c before waits n kept s calls k t) in
+      let g : IsGiven c (results c n) kept last ws = end_good (after before c k (begun s calls)) (Value ws) last left steps is (run_good c before waits n kept s calls k t) in
       let lends : Lends c s.lent lent last = subst (λ (r : Run). Lends c s.lent lent (state_of r)) is (run_lends c before waits n kept s calls k lent t start_lends) in
       let same : g.lent ≡ lent = trees_once c.types last.store s.lent g.lent lent (subst (λ ts. AreTrees c.types last.store ts g.lent) lends.0 g.arguments) lends.1 in
       record {

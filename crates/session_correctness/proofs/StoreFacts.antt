@@ -1,7 +1,7 @@
 -- What a call leaves, by what it begins with.
 use Rattle.std.proofs.Common.{◌≡◌, ℕ, List}
 use Rattle.tree_refinement.specs.fip_language.Table.{Table}
-use Rattle.tree_refinement.specs.code_rules.Codes.{PlainCode, results}
+use Rattle.separation_bounds.specs.cell_code.Plain.{PlainCode, results}
 use Rattle.tree_refinement.specs.machine_semantics.Cells.{Store, count_held}
 use Rattle.tree_refinement.specs.machine_semantics.Runs.{Over, Value, state_of}
 use Rattle.tree_refinement.specs.machine_semantics.States.{State}

@@ -6,11 +6,9 @@ use Rattle.tree_refinement.specs.fip_language.Store.{values_of}
 use Rattle.tree_refinement.specs.fip_language.Values.{Values}
 use Rattle.tree_refinement.specs.cell_code.declared.code.Code.{Code}
 use Rattle.tree_refinement.specs.machine_semantics.Apart.{IsGiven}
-use Rattle.tree_refinement.specs.machine_semantics.Codes as R
+use Rattle.tree_refinement.specs.cell_code.Plain.{PlainFunction, plain, function_at}
 use Rattle.tree_refinement.specs.machine_semantics.Runs.{loaded}
 use Rattle.tree_refinement.specs.machine_semantics.States.{State}
-use Rattle.tree_refinement.specs.code_rules.Codes.{PlainFunction, plain, function_at}
-use Rattle.tree_refinement.specs.separation.Codes.{run_function}
 
 -- Function f, which is number n of the code, begins in state s beside these kept cells: its words stand for these
 -- arguments, there is a cell for each of its credits, and so many frames are free.
@@ -18,6 +16,6 @@ pub record BeginsBeside (code : Code) (n : ℕ) (f : PlainFunction) (vs : Values
     (s : State) : Type 0 where
   pub is : function_at (plain code) n ≡ Some f
   pub words : List ℕ
-  pub given : IsGiven code.types (run_function f) s.store kept words
+  pub given : IsGiven code.types f s.store kept words
   pub values : values_of given.arguments ≡ vs
-  pub loaded : loaded (R.plain code) n s.store words frames ≡ Some s
+  pub loaded : loaded (plain code) n s.store words frames ≡ Some s

@@ -6,11 +6,10 @@
 -- up.
 use Rattle.std.specs.Prelude.{◌≡◌, ℕ, ◌+◌, List, []}
 use Rattle.tree_refinement.specs.fip_language.Store.{count}
-use Rattle.tree_refinement.specs.code_rules.Codes.{PlainCode}
+use Rattle.separation_bounds.specs.cell_code.Plain.{PlainCode}
 use Rattle.tree_refinement.specs.machine_semantics.Runs.{Run, begun, after}
 use Rattle.tree_refinement.specs.machine_semantics.States.{State}
 use Rattle.tree_refinement.specs.machine_semantics.Steps.{Kinds}
-use Rattle.tree_refinement.specs.separation.Codes.{run_code}
 use Rattle.tree_refinement.specs.separation.Starts.{IsStart}
 use Rattle.session_semantics.specs.Lines.{Given}
 use Rattle.session_semantics.specs.Talk.{used_by}
@@ -48,4 +47,4 @@ gone h q = fresh_uses h.given h.start.given.arguments q
 
 -- the run of a call, with so many calls, after k steps
 abbrev pub run_after : (c : PlainCode) (before : Kinds) → State → ℕ → ℕ → Run
-run_after c before s calls k = after before (run_code c) k (begun s calls)
+run_after c before s calls k = after before c k (begun s calls)

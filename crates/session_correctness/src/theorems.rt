@@ -1,7 +1,7 @@
 // The theorems on calls over a store that holds what names hold. Each is the contract of a function that does nothing.
 ghost use Rattle.std.specs.Prelude.{◌≡◌, ℕ, List};
 ghost use Rattle.tree_refinement.specs.fip_language.Table.{Table};
-ghost use Rattle.tree_refinement.specs.code_rules.Codes.{PlainCode, results};
+ghost use Rattle.separation_bounds.specs.cell_code.Plain.{PlainCode, results};
 ghost use Rattle.tree_refinement.specs.machine_semantics.Cells.{Store, count_held};
 ghost use Rattle.tree_refinement.specs.machine_semantics.Runs.{Over, Value, state_of};
 ghost use Rattle.tree_refinement.specs.machine_semantics.States.{State};

@@ -5,15 +5,13 @@ use Rattle.fip_tasks.specs.fip_language.Meaning.{Answer, Gives, Trap, Out, Deep,
 use Rattle.fip_tasks.specs.fip_language.Statics.{NoClosed}
 use Rattle.fip_tasks.specs.fip_language.Table.{Table}
 use Rattle.machine_correctness.specs.machine_semantics.Cells.{Store}
-use Rattle.machine_correctness.specs.machine_semantics.Codes as R
+use Rattle.fip_tasks.specs.cell_code.Plain.{plain}
 use Rattle.machine_correctness.specs.machine_semantics.Runs as C
 use Rattle.machine_correctness.specs.machine_semantics.Runs.{Over}
 use Rattle.machine_correctness.specs.machine_semantics.States.{State}
 use Rattle.machine_correctness.specs.machine_semantics.Steps.{Kinds}
 use Rattle.fip_tasks.specs.code_verify.Checked.{Checked}
-use Rattle.machine_correctness.specs.code_rules.Codes.{plain}
-use Rattle.machine_correctness.specs.separation.Codes.{run_code, AreKinds}
-use Rattle.machine_correctness.proofs.separation.CodesRun.{code_runs}
+use Rattle.machine_correctness.specs.separation.Codes.{AreKinds}
 use Rattle.fip_tasks.specs.fip_machine.declared.machine.Ended.{Ended}
 use Rattle.fip_tasks.specs.fip_machine.declared.machine.Ended.TheVariants as M
 use Rattle.fip_tasks.specs.fip_machine.Tasks.{state_with}
@@ -59,15 +57,14 @@ answered tb types a last store C.Deep left e Deep is h same = subst (λ x. IsMea
 answered tb types a last store C.Deep left e Stuck is h same = absurd same
 answered tb types a last store C.Unsound left e m is h same = absurd h
 
-pub answers_meant : (source : List ℕ) (core : Core) (v : Checked) (before waits : Kinds) (tasks : List Task) (alone : List Begun) (first : Shared) (schedule : List ℕ) (turns : Turns) (k : ℕ) (t : Task) (a : Standing) (e : Ended) → IsCodeOf source core v.code → AreKinds (plain v.code) before waits → AreLaid (plain v.code) tasks alone first → Shows v turns (scheduled before (R.plain v.code) schedule first) → slice_get tasks k ≡ Some t → 0 < length t.header.name → slice_get turns.tasks k ≡ Some a → a.ended ≡ Some e → IsMeant v.code.types t.header.results e (state_with a.stack [] turns.store) a.stack.given (meaning core t.header.name NoClosed t.arguments t.calls t.frames).answer
+pub answers_meant : (source : List ℕ) (core : Core) (v : Checked) (before waits : Kinds) (tasks : List Task) (alone : List Begun) (first : Shared) (schedule : List ℕ) (turns : Turns) (k : ℕ) (t : Task) (a : Standing) (e : Ended) → IsCodeOf source core v.code → AreKinds (plain v.code) before waits → AreLaid (plain v.code) tasks alone first → Shows v turns (scheduled before (plain v.code) schedule first) → slice_get tasks k ≡ Some t → 0 < length t.header.name → slice_get turns.tasks k ≡ Some a → a.ended ≡ Some e → IsMeant v.code.types t.header.results e (state_with a.stack [] turns.store) a.stack.given (meaning core t.header.name NoClosed t.arguments t.calls t.frames).answer
 answers_meant source core v before waits tasks alone first schedule turns k t a e code kinds laid shows task some at ended =
-    let now : Shared = scheduled before (R.plain v.code) schedule first in
-    let written : Shared = scheduled before (run_code (plain v.code)) schedule first in
-    let same : written ≡ now = ap (λ (q : R.PlainCode). scheduled before q schedule first) (code_runs v.code) in
+    let now : Shared = scheduled before (plain v.code) schedule first in
+    let written : Shared = scheduled before (plain v.code) schedule first in
     let run = there turns.tasks now.runs k a shows.number at in
     let o = over v a run.0 e (shows.tasks k a run.0 at run.1) ended in
-    let on : slice_get written.runs k ≡ Some (Over o.end o.last o.left o.steps) = ap (λ (w : Shared). slice_get w.runs k) same ∙ run.1 ∙ ap (λ (m : C.Run). Some m) o.is in
+    let on : slice_get written.runs k ≡ Some (Over o.end o.last o.left o.steps) = run.1 ∙ ap (λ (m : C.Run). Some m) o.is in
     let answer : Answer = (meaning core t.header.name NoClosed t.arguments t.calls t.frames).answer in
     let meant : IsSameEnd v.code.types t.header.results (record o.last { store = written.store }) o.left o.end answer = tasks_meant source core v.code before waits tasks alone first schedule k t o.end o.last o.left o.steps code kinds laid task some on in
-    let store : written.store ≡ turns.store = ap (λ (w : Shared). w.store) same ∙ sym shows.store in
+    let store : written.store ≡ turns.store = sym shows.store in
     answered v.code.types t.header.results a o.last turns.store o.end o.left e answer ended o.ended (subst (λ (s : Store). IsSameEnd v.code.types t.header.results (record o.last { store = s }) o.left o.end answer) store meant)

@@ -7,16 +7,13 @@ use Rattle.std.proofs.lemmas.Bool.Decides.{nat_tests}
 use Rattle.fip_tasks.specs.fip_language.Store.{one_at, count}
 use Rattle.fip_tasks.specs.fip_language.Gauge.{highest_frames, highest_words, lowest, highest}
 use Rattle.fip_tasks.specs.fip_language.declared.limits.TheConstants.{MOST_FIELDS}
-use Rattle.machine_correctness.specs.machine_semantics.Codes as R
+use Rattle.fip_tasks.specs.cell_code.Plain.{PlainCode, plain}
 use Rattle.machine_correctness.specs.machine_semantics.Cells.{Store, IsStore, there, count_held}
 use Rattle.machine_correctness.specs.machine_semantics.Gauges.{seen}
 use Rattle.machine_correctness.specs.machine_semantics.Steps.{Kinds}
 use Rattle.machine_correctness.specs.machine_semantics.States.{State, frames_held, words_held}
 use Rattle.machine_correctness.specs.machine_semantics.Runs.{Run, Going, Over, state_of, begun, later, after}
-use Rattle.machine_correctness.specs.code_rules.Codes.{PlainCode, plain}
-use Rattle.machine_correctness.specs.separation.Codes.{run_code}
 use Rattle.machine_correctness.specs.separation.Starts.{IsStart}
-use Rattle.machine_correctness.proofs.separation.CodesRun.{code_runs}
 use Rattle.machine_correctness.proofs.separation.Running.{run_good, run_alive}
 use Rattle.machine_correctness.proofs.separation.Stores.{same_place}
 use Rattle.machine_correctness.proofs.separation_kinds.Agree.{one_here, one_apart}
@@ -49,19 +46,19 @@ on_and_on : (ks : List ℕ) (j : ℕ) (js : List ℕ) → (ks ++ j ∷ []) ++ js
 on_and_on [] j js = refl
 on_and_on (i ∷ ks) j js = ap (λ xs. i ∷ xs) (on_and_on ks j js)
 
-after_later : (kinds : Kinds) (code : R.PlainCode) (n : ℕ) (r : Run) → after kinds code (suc n) r ≡ later kinds code (after kinds code n r)
+after_later : (kinds : Kinds) (code : PlainCode) (n : ℕ) (r : Run) → after kinds code (suc n) r ≡ later kinds code (after kinds code n r)
 after_later kinds code zero r = refl
 after_later kinds code (suc n) r = after_later kinds code n (later kinds code r)
 
-same_cells : (before waits : Kinds) (code : R.PlainCode) (n : ℕ) (f : Renaming) (a m : Run) → IsSameRun before waits code n f a m → AreRenamed f (state_of a).store (state_of m).store
+same_cells : (before waits : Kinds) (code : PlainCode) (n : ℕ) (f : Renaming) (a m : Run) → IsSameRun before waits code n f a m → AreRenamed f (state_of a).store (state_of m).store
 same_cells before waits code n f (Going s l i) (Going t l' j) h = h.0.cells
 same_cells before waits code n f (Going s l i) (Over e t l' j) h = absurd h
 same_cells before waits code n f (Over e s l i) (Going t l' j) h = absurd h
 same_cells before waits code n f (Over e s l i) (Over d t l' j) h = h.1.cells
 
-module _ (before waits : Kinds) (c : PlainCode) (tasks : List Begun) (first : Shared) (loaded : AreLoaded before waits c tasks) (together : BeginTogether before waits (run_code c) tasks first) where
-  abbrev code : R.PlainCode
-  code = run_code c
+module _ (before waits : Kinds) (c : PlainCode) (tasks : List Begun) (first : Shared) (loaded : AreLoaded before waits c tasks) (together : BeginTogether before waits c tasks first) where
+  abbrev code : PlainCode
+  code = c
 
   -- the runs after some turns
   abbrev at : List ℕ → Shared
@@ -229,24 +226,24 @@ first_held size s zero = refl
 first_held size s (suc n) = refl
 
 -- what is asked of a task's numbers: those of its run alone
-record IsCountedAlone (before : Kinds) (code : R.PlainCode) (first : Shared) (schedule : List ℕ) (k : ℕ) (b : Begun) : Type 0 where
+record IsCountedAlone (before : Kinds) (code : PlainCode) (first : Shared) (schedule : List ℕ) (k : ℕ) (b : Begun) : Type 0 where
   frames : frames_reached before code k schedule first ≡ highest_frames (seen before code (count k schedule) (begun b.state b.calls))
   words : words_reached before code k schedule first ≡ highest_words (seen before code (count k schedule) (begun b.state b.calls))
   released : (size : ℕ) → 1 ≤ size → cells_released before code k size schedule first + held size (alone before code k schedule (begun b.state b.calls)) ≡ held size (begun b.state b.calls)
 
-counted_alone : (before waits : Kinds) (c : PlainCode) (tasks : List Begun) (first : Shared) (schedule : List ℕ) (k : ℕ) (b : Begun) → AreLoaded before waits c tasks → BeginTogether before waits (run_code c) tasks first → slice_get tasks k ≡ Some b → IsCountedAlone before (run_code c) first schedule k b
+counted_alone : (before waits : Kinds) (c : PlainCode) (tasks : List Begun) (first : Shared) (schedule : List ℕ) (k : ℕ) (b : Begun) → AreLoaded before waits c tasks → BeginTogether before waits c tasks first → slice_get tasks k ≡ Some b → IsCountedAlone before c first schedule k b
 counted_alone before waits c tasks first schedule k b loaded together is = record {
   frames = reached_frames before waits c tasks first loaded together k b is schedule [];
   words = reached_words before waits c tasks first loaded together k b is schedule [];
   released = λ size some. lost before waits c tasks first loaded together k b is size some schedule [] together.store;
 }
 
-pub gauge_alone : (v : Checked) (before waits : Kinds) (tasks : List Begun) (first : Shared) (schedule : List ℕ) (turns : Turns) (k : ℕ) (b : Begun) (a : Standing) (g : Gauge) → AreLoaded before waits (plain v.code) tasks → BeginTogether before waits (run_code (plain v.code)) tasks first → HaveFollowed v before first schedule turns → slice_get tasks k ≡ Some b → slice_get turns.tasks k ≡ Some a → ((size : ℕ) → 1 ≤ size → size ≤ MOST_FIELDS → started_of a size ≡ count_held size b.state.store) → IsGaugeOf a g → Reports g (seen before (R.plain v.code) (count k schedule) (begun b.state b.calls))
+pub gauge_alone : (v : Checked) (before waits : Kinds) (tasks : List Begun) (first : Shared) (schedule : List ℕ) (turns : Turns) (k : ℕ) (b : Begun) (a : Standing) (g : Gauge) → AreLoaded before waits (plain v.code) tasks → BeginTogether before waits (plain v.code) tasks first → HaveFollowed v before first schedule turns → slice_get tasks k ≡ Some b → slice_get turns.tasks k ≡ Some a → ((size : ℕ) → 1 ≤ size → size ≤ MOST_FIELDS → started_of a size ≡ count_held size b.state.store) → IsGaugeOf a g → Reports g (seen before (plain v.code) (count k schedule) (begun b.state b.calls))
 gauge_alone v before waits tasks first schedule turns k b a g loaded together followed is on starts gauge =
-    let code = R.plain v.code in
+    let code = plain v.code in
     let r : Run = begun b.state b.calls in
     let n = count k schedule in
-    let counts = subst (λ (q : R.PlainCode). IsCountedAlone before q first schedule k b) (code_runs v.code) (counted_alone before waits (plain v.code) tasks first schedule k b loaded together is) in
+    let counts = counted_alone before waits (plain v.code) tasks first schedule k b loaded together is in
     let s = followed.seen k a on in
     record {
       lowest = λ size some few.

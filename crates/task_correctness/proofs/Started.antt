@@ -8,13 +8,11 @@ use Rattle.fip_tasks.specs.fip_language.Table.{Table, HaveTypes}
 use Rattle.fip_tasks.specs.fip_language.Values.{Values, End, More}
 use Rattle.fip_tasks.specs.cell_code.declared.code.Code.{Code}
 use Rattle.fip_tasks.specs.cell_code.declared.code.Function.{Function}
-use Rattle.machine_correctness.specs.machine_semantics.Codes as R
+use Rattle.fip_tasks.specs.cell_code.Plain.{PlainFunction, PlainCode, plain_function, plain, function_at}
 use Rattle.machine_correctness.specs.machine_semantics.Cells.{Store}
 use Rattle.machine_correctness.specs.machine_semantics.Runs.{Run, loaded, begun}
 use Rattle.machine_correctness.specs.code_rules.Breaks.{IsSound}
-use Rattle.machine_correctness.specs.code_rules.Codes.{PlainFunction, PlainCode, plain, plain_function, function_at}
 use Rattle.fip_tasks.specs.code_verify.Checked.{Checked}
-use Rattle.machine_correctness.proofs.separation.CodesRun.{code_runs}
 use Rattle.machine_correctness.proofs.separation.Sound.{formed, has_form}
 use Rattle.machine_correctness.specs.run_loading.Loading.{value_places, all_places, all_words, credit_words}
 use Rattle.fip_tasks.specs.task_semantics.Laid.{Task, IsBegun, AreBegun, AreLaid, shared_store, task_places, task_words}
@@ -58,13 +56,13 @@ is_started : (v : Checked) (shared : Store) (n : ℕ) (t : Task) (b : Begun) (r 
 is_started v shared n t b r s sound i is =
     let g = function_of v.code t.function t.header i.task.there in
     let fits : length (task_words n t) ≤ g.0.registers = subst (λ (f : PlainFunction). length (task_words n t) ≤ f.registers) (sym g.2) (words_fit (plain v.code) n t sound i.task.there i.task.typed) in
-    let first : loaded (R.plain v.code) t.function shared (task_words n t) t.frames ≡ Some i.among = ap (λ (q : R.PlainCode). loaded q t.function shared (task_words n t) t.frames) (sym (code_runs v.code)) ∙ i.further in
+    let first : loaded (plain v.code) t.function shared (task_words n t) t.frames ≡ Some i.among = i.further in
     record {
       function = g.0;
       there = ap (slice_get v.code.functions.items) is.entry ∙ g.1;
       fits = subst (λ (ws : List ℕ). length ws ≤ g.0.registers) (sym is.words) fits;
       first = i.among;
-      loaded = (λ j. loaded (R.plain v.code) (is.entry j) shared (is.words j) (is.frames j)) ∙ first;
+      loaded = (λ j. loaded (plain v.code) (is.entry j) shared (is.words j) (is.frames j)) ∙ first;
       run = i.run ∙ ap (begun i.among) (sym is.calls);
     }
 

@@ -5,17 +5,15 @@ use Rattle.std.specs.Prelude.{slice_get}
 use Rattle.fip_tasks.specs.fip_base.declared.plain.Param.{Param}
 use Rattle.fip_tasks.specs.fip_language.Store.{Parts, NoParts, MoreParts, words_of}
 use Rattle.fip_tasks.specs.fip_language.Table.{Table}
-use Rattle.machine_correctness.specs.machine_semantics.Codes as R
+use Rattle.fip_tasks.specs.cell_code.Plain.{PlainFunction, PlainCode, plain}
 use Rattle.machine_correctness.specs.machine_semantics.Cells.{Store}
 use Rattle.machine_correctness.specs.machine_semantics.Runs.{Run, Over, loaded, begun}
 use Rattle.machine_correctness.specs.machine_semantics.Steps.{Kinds}
 use Rattle.machine_correctness.specs.machine_semantics.Trees.{StandAll}
 use Rattle.machine_correctness.specs.machine_semantics.Words.{place_word}
 use Rattle.machine_correctness.specs.code_rules.Breaks.{IsSound}
-use Rattle.machine_correctness.specs.code_rules.Codes.{PlainFunction, PlainCode, plain}
 use Rattle.fip_tasks.specs.code_verify.Checked.{Checked}
-use Rattle.machine_correctness.specs.separation.Codes.{run_code, HasLiterals, AreKinds}
-use Rattle.machine_correctness.proofs.separation.CodesRun.{code_runs}
+use Rattle.machine_correctness.specs.separation.Codes.{HasLiterals, AreKinds}
 use Rattle.machine_correctness.proofs.separation.Sound.{formed, has_form}
 use Rattle.fip_tasks.specs.fip_machine.declared.machine.Ended.{Ended}
 use Rattle.fip_tasks.specs.task_semantics.Projected.{Begun}
@@ -52,13 +50,13 @@ is_started : (v : Checked) (s : Store) (l : Lying) (b : Begun) (r : Run) (start 
 is_started v s l b r start sound lies i is =
     let g = function_of v.code l.task.function l.task.header lies.there in
     let fits : length (call_words l) ≤ g.0.registers = subst (λ (f : PlainFunction). length (call_words l) ≤ f.registers) (sym g.2) (words_fit (plain v.code) s l sound lies) in
-    let first : loaded (R.plain v.code) l.task.function s (call_words l) l.task.frames ≡ Some i.among = ap (λ (q : R.PlainCode). loaded q l.task.function s (call_words l) l.task.frames) (sym (code_runs v.code)) ∙ i.further in
+    let first : loaded (plain v.code) l.task.function s (call_words l) l.task.frames ≡ Some i.among = i.further in
     record {
       function = g.0;
       there = ap (slice_get v.code.functions.items) is.entry ∙ g.1;
       fits = subst (λ (ws : List ℕ). length ws ≤ g.0.registers) (sym is.words) fits;
       first = i.among;
-      loaded = (λ j. loaded (R.plain v.code) (is.entry j) s (is.words j) (is.frames j)) ∙ first;
+      loaded = (λ j. loaded (plain v.code) (is.entry j) s (is.words j) (is.frames j)) ∙ first;
       run = i.run ∙ ap (begun i.among) (sym is.calls);
     }
 
@@ -72,16 +70,15 @@ apart_started v ls alone first starts sound h is = record {
       is_started v first.store l.0 b.0 r start sound (lies_at (plain v.code) first.store ls k l.0 h.apart.calls l.1) (h.begun k l.0 b.0 r l.1 b.1 f) (is.each k l.0 start l.1 e);
 }
 
-pub apart_answers : (v : Checked) (before waits : Kinds) (ls : List Lying) (alone : List Begun) (first : Shared) (schedule : List ℕ) (turns : Turns) (k : ℕ) (l : Lying) (a : Standing) (x : Ended) → IsSound (plain v.code) → HasLiterals (plain v.code) → AreKinds (plain v.code) before waits → AreApart (plain v.code) ls alone first → Shows v turns (scheduled before (R.plain v.code) schedule first) → slice_get ls k ≡ Some l → slice_get turns.tasks k ≡ Some a → a.ended ≡ Some x → HasAnswered (plain v.code) l.task turns.store a
+pub apart_answers : (v : Checked) (before waits : Kinds) (ls : List Lying) (alone : List Begun) (first : Shared) (schedule : List ℕ) (turns : Turns) (k : ℕ) (l : Lying) (a : Standing) (x : Ended) → IsSound (plain v.code) → HasLiterals (plain v.code) → AreKinds (plain v.code) before waits → AreApart (plain v.code) ls alone first → Shows v turns (scheduled before (plain v.code) schedule first) → slice_get ls k ≡ Some l → slice_get turns.tasks k ≡ Some a → a.ended ≡ Some x → HasAnswered (plain v.code) l.task turns.store a
 apart_answers v before waits ls alone first schedule turns k l a x sound literals kinds h shows task at e =
-    let now : Shared = scheduled before (R.plain v.code) schedule first in
-    let written : Shared = scheduled before (run_code (plain v.code)) schedule first in
-    let same : written ≡ now = ap (λ (q : R.PlainCode). scheduled before q schedule first) (code_runs v.code) in
+    let now : Shared = scheduled before (plain v.code) schedule first in
+    let written : Shared = scheduled before (plain v.code) schedule first in
     let run = there turns.tasks now.runs k a shows.number at in
     let o = over v a run.0 x (shows.tasks k a run.0 at run.1) e in
-    let on : slice_get written.runs k ≡ Some (Over o.end o.last o.left o.steps) = ap (λ (w : Shared). slice_get w.runs k) same ∙ run.1 ∙ ap (λ (m : Run). Some m) o.is in
+    let on : slice_get written.runs k ≡ Some (Over o.end o.last o.left o.steps) = run.1 ∙ ap (λ (m : Run). Some m) o.is in
     let trees : EndsOnTrees (plain v.code) l.task (record o.last { store = written.store }) o.end o.left o.steps = ends_on_trees (plain v.code) before waits ls alone first schedule k l o.end o.last o.left o.steps sound literals kinds h task on in
-    let store : written.store ≡ turns.store = ap (λ (w : Shared). w.store) same ∙ sym shows.store in
+    let store : written.store ≡ turns.store = sym shows.store in
     record {
       end = o.end;
       last = o.last;

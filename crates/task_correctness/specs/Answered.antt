@@ -8,7 +8,7 @@ use Rattle.fip_tasks.specs.task_semantics.Lying.{Lying, call_words}
 use Rattle.machine_correctness.specs.machine_semantics.Cells.{Store}
 use Rattle.machine_correctness.specs.machine_semantics.Runs.{End}
 use Rattle.machine_correctness.specs.machine_semantics.States.{State}
-use Rattle.machine_correctness.specs.code_rules.Codes.{PlainCode}
+use Rattle.fip_tasks.specs.cell_code.Plain.{PlainCode}
 use Rattle.fip_tasks.specs.task_semantics.Ended.{EndsOnTrees}
 use Rattle.fip_tasks.specs.task_semantics.Laid.{Task, task_places, task_words}
 use Rattle.fip_tasks.specs.Shown.{HasEnded}

@@ -4,12 +4,11 @@ ghost use Rattle.fip_tasks.specs.fip_language.Core.{Core};
 ghost use Rattle.fip_tasks.specs.fip_language.Meaning.{meaning};
 ghost use Rattle.fip_tasks.specs.fip_language.Statics.{NoClosed};
 ghost use Rattle.fip_tasks.specs.cell_code.declared.code.Code.{Code};
-ghost use Rattle.machine_correctness.specs.machine_semantics.Codes as R;
+ghost use Rattle.fip_tasks.specs.cell_code.Plain.{plain};
 ghost use Rattle.machine_correctness.specs.machine_semantics.Runs.{End, Over};
 ghost use Rattle.machine_correctness.specs.machine_semantics.States.{State};
 ghost use Rattle.machine_correctness.specs.machine_semantics.Steps.{Kinds};
-ghost use Rattle.machine_correctness.specs.code_rules.Codes.{plain};
-ghost use Rattle.machine_correctness.specs.separation.Codes.{run_code, AreKinds};
+ghost use Rattle.machine_correctness.specs.separation.Codes.{AreKinds};
 ghost use Rattle.fip_tasks.specs.code_verify.Checked.{Checked};
 ghost use Rattle.fip_tasks.specs.fip_machine.declared.machine.Ended.{Ended};
 ghost use Rattle.fip_tasks.specs.fip_machine.Tasks.{state_with};
@@ -32,9 +31,9 @@ pub fn tasks_end_as_the_source_means()
         (alone : List Begun) (first : Shared) (schedule : List ℕ) (k : ℕ) (t : Task) (e : End) (last : State)
         (left steps : ℕ) → IsCodeOf source core code → AreKinds (plain code) before waits →
         AreLaid (plain code) tasks alone first → slice_get tasks k ≡ Some t → 0 < length t.header.name →
-        slice_get (scheduled before (run_code (plain code)) schedule first).runs k ≡ Some (Over e last left steps) →
+        slice_get (scheduled before (plain code) schedule first).runs k ≡ Some (Over e last left steps) →
         IsSameEnd code.types t.header.results
-        (record last { store = (scheduled before (run_code (plain code)) schedule first).store }) left e
+        (record last { store = (scheduled before (plain code) schedule first).store }) left e
         (meaning core t.header.name NoClosed t.arguments t.calls t.frames).answer }
 {}
 
@@ -47,7 +46,7 @@ pub fn tasks_answer_what_the_source_means()
         (alone : List Begun) (first : Shared) (schedule : List ℕ) (turns : Turns) (k : ℕ) (t : Task) (a : Standing)
         (e : Ended) → IsCodeOf source core v.code → AreKinds (plain v.code) before waits →
         AreLaid (plain v.code) tasks alone first →
-        Shows v turns (scheduled before (R.plain v.code) schedule first) →
+        Shows v turns (scheduled before (plain v.code) schedule first) →
         slice_get tasks k ≡ Some t → 0 < length t.header.name → slice_get turns.tasks k ≡ Some a → a.ended ≡ Some e →
         IsMeant v.code.types t.header.results e (state_with a.stack [] turns.store) a.stack.given (meaning core
         t.header.name NoClosed t.arguments t.calls t.frames).answer }
@@ -59,7 +58,7 @@ pub fn apart_tasks_answer_what_the_source_means()
         (alone : List Begun) (first : Shared) (schedule : List ℕ) (turns : Turns) (k : ℕ) (l : Lying) (a : Standing)
         (e : Ended) → IsCodeOf source core v.code → AreKinds (plain v.code) before waits →
         AreApart (plain v.code) ls alone first →
-        Shows v turns (scheduled before (R.plain v.code) schedule first) →
+        Shows v turns (scheduled before (plain v.code) schedule first) →
         slice_get ls k ≡ Some l → 0 < length l.task.header.name → slice_get turns.tasks k ≡ Some a →
         a.ended ≡ Some e →
         IsMeant v.code.types l.task.header.results e (state_with a.stack [] turns.store) a.stack.given (meaning core

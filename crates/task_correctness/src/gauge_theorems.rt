@@ -3,12 +3,10 @@ ghost use Rattle.std.specs.Prelude.{◌≡◌, ◌≤◌, ℕ, List, Some, slice
 ghost use Rattle.fip_tasks.specs.fip_language.Store.{count};
 ghost use Rattle.fip_tasks.specs.fip_language.declared.limits.TheConstants.{MOST_FIELDS};
 ghost use Rattle.machine_correctness.specs.machine_semantics.Cells.{count_held};
-ghost use Rattle.machine_correctness.specs.machine_semantics.Codes as R;
+ghost use Rattle.fip_tasks.specs.cell_code.Plain.{plain};
 ghost use Rattle.machine_correctness.specs.machine_semantics.Gauges.{seen};
 ghost use Rattle.machine_correctness.specs.machine_semantics.Runs.{begun};
 ghost use Rattle.machine_correctness.specs.machine_semantics.Steps.{Kinds};
-ghost use Rattle.machine_correctness.specs.code_rules.Codes.{plain};
-ghost use Rattle.machine_correctness.specs.separation.Codes.{run_code};
 ghost use Rattle.fip_tasks.specs.code_verify.Checked.{Checked};
 ghost use Rattle.fip_tasks.specs.fip_machine.declared.gauge.Gauge.{Gauge};
 ghost use Rattle.fip_tasks.specs.fip_machine.GaugeView.{Reports};
@@ -25,8 +23,8 @@ ghost use Rattle.fip_tasks.specs.Turns.{Standing, Turns};
 pub fn a_tasks_gauge_is_that_of_it_alone()
     ensures theorem { (v : Checked) (before waits : Kinds) (tasks : List Begun) (first : Shared) (schedule : List ℕ)
         (turns : Turns) (k : ℕ) (b : Begun) (a : Standing) (g : Gauge) → AreLoaded before waits (plain v.code) tasks →
-        BeginTogether before waits (run_code (plain v.code)) tasks first →
+        BeginTogether before waits (plain v.code) tasks first →
         HaveFollowed v before first schedule turns → slice_get tasks k ≡ Some b → slice_get turns.tasks k ≡ Some a →
         ((size : ℕ) → 1 ≤ size → size ≤ MOST_FIELDS → started_of a size ≡ count_held size b.state.store) →
-        IsGaugeOf a g → Reports g (seen before (R.plain v.code) (count k schedule) (begun b.state b.calls)) }
+        IsGaugeOf a g → Reports g (seen before (plain v.code) (count k schedule) (begun b.state b.calls)) }
 {}

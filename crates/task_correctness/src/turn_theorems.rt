@@ -1,11 +1,10 @@
 // The theorems that join tasks on the machine with what is known of schedules. Each is the contract of a function that does
 // nothing.
 ghost use Rattle.std.specs.Prelude.{◌≡◌, ℕ, List, Some, slice_get};
-ghost use Rattle.machine_correctness.specs.machine_semantics.Codes as R;
+ghost use Rattle.fip_tasks.specs.cell_code.Plain.{plain};
 ghost use Rattle.machine_correctness.specs.machine_semantics.Steps.{Kinds};
 ghost use Rattle.machine_correctness.specs.code_rules.Breaks.{IsSound};
-ghost use Rattle.machine_correctness.specs.code_rules.Codes.{plain};
-ghost use Rattle.machine_correctness.specs.separation.Codes.{run_code, HasLiterals, AreKinds};
+ghost use Rattle.machine_correctness.specs.separation.Codes.{HasLiterals, AreKinds};
 ghost use Rattle.fip_tasks.specs.code_verify.Checked.{Checked};
 ghost use Rattle.fip_tasks.specs.fip_machine.declared.machine.Ended.{Ended};
 ghost use Rattle.fip_tasks.specs.task_semantics.Schedules.{Shared, scheduled};
@@ -23,12 +22,12 @@ ghost use Rattle.task_correctness.specs.Answered.{AreStartsOf, AreStartsAt, HasA
 pub fn loaded_tasks_can_turn()
     ensures turn { (v : Checked) (before waits : Kinds) (alone : List Begun) (first : Shared) (schedule : List ℕ)
         (k : ℕ) → AreLoaded before waits (plain v.code) alone →
-        BeginTogether before waits (run_code (plain v.code)) alone first →
-        CanTurn v before (scheduled before (R.plain v.code) schedule first) k }
+        BeginTogether before waits (plain v.code) alone first →
+        CanTurn v before (scheduled before (plain v.code) schedule first) k }
     ensures finish { (v : Checked) (before waits : Kinds) (alone : List Begun) (first : Shared) (schedule : List ℕ)
         (k : ℕ) → AreLoaded before waits (plain v.code) alone →
-        BeginTogether before waits (run_code (plain v.code)) alone first →
-        CanFinish v before (scheduled before (R.plain v.code) schedule first) k }
+        BeginTogether before waits (plain v.code) alone first →
+        CanFinish v before (scheduled before (plain v.code) schedule first) k }
 {}
 
 /// Calls that are loaded one after another begin where their functions are loaded, each with its words. For who starts
@@ -48,7 +47,7 @@ pub fn tasks_answer_as_alone()
         (schedule : List ℕ) (turns : Turns) (k : ℕ) (t : Task) (a : Standing) (x : Ended) →
         IsSound (plain v.code) → HasLiterals (plain v.code) → AreKinds (plain v.code) before waits →
         AreLaid (plain v.code) tasks alone first →
-        Shows v turns (scheduled before (R.plain v.code) schedule first) →
+        Shows v turns (scheduled before (plain v.code) schedule first) →
         slice_get tasks k ≡ Some t → slice_get turns.tasks k ≡ Some a → a.ended ≡ Some x →
         HasAnswered (plain v.code) t turns.store a }
 {}
@@ -67,7 +66,7 @@ pub fn apart_tasks_answer_as_alone()
         (schedule : List ℕ) (turns : Turns) (k : ℕ) (l : Lying) (a : Standing) (x : Ended) →
         IsSound (plain v.code) → HasLiterals (plain v.code) → AreKinds (plain v.code) before waits →
         AreApart (plain v.code) ls alone first →
-        Shows v turns (scheduled before (R.plain v.code) schedule first) →
+        Shows v turns (scheduled before (plain v.code) schedule first) →
         slice_get ls k ≡ Some l → slice_get turns.tasks k ≡ Some a → a.ended ≡ Some x →
         HasAnswered (plain v.code) l.task turns.store a }
 {}

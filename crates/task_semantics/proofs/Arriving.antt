@@ -6,7 +6,8 @@ use Rattle.run_loading.specs.cell_code.declared.code.Instr.TheVariants as I
 use Rattle.run_loading.specs.cell_code.declared.kind.Kind.{Kind}
 use Rattle.run_loading.specs.machine_semantics.Cells.{Store}
 use Rattle.run_loading.specs.machine_semantics.Steps.{Kinds}
-use Rattle.run_loading.specs.code_rules.Codes.{PlainCode, PlainFunction, function_at, label_at}
+use Rattle.run_loading.specs.cell_code.Plain.{PlainFunction, PlainCode, function_at}
+use Rattle.run_loading.specs.code_rules.Codes.{label_at}
 use Rattle.run_loading.specs.code_rules.Kinds.{at}
 use Rattle.run_loading.specs.code_rules.Ranges.{in_range, is_target}
 use Rattle.run_loading.specs.code_rules.Leaves.{Jumps}

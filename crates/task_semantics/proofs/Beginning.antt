@@ -13,10 +13,9 @@ use Rattle.run_loading.specs.machine_semantics.States.{State}
 use Rattle.run_loading.specs.machine_semantics.Steps.{Kinds}
 use Rattle.run_loading.specs.machine_semantics.Trees.{StandAll}
 use Rattle.run_loading.specs.code_rules.Breaks.{IsSound}
-use Rattle.run_loading.specs.code_rules.Codes.{PlainCode, function_at}
-use Rattle.run_loading.specs.separation.Codes.{run_code, HasLiterals, AreKinds}
+use Rattle.run_loading.specs.cell_code.Plain.{PlainCode, function_at}
+use Rattle.run_loading.specs.separation.Codes.{HasLiterals, AreKinds}
 use Rattle.run_loading.specs.separation.Starts.{IsStart}
-use Rattle.run_loading.proofs.separation.Calling.{run_function_at}
 use Rattle.run_loading.proofs.separation.Loading.{loaded_is}
 use Rattle.task_semantics.specs.Projected.{Begun, IsThere, renamed_parts, IsProjected, IsSameRun, BeginTogether, AreLoaded}
 use Rattle.task_semantics.specs.Schedules.{Shared, in_store}
@@ -58,8 +57,8 @@ spare_long s (k ∷ ks) (p ∷ ps) h = ap suc (spare_long s ks ps h.1)
 abbrev pub state_over : PlainCode → Store → Lying → State
 state_over c s l = first_state c l.task.function l.task.header s (call_words l) l.task.frames
 
-pub loads : (c : PlainCode) (s : Store) (l : Lying) → function_at c l.task.function ≡ Some l.task.header → loaded (run_code c) l.task.function s (call_words l) l.task.frames ≡ Some (state_over c s l)
-loads c s l is = ap (λ o. loaded_in c.types l.task.function o s (call_words l) l.task.frames) (run_function_at c l.task.function l.task.header is)
+pub loads : (c : PlainCode) (s : Store) (l : Lying) → function_at c l.task.function ≡ Some l.task.header → loaded c l.task.function s (call_words l) l.task.frames ≡ Some (state_over c s l)
+loads c s l is = ap (λ o. loaded_in c.types l.task.function o s (call_words l) l.task.frames) is
 
 abbrev pub start_over : (c : PlainCode) (before waits : Kinds) (s : Store) (l : Lying) → IsSound c → HasLiterals c → AreKinds c before waits → IsStore s → LiesIn c s l → ((p : ℕ) → uses_by l p + released_at s p ≤ there s p) → IsStart c before waits l.task.function [] (state_over c (own_store s l) l)
 start_over c before waits s l sound literals kinds store lies once = record {
@@ -74,16 +73,16 @@ start_over c before waits s l sound literals kinds store lies once = record {
   loaded = loads c (own_store s l) l lies.there;
 }
 
-projected : (c : PlainCode) (before waits : Kinds) (s : Store) (l : Lying) → IsSound c → HasLiterals c → AreKinds c before waits → IsStore s → LiesIn c s l → ((p : ℕ) → uses_by l p + released_at s p ≤ there s p) → IsProjected before waits (run_code c) (λ p. p) (state_over c (own_store s l) l) (state_over c s l)
+projected : (c : PlainCode) (before waits : Kinds) (s : Store) (l : Lying) → IsSound c → HasLiterals c → AreKinds c before waits → IsStore s → LiesIn c s l → ((p : ℕ) → uses_by l p + released_at s p ≤ there s p) → IsProjected before waits c (λ p. p) (state_over c (own_store s l) l) (state_over c s l)
 projected c before waits s l sound literals kinds store lies once =
     let given = own_given c s l store lies once in
     let words : given_words (renamed_parts (λ p. p) l.trees) (map (λ p. p) l.spares) ≡ call_words l = λ i. given_words (trees_stay l.trees i) (places_stay l.spares i) in
-    subst (λ ws. IsProjected before waits (run_code c) (λ p. p) (state_over c (own_store s l) l) (first_state c l.task.function l.task.header s ws l.task.frames)) words
+    subst (λ ws. IsProjected before waits c (λ p. p) (state_over c (own_store s l) l) (first_state c l.task.function l.task.header s ws l.task.frames)) words
     (first_projected (λ p. p) c before waits (own_store s l) s l.task.function l.task.header l.trees l.spares l.task.frames sound kinds lies.there (own_renamed s l once) given.stand
     (subst (StandAll c.types s (map (λ (p : Param). p.ty) l.task.header.params)) (sym (trees_stay l.trees)) lies.stand)
     (spare_long s l.task.header.credits l.spares lies.credits))
 
-pub same_begun : (c : PlainCode) (before waits : Kinds) (shared : Store) (n : ℕ) (f : ℕ → ℕ) (a u : State) (calls : ℕ) → IsProjected before waits (run_code c) f a (record u { store = shared }) → IsSameRun before waits (run_code c) n f (begun a calls) (in_store shared (begun u calls))
+pub same_begun : (c : PlainCode) (before waits : Kinds) (shared : Store) (n : ℕ) (f : ℕ → ℕ) (a u : State) (calls : ℕ) → IsProjected before waits c f a (record u { store = shared }) → IsSameRun before waits c n f (begun a calls) (in_store shared (begun u calls))
 same_begun c before waits shared n f a u zero h = (tt, h, refl, refl)
 same_begun c before waits shared n f a u (suc calls) h = (h, refl, refl)
 
@@ -92,19 +91,19 @@ same_begun c before waits shared n f a u (suc calls) h = (h, refl, refl)
 -- what is known of one that begins so
 record IsKnown (c : PlainCode) (before waits : Kinds) (s : Store) (l : Lying) (b : Begun) (r : Run) : Type 0 where
   start : IsStart c before waits b.function [] b.state
-  same : IsSameRun before waits (run_code c) b.function b.places (begun b.state b.calls) (in_store s r)
+  same : IsSameRun before waits c b.function b.places (begun b.state b.calls) (in_store s r)
 
 known : (c : PlainCode) (before waits : Kinds) (s : Store) (l : Lying) (b : Begun) (r : Run) → IsSound c → HasLiterals c → AreKinds c before waits → IsStore s → LiesIn c s l → ((p : ℕ) → uses_by l p + released_at s p ≤ there s p) → IsBegun c s l b r → IsKnown c before waits s l b r
 known c before waits s l b r sound literals kinds store lies once i =
     let own : i.own ≡ state_over c (own_store s l) l = loaded_is c l.task.function l.task.header (own_store s l) (call_words l) l.task.frames i.own lies.there i.first in
     let among : i.among ≡ state_over c s l = loaded_is c l.task.function l.task.header s (call_words l) l.task.frames i.among lies.there i.further in
-    let run : IsSameRun before waits (run_code c) l.task.function (λ p. p) (begun i.own l.task.calls) (in_store s (begun i.among l.task.calls)) =
-    subst (λ (a : State). IsSameRun before waits (run_code c) l.task.function (λ p. p) (begun a l.task.calls) (in_store s (begun i.among l.task.calls))) (sym own)
-    (subst (λ (u : State). IsSameRun before waits (run_code c) l.task.function (λ p. p) (begun (state_over c (own_store s l) l) l.task.calls) (in_store s (begun u l.task.calls))) (sym among)
+    let run : IsSameRun before waits c l.task.function (λ p. p) (begun i.own l.task.calls) (in_store s (begun i.among l.task.calls)) =
+    subst (λ (a : State). IsSameRun before waits c l.task.function (λ p. p) (begun a l.task.calls) (in_store s (begun i.among l.task.calls))) (sym own)
+    (subst (λ (u : State). IsSameRun before waits c l.task.function (λ p. p) (begun (state_over c (own_store s l) l) l.task.calls) (in_store s (begun u l.task.calls))) (sym among)
     (same_begun c before waits s l.task.function (λ p. p) (state_over c (own_store s l) l) (state_over c s l) l.task.calls (projected c before waits s l sound literals kinds store lies once))) in
     subst (λ (x : Begun). IsKnown c before waits s l x r) (sym i.alone) (record {
       start = subst (λ (u : State). IsStart c before waits l.task.function [] u) (sym own) (start_over c before waits s l sound literals kinds store lies once);
-      same = subst (λ (q : Run). IsSameRun before waits (run_code c) l.task.function (λ p. p) (begun i.own l.task.calls) (in_store s q)) (sym i.run) run;
+      same = subst (λ (q : Run). IsSameRun before waits c l.task.function (λ p. p) (begun i.own l.task.calls) (in_store s q)) (sym i.run) run;
     })
 
 -- the call and the run of a task that begins alone so
@@ -140,7 +139,7 @@ one_cell : (o : Option Cell) → one_if_some o ≤ 1
 one_cell None = omega arith
 one_cell (Some c) = omega arith
 
-pub begin_together : (c : PlainCode) (before waits : Kinds) (ls : List Lying) (alone : List Begun) (first : Shared) → IsSound c → HasLiterals c → AreKinds c before waits → AreApart c ls alone first → BeginTogether before waits (run_code c) alone first
+pub begin_together : (c : PlainCode) (before waits : Kinds) (ls : List Lying) (alone : List Begun) (first : Shared) → IsSound c → HasLiterals c → AreKinds c before waits → AreApart c ls alone first → BeginTogether before waits c alone first
 begin_together c before waits ls alone first sound literals kinds h = record {
   store = h.apart.store;
   apart = λ i j p q a b e f off at_p at_q same.
@@ -159,7 +158,7 @@ begin_together c before waits ls alone first sound literals kinds h = record {
   same = λ k t r e f.
       let x = one_at_number c ls alone first k t h e in
       let own : x.run ≡ r = same_Some x.run r (sym x.runs ∙ f) in
-      subst (λ (q : Run). IsSameRun before waits (run_code c) t.function t.places (begun t.state t.calls) (in_store first.store q)) own
+      subst (λ (q : Run). IsSameRun before waits c t.function t.places (begun t.state t.calls) (in_store first.store q)) own
       (known_at c before waits ls alone first k t sound literals kinds h e x).same;
 }
 

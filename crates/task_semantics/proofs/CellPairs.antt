@@ -13,7 +13,7 @@ use Rattle.run_loading.specs.machine_semantics.Trees.{HasPart, Stands, StandAll,
 use Rattle.run_loading.specs.machine_semantics.States.{State}
 use Rattle.run_loading.specs.machine_semantics.Rows as R
 use Rattle.run_loading.specs.machine_semantics.Apart.{Holding, holding_uses, owned_uses, trees_uses}
-use Rattle.run_loading.specs.code_rules.Codes.{PlainCode, PlainFunction}
+use Rattle.run_loading.specs.cell_code.Plain.{PlainFunction, PlainCode}
 use Rattle.run_loading.specs.code_rules.Types.{fields, fields_of}
 use Rattle.run_loading.specs.code_rules.Kinds.{at, kind_or_gone, is_owned, is_credit}
 use Rattle.run_loading.specs.code_rules.Ranges.{are_below, is_constructor}

@@ -7,15 +7,13 @@ use Rattle.run_loading.specs.fip_language.Store.{count, Placed, PlacedInt, Bare,
 use Rattle.run_loading.specs.fip_language.Table.{Table}
 use Rattle.run_loading.specs.fip_language.Values.{Values, Node, More}
 use Rattle.run_loading.specs.machine_semantics.Cells.{Store}
-use Rattle.run_loading.specs.machine_semantics.Codes as R
+use Rattle.run_loading.specs.cell_code.Plain.{PlainCode, results}
 use Rattle.run_loading.specs.machine_semantics.Runs.{End, Value, Trap, Out, Deep, Unsound, Run, Going, Over, Ends, begun, after}
 use Rattle.run_loading.specs.machine_semantics.States.{State}
 use Rattle.run_loading.specs.machine_semantics.Steps.{Kinds}
 use Rattle.run_loading.specs.machine_semantics.Trees.{StandAll}
 use Rattle.run_loading.specs.code_rules.Breaks.{IsSound}
-use Rattle.run_loading.specs.code_rules.Codes.{PlainCode, results}
-use Rattle.run_loading.specs.separation.Codes.{run_code, HasLiterals, AreKinds}
-use Rattle.run_loading.proofs.separation.Apartness.{run_results}
+use Rattle.run_loading.specs.separation.Codes.{HasLiterals, AreKinds}
 use Rattle.run_loading.proofs.separation.Loading.{loaded_is}
 use Rattle.run_loading.specs.tree_semantics.Runs as T
 use Rattle.run_loading.specs.tree_refinement.Agreement.{AreWordsOf}
@@ -68,29 +66,29 @@ words_among tb f own shared ts ws us vs i h = subst (AreWordsOf tb shared ts us)
 
 -- ---- ends
 
-module _ (code : R.PlainCode) (n : ℕ) (f : Renaming) (own last : State) (left : ℕ) where
-  value_among : (ws us : List ℕ) (a : M.Answer) → AreRenamedTrees code.types f own.store last.store (R.results_of code n) ws us → A.IsSameEnd code.types (R.results_of code n) own left (Value ws) a → A.IsSameEnd code.types (R.results_of code n) last left (Value us) a
-  value_among ws us (M.Gives vs l) i h = (words_among code.types f own.store last.store (R.results_of code n) ws us vs i h.0, h.1)
+module _ (code : PlainCode) (n : ℕ) (f : Renaming) (own last : State) (left : ℕ) where
+  value_among : (ws us : List ℕ) (a : M.Answer) → AreRenamedTrees code.types f own.store last.store (results code n) ws us → A.IsSameEnd code.types (results code n) own left (Value ws) a → A.IsSameEnd code.types (results code n) last left (Value us) a
+  value_among ws us (M.Gives vs l) i h = (words_among code.types f own.store last.store (results code n) ws us vs i h.0, h.1)
   value_among ws us (M.Trap k line col) i h = absurd h
   value_among ws us M.Out i h = absurd h
   value_among ws us M.Deep i h = absurd h
   value_among ws us M.Stuck i h = absurd h
 
-  trap_among : (k l : TrapKind) (line col row at : ℕ) (a : M.Answer) → (k ≡ l) × (line ≡ row) × (col ≡ at) → A.IsSameEnd code.types (R.results_of code n) own left (Trap k line col) a → A.IsSameEnd code.types (R.results_of code n) last left (Trap l row at) a
+  trap_among : (k l : TrapKind) (line col row at : ℕ) (a : M.Answer) → (k ≡ l) × (line ≡ row) × (col ≡ at) → A.IsSameEnd code.types (results code n) own left (Trap k line col) a → A.IsSameEnd code.types (results code n) last left (Trap l row at) a
   trap_among k l line col row at (M.Gives vs m) i h = absurd h
   trap_among k l line col row at (M.Trap j r c) i h = (sym i.0 ∙ h.0, sym i.1 ∙ h.1, sym i.2 ∙ h.2)
   trap_among k l line col row at M.Out i h = absurd h
   trap_among k l line col row at M.Deep i h = absurd h
   trap_among k l line col row at M.Stuck i h = absurd h
 
-  out_among : (a : M.Answer) → A.IsSameEnd code.types (R.results_of code n) own left Out a → A.IsSameEnd code.types (R.results_of code n) last left Out a
+  out_among : (a : M.Answer) → A.IsSameEnd code.types (results code n) own left Out a → A.IsSameEnd code.types (results code n) last left Out a
   out_among (M.Gives vs m) h = absurd h
   out_among (M.Trap j r c) h = absurd h
   out_among M.Out h = tt
   out_among M.Deep h = absurd h
   out_among M.Stuck h = absurd h
 
-  deep_among : (a : M.Answer) → A.IsSameEnd code.types (R.results_of code n) own left Deep a → A.IsSameEnd code.types (R.results_of code n) last left Deep a
+  deep_among : (a : M.Answer) → A.IsSameEnd code.types (results code n) own left Deep a → A.IsSameEnd code.types (results code n) last left Deep a
   deep_among (M.Gives vs m) h = absurd h
   deep_among (M.Trap j r c) h = absurd h
   deep_among M.Out h = absurd h
@@ -98,7 +96,7 @@ module _ (code : R.PlainCode) (n : ℕ) (f : Renaming) (own last : State) (left 
   deep_among M.Stuck h = absurd h
 
   -- the end over the shared store is the answer that the end alone is
-  end_among : (e d : End) (a : M.Answer) → IsSameEnd code n f own.store last.store e d → A.IsSameEnd code.types (R.results_of code n) own left e a → A.IsSameEnd code.types (R.results_of code n) last left d a
+  end_among : (e d : End) (a : M.Answer) → IsSameEnd code n f own.store last.store e d → A.IsSameEnd code.types (results code n) own left e a → A.IsSameEnd code.types (results code n) last left d a
   end_among (Value ws) (Value us) a i h = value_among ws us a i h
   end_among (Value ws) (Trap l row at) a i h = absurd i
   end_among (Value ws) Out a i h = absurd i
@@ -127,7 +125,7 @@ module _ (code : R.PlainCode) (n : ℕ) (f : Renaming) (own last : State) (left 
 
 -- ---- a task that has ended
 
-ended_by : (before waits : Kinds) (c : PlainCode) (b : Begun) (shared : Store) (m : ℕ) (e : End) (last : State) (left steps : ℕ) (r : Run) → after before (run_code c) m (begun b.state b.calls) ≡ r → IsSameRun before waits (run_code c) b.function b.places r (in_store shared (Over e last left steps)) → EndsAlone c before b shared e left steps
+ended_by : (before waits : Kinds) (c : PlainCode) (b : Begun) (shared : Store) (m : ℕ) (e : End) (last : State) (left steps : ℕ) (r : Run) → after before c m (begun b.state b.calls) ≡ r → IsSameRun before waits c b.function b.places r (in_store shared (Over e last left steps)) → EndsAlone c before b shared e left steps
 ended_by before waits c b shared m e last left steps (Going s l k) z i = absurd i
 ended_by before waits c b shared m e last left steps (Over d s l k) z i = record {
   end = d;
@@ -136,9 +134,9 @@ ended_by before waits c b shared m e last left steps (Over d s l k) z i = record
   same = i.0;
 }
 
-pub ends_alone : (c : PlainCode) (before waits : Kinds) (tasks : List Task) (alone : List Begun) (first : Shared) (schedule : List ℕ) (k : ℕ) (b : Begun) (e : End) (last : State) (left steps : ℕ) → IsSound c → HasLiterals c → AreKinds c before waits → AreLaid c tasks alone first → slice_get alone k ≡ Some b → slice_get (scheduled before (run_code c) schedule first).runs k ≡ Some (Over e last left steps) → EndsAlone c before b (scheduled before (run_code c) schedule first).store e left steps
+pub ends_alone : (c : PlainCode) (before waits : Kinds) (tasks : List Task) (alone : List Begun) (first : Shared) (schedule : List ℕ) (k : ℕ) (b : Begun) (e : End) (last : State) (left steps : ℕ) → IsSound c → HasLiterals c → AreKinds c before waits → AreLaid c tasks alone first → slice_get alone k ≡ Some b → slice_get (scheduled before c schedule first).runs k ≡ Some (Over e last left steps) → EndsAlone c before b (scheduled before c schedule first).store e left steps
 ends_alone c before waits tasks alone first schedule k b e last left steps sound literals kinds laid is over =
-    ended_by before waits c b (scheduled before (run_code c) schedule first).store (count k schedule) e last left steps (after before (run_code c) (count k schedule) (begun b.state b.calls)) refl
+    ended_by before waits c b (scheduled before c schedule first).store (count k schedule) e last left steps (after before c (count k schedule) (begun b.state b.calls)) refl
     (each_is_alone before waits c alone first (are_loaded c before waits tasks alone first sound literals kinds laid) (begin_together c before waits tasks alone first sound literals kinds laid) schedule k b (Over e last left steps) is over)
 
 -- ---- the same on trees
@@ -163,8 +161,8 @@ task_of c shared n (suc k) (x ∷ ts) (b ∷ bs) (r ∷ rs) t i e =
 pub record OwnEnds (c : PlainCode) (before : Kinds) (t : Task) (own : State) (f : Renaming) (shared : Store) (e : End) (left steps : ℕ) : Type 0 where
   pub end : End
   pub last : State
-  pub ends : Ends before (run_code c) own t.calls end last left steps
-  pub same : IsSameEnd (run_code c) t.function f last.store shared end e
+  pub ends : Ends before c own t.calls end last left steps
+  pub same : IsSameEnd c t.function f last.store shared end e
 
 pub own_ends : (c : PlainCode) (before : Kinds) (shared after_all : Store) (n : ℕ) (t : Task) (b : Begun) (r : Run) (e : End) (left steps : ℕ) → (i : IsBegun c shared n t b r) → EndsAlone c before b after_all e left steps → OwnEnds c before t i.own b.places after_all e left steps
 own_ends c before shared after_all n t b r e left steps i ended =
@@ -174,17 +172,14 @@ own_ends c before shared after_all n t b r e left steps i ended =
     record {
       end = ended.end;
       last = ended.last;
-      ends = subst (λ m. Ends before (run_code c) i.own m ended.end ended.last left steps) calls
-          (subst (λ (s : State). Ends before (run_code c) s b.calls ended.end ended.last left steps) state ended.ends);
-      same = subst (λ m. IsSameEnd (run_code c) m b.places (ended.last).store after_all ended.end e) function ended.same;
+      ends = subst (λ m. Ends before c i.own m ended.end ended.last left steps) calls
+          (subst (λ (s : State). Ends before c s b.calls ended.end ended.last left steps) state ended.ends);
+      same = subst (λ m. IsSameEnd c m b.places (ended.last).store after_all ended.end e) function ended.same;
     }
 
 -- an end alone that is an answer is one over the shared store
 pub same_answer : (c : PlainCode) (before : Kinds) (t : Task) (own : State) (f : Renaming) (last : State) (e : End) (left steps : ℕ) (a : M.Answer) → (o : OwnEnds c before t own f last.store e left steps) → A.IsSameEnd c.types (results c t.function) o.last left o.end a → A.IsSameEnd c.types (results c t.function) last left e a
-same_answer c before t own f last e left steps a o h =
-    let types = run_results c t.function in
-    subst (λ ts. A.IsSameEnd c.types ts last left e a) types
-    (end_among (run_code c) t.function f o.last last left o.end e a o.same (subst (λ ts. A.IsSameEnd c.types ts o.last left o.end a) (sym types) h))
+same_answer c before t own f last e left steps a o h = end_among c t.function f o.last last left o.end e a o.same h
 
 on_trees : (c : PlainCode) (before waits : Kinds) (shared : Store) (n : ℕ) (t : Task) (b : Begun) (r : Run) (e : End) (last : State) (left steps : ℕ) → IsSound c → HasLiterals c → AreKinds c before waits → IsBegun c shared n t b r → EndsAlone c before b last.store e left steps → EndsOnTrees c t last e left steps
 on_trees c before waits shared n t b r e last left steps sound literals kinds i ended =
@@ -196,12 +191,12 @@ on_trees c before waits shared n t b r e last left steps sound literals kinds i 
       enough = (o.ends).enough;
       answer = x.0;
       state = x.1;
-      is = subst (λ m. T.after (run_code c) (o.ends).enough (T.begun (T.entry t.function t.arguments m) t.calls) ≡ T.Over x.0 x.1 left steps) free x.2;
+      is = subst (λ m. T.after c (o.ends).enough (T.begun (T.entry t.function t.arguments m) t.calls) ≡ T.Over x.0 x.1 left steps) free x.2;
       same = same_answer c before t i.own b.places last e left steps x.0 o x.3;
     }
 
-pub ends_on_trees : (c : PlainCode) (before waits : Kinds) (tasks : List Task) (alone : List Begun) (first : Shared) (schedule : List ℕ) (k : ℕ) (t : Task) (e : End) (last : State) (left steps : ℕ) → IsSound c → HasLiterals c → AreKinds c before waits → AreLaid c tasks alone first → slice_get tasks k ≡ Some t → slice_get (scheduled before (run_code c) schedule first).runs k ≡ Some (Over e last left steps) → EndsOnTrees c t (record last { store = (scheduled before (run_code c) schedule first).store }) e left steps
+pub ends_on_trees : (c : PlainCode) (before waits : Kinds) (tasks : List Task) (alone : List Begun) (first : Shared) (schedule : List ℕ) (k : ℕ) (t : Task) (e : End) (last : State) (left steps : ℕ) → IsSound c → HasLiterals c → AreKinds c before waits → AreLaid c tasks alone first → slice_get tasks k ≡ Some t → slice_get (scheduled before c schedule first).runs k ≡ Some (Over e last left steps) → EndsOnTrees c t (record last { store = (scheduled before c schedule first).store }) e left steps
 ends_on_trees c before waits tasks alone first schedule k t e last left steps sound literals kinds laid is over =
     let x = task_of c (shared_store tasks) 0 k tasks alone first.runs t laid.begun is in
-    on_trees c before waits (shared_store tasks) x.number t x.begun x.run e (record last { store = (scheduled before (run_code c) schedule first).store }) left steps sound literals kinds x.begins
+    on_trees c before waits (shared_store tasks) x.number t x.begun x.run e (record last { store = (scheduled before c schedule first).store }) left steps sound literals kinds x.begins
     (ends_alone c before waits tasks alone first schedule k x.begun e last left steps sound literals kinds laid x.is over)

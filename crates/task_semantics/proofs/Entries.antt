@@ -14,11 +14,11 @@ use Rattle.run_loading.specs.machine_semantics.Steps.{Kinds, first_words, first_
 use Rattle.run_loading.specs.machine_semantics.Trees.{StandAll}
 use Rattle.run_loading.specs.machine_semantics.Words.{place_word}
 use Rattle.run_loading.specs.code_rules.Breaks.{IsSound}
-use Rattle.run_loading.specs.code_rules.Codes.{PlainCode, PlainFunction, function_at}
+use Rattle.run_loading.specs.cell_code.Plain.{PlainFunction, PlainCode, function_at}
 use Rattle.run_loading.specs.code_rules.Entry.{param_kind, gones, entry}
 use Rattle.run_loading.specs.code_rules.Types.{is_scalar_type, all}
 use Rattle.run_loading.proofs.separation_kinds.Basics.{pick, chosen, length_map}
-use Rattle.run_loading.specs.separation.Codes.{run_function, run_code, AreKinds}
+use Rattle.run_loading.specs.separation.Codes.{AreKinds}
 use Rattle.run_loading.proofs.separation.Calling.{known_entry, length_append}
 use Rattle.run_loading.proofs.separation.Sound.{formed, has_form}
 use Rattle.task_semantics.specs.Projected.{Renaming, renamed, renamed_parts, AreRenamed, IsRenamedTree, IsRenamedWord, AreRenamedWords, AreRenamedArguments, IsProjected}
@@ -29,7 +29,7 @@ use Rattle.task_semantics.proofs.Renamings.{place_renamed}
 abbrev pub first_state : PlainCode → ℕ → PlainFunction → Store → List ℕ → ℕ → State
 first_state c n g store words frames = record {
   store = store;
-  running = first_frame n (run_function g) words;
+  running = first_frame n g words;
   waiting = [];
   free = frames;
   lent = lent_words c.types g.params words;
@@ -113,7 +113,7 @@ given_long xs ps = let a = length_append (words_of xs) (map (λ p. place_word p)
 
 -- ---- the state
 
-pub first_projected : (f : Renaming) (c : PlainCode) (before waits : Kinds) (own shared : Store) (n : ℕ) (g : PlainFunction) (xs : Parts) (ps : List ℕ) (frames : ℕ) → IsSound c → AreKinds c before waits → function_at c n ≡ Some g → AreRenamed f own shared → StandAll c.types own (map (λ q. q.ty) g.params) xs → StandAll c.types shared (map (λ q. q.ty) g.params) (renamed_parts f xs) → length ps ≡ length g.credits → IsProjected before waits (run_code c) f (first_state c n g own (given_words xs ps) frames) (first_state c n g shared (given_words (renamed_parts f xs) (map f ps)) frames)
+pub first_projected : (f : Renaming) (c : PlainCode) (before waits : Kinds) (own shared : Store) (n : ℕ) (g : PlainFunction) (xs : Parts) (ps : List ℕ) (frames : ℕ) → IsSound c → AreKinds c before waits → function_at c n ≡ Some g → AreRenamed f own shared → StandAll c.types own (map (λ q. q.ty) g.params) xs → StandAll c.types shared (map (λ q. q.ty) g.params) (renamed_parts f xs) → length ps ≡ length g.credits → IsProjected before waits c f (first_state c n g own (given_words xs ps) frames) (first_state c n g shared (given_words (renamed_parts f xs) (map f ps)) frames)
 first_projected f c before waits own shared n g xs ps frames sound kinds is cells here there number =
     let ws : List ℕ = given_words xs ps in
     let vs : List ℕ = given_words (renamed_parts f xs) (map f ps) in

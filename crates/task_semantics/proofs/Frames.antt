@@ -9,11 +9,11 @@ use Rattle.run_loading.specs.machine_semantics.Trees.{StandAll}
 use Rattle.run_loading.specs.machine_semantics.States.{Frame, Typed, State, Next, Went, Entered, Gave, Trapped, TooDeep}
 use Rattle.run_loading.specs.machine_semantics.Steps.{Kinds}
 use Rattle.run_loading.specs.machine_semantics.Apart.{trees_uses, AreTrees}
-use Rattle.run_loading.specs.code_rules.Codes.{PlainCode}
+use Rattle.run_loading.specs.cell_code.Plain.{PlainCode}
 use Rattle.run_loading.specs.code_rules.Kinds.{at}
 use Rattle.run_loading.specs.separation_kinds.Meanings.{owned_by, word_at}
 use Rattle.run_loading.proofs.separation_kinds.Basics.{at_past}
-use Rattle.run_loading.specs.separation.Codes.{run_code, AreKinds}
+use Rattle.run_loading.specs.separation.Codes.{AreKinds}
 use Rattle.run_loading.specs.separation.Alive.{Frozen, frozen_slots, lower_trees, IsWaiting, AreAllWaiting}
 use Rattle.run_loading.proofs.separation.Lower.{lower_uses, below_uses, slots_owned}
 use Rattle.run_loading.proofs.tree_refinement.Inside.{waits_at}
@@ -98,7 +98,7 @@ arguments_kept tb f own new shared other (t ∷ ts) (u ∷ us) (x ∷ xs) a k m 
 -- A state of a task among others, b, is that of the task alone, a, and these come after u and s: the places of cells are
 -- the same, and no cell of another task changed.
 pub record GoesOn (before waits : Kinds) (c : PlainCode) (f : Renaming) (s u a b : State) : Type 0 where
-  pub state : IsProjected before waits (run_code c) f a b
+  pub state : IsProjected before waits c f a b
   pub good : IsStore b.store
   pub there : (q : ℕ) → there a.store q ≡ there s.store q
   pub beyond : Beyond f s.store u.store b.store

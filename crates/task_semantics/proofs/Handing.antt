@@ -7,7 +7,7 @@ use Rattle.run_loading.specs.fip_base.declared.plain.Param.{Param}
 use Rattle.run_loading.specs.cell_code.declared.kind.Kind.{Kind}
 use Rattle.run_loading.specs.cell_code.declared.kind.Kind.TheVariants.{Gone, Scalar, Owned, Lent, Credit}
 use Rattle.run_loading.specs.machine_semantics.Cells.{Store}
-use Rattle.run_loading.specs.code_rules.Codes.{PlainCode, PlainFunction, function_at}
+use Rattle.run_loading.specs.cell_code.Plain.{PlainFunction, PlainCode, function_at}
 use Rattle.run_loading.specs.code_rules.Types.{is_scalar_type, all}
 use Rattle.run_loading.specs.code_rules.Kinds.{at, is_scalar_of, is_owned_of, is_credit_of}
 use Rattle.run_loading.specs.code_rules.Entry.{param_kind, gones}

@@ -8,14 +8,14 @@ use Rattle.run_loading.specs.machine_semantics.States.{State}
 use Rattle.run_loading.specs.machine_semantics.Rows as R
 use Rattle.run_loading.specs.machine_semantics.Steps.{Kinds, went, went_with, trapped}
 use Rattle.run_loading.specs.machine_semantics.Apart.{trees_uses}
-use Rattle.run_loading.specs.code_rules.Codes.{PlainCode}
+use Rattle.run_loading.specs.cell_code.Plain.{PlainCode}
 use Rattle.run_loading.specs.code_rules.Kinds.{at}
 use Rattle.run_loading.specs.code_rules.Breaks.{IsSound}
 use Rattle.run_loading.specs.separation_kinds.Meanings.{owned_by, word_at}
 use Rattle.run_loading.specs.separation.Rows.{IsDone}
 use Rattle.run_loading.proofs.separation.Stores.{there_few}
 use Rattle.run_loading.proofs.separation.ReadingRows.{IsCalculated}
-use Rattle.run_loading.specs.separation.Codes.{run_code, AreKinds}
+use Rattle.run_loading.specs.separation.Codes.{AreKinds}
 use Rattle.run_loading.specs.separation.Alive.{lower_trees, IsAlive}
 use Rattle.run_loading.proofs.separation.Lower.{lower_uses}
 use Rattle.run_loading.proofs.separation.Local.{done_alive}
@@ -28,7 +28,7 @@ use Rattle.task_semantics.proofs.Frames.{in_order, frames_kept, arguments_kept, 
 
 -- ---- the instruction is done
 
-pub went_alike : (f : Renaming) (c : PlainCode) (before waits : Kinds) (types kept : List ℕ) (s u : State) (x : Instr) → IsSound c → AreKinds c before waits → (a : IsAlive c types kept s) → IsProjected before waits (run_code c) f s u → IsDone c a.function (lower_trees a.frozen a.lent) a.kinds a.holds s x → Pairs f c a.function a.kinds a.holds s u x → NextAlike before waits c f types s u (went s (R.done c.types a.kinds s x)) (went u (R.done c.types a.kinds u x))
+pub went_alike : (f : Renaming) (c : PlainCode) (before waits : Kinds) (types kept : List ℕ) (s u : State) (x : Instr) → IsSound c → AreKinds c before waits → (a : IsAlive c types kept s) → IsProjected before waits c f s u → IsDone c a.function (lower_trees a.frozen a.lent) a.kinds a.holds s x → Pairs f c a.function a.kinds a.holds s u x → NextAlike before waits c f types s u (went s (R.done c.types a.kinds s x)) (went u (R.done c.types a.kinds u x))
 went_alike f c before waits types kept s u x sound kinds a m d p =
     let done : d.done ≡ p.done = same_Some d.done p.done (sym d.is ∙ p.is) in
     let store : d.store ≡ p.store = same_Some d.store p.store (sym d.changed ∙ ap (λ (e : R.Done). changed_by e.changes s.store) done ∙ p.changed) in
@@ -69,7 +69,7 @@ went_alike f c before waits types kept s u x sound kinds a m d p =
     }))
 
 -- an instruction of an operator
-pub trapped_alike : (f : Renaming) (c : PlainCode) (before waits : Kinds) (types kept : List ℕ) (s u : State) (o : Operator) (x y line col : ℕ) (i : Instr) → IsSound c → AreKinds c before waits → (a : IsAlive c types kept s) → IsProjected before waits (run_code c) f s u → IsCalculated c a.function (lower_trees a.frozen a.lent) a.kinds a.holds s o x y i → PairsOrTraps f c a.function a.kinds a.holds s u o x y i → NextAlike before waits c f types s u (trapped s line col (R.trap (R.operated s o x y)) (R.done c.types a.kinds s i)) (trapped u line col (R.trap (R.operated u o x y)) (R.done c.types a.kinds u i))
+pub trapped_alike : (f : Renaming) (c : PlainCode) (before waits : Kinds) (types kept : List ℕ) (s u : State) (o : Operator) (x y line col : ℕ) (i : Instr) → IsSound c → AreKinds c before waits → (a : IsAlive c types kept s) → IsProjected before waits c f s u → IsCalculated c a.function (lower_trees a.frozen a.lent) a.kinds a.holds s o x y i → PairsOrTraps f c a.function a.kinds a.holds s u o x y i → NextAlike before waits c f types s u (trapped s line col (R.trap (R.operated s o x y)) (R.done c.types a.kinds s i)) (trapped u line col (R.trap (R.operated u o x y)) (R.done c.types a.kinds u i))
 trapped_alike f c before waits types kept s u o x y line col i sound kinds a m h k = elim k as (λ v. NextAlike before waits c f types s u (trapped s line col (R.trap (R.operated s o x y)) (R.done c.types a.kinds s i)) (trapped u line col (R.trap (R.operated u o x y)) (R.done c.types a.kinds u i))) [
   | inl p ↦ elim h as (λ v. NextAlike before waits c f types s u (trapped s line col (R.trap (R.operated s o x y)) (R.done c.types a.kinds s i)) (trapped u line col (R.trap (R.operated u o x y)) (R.done c.types a.kinds u i))) [
     | inl d ↦

@@ -13,11 +13,11 @@ use Rattle.run_loading.specs.machine_semantics.States.{State}
 use Rattle.run_loading.specs.machine_semantics.Steps.{Kinds}
 use Rattle.run_loading.specs.machine_semantics.Trees.{StandAll}
 use Rattle.run_loading.specs.code_rules.Breaks.{IsSound}
-use Rattle.run_loading.specs.code_rules.Codes.{PlainCode}
+use Rattle.run_loading.specs.cell_code.Plain.{PlainCode}
 use Rattle.run_loading.proofs.separation_kinds.Basics.{less_or_not}
-use Rattle.run_loading.specs.separation.Codes.{run_code, HasLiterals, AreKinds}
+use Rattle.run_loading.specs.separation.Codes.{HasLiterals, AreKinds}
 use Rattle.run_loading.specs.separation.Starts.{IsStart}
-use Rattle.run_loading.proofs.separation.Calling.{length_append, run_function_at}
+use Rattle.run_loading.proofs.separation.Calling.{length_append}
 use Rattle.run_loading.proofs.separation.Loading.{loaded_is}
 use Rattle.run_loading.proofs.separation.Sound.{formed}
 use Rattle.run_loading.specs.Loading.{all_places, credit_places, unreleased, first_store, first_words}
@@ -72,7 +72,7 @@ module _ (c : PlainCode) (before waits : Kinds) (os : List (Option Cell)) (n : �
     released = λ p there. none_released (length os) (n + p) ∙ sym (none_released (length (task_places 0 t)) p);
   }
 
-  projected : IsSound c → AreKinds c before waits → IsTask c t → Has (unreleased os) n (task_places n t) → IsProjected before waits (run_code c) (moved n) (first_state c t.function t.header (own_store t) (first_words t.arguments t.header.credits) t.frames) (first_state c t.function t.header (unreleased os) (task_words n t) t.frames)
+  projected : IsSound c → AreKinds c before waits → IsTask c t → Has (unreleased os) n (task_places n t) → IsProjected before waits c (moved n) (first_state c t.function t.header (own_store t) (first_words t.arguments t.header.credits) t.frames) (first_state c t.function t.header (unreleased os) (task_words n t) t.frames)
   projected sound kinds task has =
       let vs : Values = t.arguments in
       let ks : List ℕ = t.header.credits in
@@ -83,8 +83,8 @@ module _ (c : PlainCode) (before waits : Kinds) (os : List (Option Cell)) (n : �
       placed_stand c.types (own_store t) (map (λ q. q.ty) t.header.params) 0 vs task.typed (has_left (own_store t) 0 (all_places 0 vs) (credit_places ks) (has_all (own_store t))) in
       let there : StandAll c.types (unreleased os) (map (λ q. q.ty) t.header.params) (placed_all n vs) =
       placed_stand c.types (unreleased os) (map (λ q. q.ty) t.header.params) n vs task.typed (has_left (unreleased os) n (all_places n vs) (credit_places ks) has) in
-      subst (λ ws. IsProjected before waits (run_code c) (moved n) (first_state c t.function t.header (own_store t) ws t.frames) (first_state c t.function t.header (unreleased os) (task_words n t) t.frames)) (sym (own_words t))
-      (subst (λ ws. IsProjected before waits (run_code c) (moved n) (first_state c t.function t.header (own_store t) (given_words xs ps) t.frames) (first_state c t.function t.header (unreleased os) ws t.frames)) (sym (words_among n t))
+      subst (λ ws. IsProjected before waits c (moved n) (first_state c t.function t.header (own_store t) ws t.frames) (first_state c t.function t.header (unreleased os) (task_words n t) t.frames)) (sym (own_words t))
+      (subst (λ ws. IsProjected before waits c (moved n) (first_state c t.function t.header (own_store t) (given_words xs ps) t.frames) (first_state c t.function t.header (unreleased os) ws t.frames)) (sym (words_among n t))
       (first_projected (moved n) c before waits (own_store t) (unreleased os) t.function t.header xs ps t.frames sound kinds task.there (renamed_cells has) here
       (subst (StandAll c.types (unreleased os) (map (λ q. q.ty) t.header.params)) (sym (trees_moved n 0 n vs y)) there)
       (spots_long (length (all_places 0 vs)) ks)))
@@ -98,7 +98,7 @@ record IsKnown (c : PlainCode) (before waits : Kinds) (shared : Store) (low k : 
   start : IsStart c before waits b.function [] b.state
   run : Run
   is : slice_get rs k ≡ Some run
-  same : IsSameRun before waits (run_code c) b.function b.places (begun b.state b.calls) (in_store shared run)
+  same : IsSameRun before waits c b.function b.places (begun b.state b.calls) (in_store shared run)
 
 module _ (c : PlainCode) (before waits : Kinds) (os : List (Option Cell)) (sound : IsSound c) (literals : HasLiterals c) (kinds : AreKinds c before waits) where
   -- how the task is alone
@@ -118,12 +118,12 @@ module _ (c : PlainCode) (before waits : Kinds) (os : List (Option Cell)) (sound
       let l = task_long n t in
       (omega arith, omega (arith, less, l))
 
-  same_run : (n : ℕ) (t : Task) (b : Begun) (r : Run) → Has (unreleased os) n (task_places n t) → (i : IsBegun c (unreleased os) n t b r) → IsSameRun before waits (run_code c) t.function (moved n) (begun i.own t.calls) (in_store (unreleased os) (begun i.among t.calls))
+  same_run : (n : ℕ) (t : Task) (b : Begun) (r : Run) → Has (unreleased os) n (task_places n t) → (i : IsBegun c (unreleased os) n t b r) → IsSameRun before waits c t.function (moved n) (begun i.own t.calls) (in_store (unreleased os) (begun i.among t.calls))
   same_run n t b r has i =
       let mine : State = first_state c t.function t.header (own_store t) (first_words t.arguments t.header.credits) t.frames in
       let there : State = first_state c t.function t.header (unreleased os) (task_words n t) t.frames in
-      subst (λ (s : State). IsSameRun before waits (run_code c) t.function (moved n) (begun s t.calls) (in_store (unreleased os) (begun i.among t.calls))) (sym (own_is n t b r i))
-      (subst (λ (u : State). IsSameRun before waits (run_code c) t.function (moved n) (begun mine t.calls) (in_store (unreleased os) (begun u t.calls))) (sym (among_is n t b r i))
+      subst (λ (s : State). IsSameRun before waits c t.function (moved n) (begun s t.calls) (in_store (unreleased os) (begun i.among t.calls))) (sym (own_is n t b r i))
+      (subst (λ (u : State). IsSameRun before waits c t.function (moved n) (begun mine t.calls) (in_store (unreleased os) (begun u t.calls))) (sym (among_is n t b r i))
       (same_begun c before waits (unreleased os) t.function (moved n) mine there t.calls (projected c before waits os n t sound kinds i.task has)))
 
   known_first : (n : ℕ) (t : Task) (b : Begun) (r : Run) (rs : List Run) → Has (unreleased os) n (task_places n t) → IsBegun c (unreleased os) n t b r → IsKnown c before waits (unreleased os) n 0 b (r ∷ rs)
@@ -218,7 +218,7 @@ apart_by i j x y off f g e = elim (less_or_not i j) as (λ v. ⊥) [
   ]
 ]
 
-pub begin_together : (c : PlainCode) (before waits : Kinds) (tasks : List Task) (alone : List Begun) (first : Shared) → IsSound c → HasLiterals c → AreKinds c before waits → AreLaid c tasks alone first → BeginTogether before waits (run_code c) alone first
+pub begin_together : (c : PlainCode) (before waits : Kinds) (tasks : List Task) (alone : List Begun) (first : Shared) → IsSound c → HasLiterals c → AreKinds c before waits → AreLaid c tasks alone first → BeginTogether before waits c alone first
 begin_together c before waits tasks alone first sound literals kinds l =
     let os : List (Option Cell) = laid 0 tasks in
     let has : Has (unreleased os) 0 os = has_all (unreleased os) in
@@ -231,8 +231,8 @@ begin_together c before waits tasks alone first sound literals kinds l =
       number = long c before waits os sound literals kinds 0 tasks alone first.runs i;
       same = λ k t r e f.
           let a = known c before waits os sound literals kinds 0 k tasks alone first.runs t has i e in
-          subst (λ (s : Store). IsSameRun before waits (run_code c) t.function t.places (begun t.state t.calls) (in_store s r)) (sym l.store)
-          (subst (λ (r : Run). IsSameRun before waits (run_code c) t.function t.places (begun t.state t.calls) (in_store (unreleased os) r)) (same_Some a.run r (sym a.is ∙ f)) a.same);
+          subst (λ (s : Store). IsSameRun before waits c t.function t.places (begun t.state t.calls) (in_store s r)) (sym l.store)
+          (subst (λ (r : Run). IsSameRun before waits c t.function t.places (begun t.state t.calls) (in_store (unreleased os) r)) (same_Some a.run r (sym a.is ∙ f)) a.same);
     }
 
 pub are_loaded : (c : PlainCode) (before waits : Kinds) (tasks : List Task) (alone : List Begun) (first : Shared) → IsSound c → HasLiterals c → AreKinds c before waits → AreLaid c tasks alone first → AreLoaded before waits c alone
@@ -262,7 +262,7 @@ can_begin c shared n (t ∷ ts) h =
           own = own.0;
           first = own.1;
           among = there;
-          further = ap (λ o. loaded_in c.types t.function o shared (task_words n t) t.frames) (run_function_at c t.function t.header h.0.there);
+          further = ap (λ o. loaded_in c.types t.function o shared (task_words n t) t.frames) h.0.there;
           alone = refl;
           run = refl;
         },

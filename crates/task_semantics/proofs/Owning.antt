@@ -6,9 +6,8 @@ use Rattle.run_loading.specs.fip_language.Every.{Every}
 use Rattle.run_loading.specs.fip_language.Store.{Cell, Placed, PlacedInt, Bare, At, Parts, NoParts, MoreParts, count, one_at}
 use Rattle.run_loading.specs.machine_semantics.Apart.{AreSpare, IsGiven}
 use Rattle.run_loading.specs.machine_semantics.Cells.{Store, IsSized, IsStore, cell_in, cell_at, there, one_if_some, released_at}
-use Rattle.run_loading.specs.code_rules.Codes.{PlainCode}
+use Rattle.run_loading.specs.cell_code.Plain.{PlainCode}
 use Rattle.run_loading.proofs.separation_kinds.Agree.{SameAt, stand_all_agree, one_here}
-use Rattle.run_loading.specs.separation.Codes.{run_function}
 use Rattle.run_loading.proofs.Begins.{none_released}
 use Rattle.task_semantics.specs.Projected.{Renaming, renamed, renamed_parts, IsThere, IsLikeCell, AreLikeWords, AreRenamed}
 use Rattle.task_semantics.specs.Lying.{Lying, LiesIn, uses_by, cell_if, cells_used, own_store, call_words}
@@ -68,7 +67,7 @@ use_of zero r o h = refl
 use_of (suc n) r None h = absurd (omega (arith, h))
 use_of (suc n) r (Some c) h = omega (arith, h)
 
-abbrev pub own_given : (c : PlainCode) (s : Store) (l : Lying) → IsStore s → LiesIn c s l → ((p : ℕ) → uses_by l p + released_at s p ≤ there s p) → IsGiven c.types (run_function l.task.header) (own_store s l) [] (call_words l)
+abbrev pub own_given : (c : PlainCode) (s : Store) (l : Lying) → IsStore s → LiesIn c s l → ((p : ℕ) → uses_by l p + released_at s p ≤ there s p) → IsGiven c.types l.task.header (own_store s l) [] (call_words l)
 own_given c s l store lies once = record {
   store = record {
     sized = used_sized (uses_by l) s.cells store.sized;

@@ -16,7 +16,7 @@ use Rattle.run_loading.specs.machine_semantics.Cells.{Store, IsStore, cell_at, c
 use Rattle.run_loading.specs.machine_semantics.States.{State}
 use Rattle.run_loading.specs.machine_semantics.Rows as R
 use Rattle.run_loading.specs.machine_semantics.Apart.{Holding}
-use Rattle.run_loading.specs.code_rules.Codes.{PlainCode, PlainFunction}
+use Rattle.run_loading.specs.cell_code.Plain.{PlainFunction, PlainCode}
 use Rattle.run_loading.specs.code_rules.Types.{is_scalar_type}
 use Rattle.run_loading.specs.code_rules.Kinds.{at, is_scalar_of}
 use Rattle.run_loading.specs.code_rules.Ranges.{is_constructor}

@@ -12,7 +12,7 @@ use Rattle.run_loading.specs.machine_semantics.Trees.{Stands, StandAll, IsTree}
 use Rattle.run_loading.specs.machine_semantics.States.{State}
 use Rattle.run_loading.specs.machine_semantics.Rows as R
 use Rattle.run_loading.specs.machine_semantics.Apart.{Holding, Tree, RootIn}
-use Rattle.run_loading.specs.code_rules.Codes.{PlainCode, PlainFunction}
+use Rattle.run_loading.specs.cell_code.Plain.{PlainFunction, PlainCode}
 use Rattle.run_loading.specs.code_rules.Types.{is_type, is_scalar_type, all, lent_kind}
 use Rattle.run_loading.specs.code_rules.Kinds.{at, set_of, root_of}
 use Rattle.run_loading.specs.code_rules.Ranges.{is_target}

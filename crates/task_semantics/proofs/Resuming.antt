@@ -8,12 +8,12 @@ use Rattle.run_loading.specs.cell_code.declared.code.Instr.TheVariants as I
 use Rattle.run_loading.specs.cell_code.declared.kind.Kind.{Kind}
 use Rattle.run_loading.specs.machine_semantics.Cells.{Store, IsStore}
 use Rattle.run_loading.specs.machine_semantics.Trees.{StandAll}
+use Rattle.run_loading.specs.cell_code.Plain.{PlainFunction, PlainCode, results_of, results}
 use Rattle.run_loading.specs.machine_semantics.Codes as C
 use Rattle.run_loading.specs.machine_semantics.Rows.{read_all, write_all}
 use Rattle.run_loading.specs.machine_semantics.States.{Frame, State}
 use Rattle.run_loading.specs.machine_semantics.Steps.{Kinds, destinations_in, returned, resumed}
 use Rattle.run_loading.specs.machine_semantics.Steps as D
-use Rattle.run_loading.specs.code_rules.Codes.{PlainCode, PlainFunction, results, results_of}
 use Rattle.run_loading.specs.code_rules.Types.{field_kind}
 use Rattle.run_loading.specs.code_rules.Kinds.{at}
 use Rattle.run_loading.specs.code_rules.Changes.{written}
@@ -27,7 +27,7 @@ use Rattle.run_loading.specs.separation_kinds.Meanings.{word_at}
 use Rattle.run_loading.proofs.separation_kinds.Basics.{both, equal, below, length_become}
 use Rattle.run_loading.proofs.separation_kinds.KindLemmas.{put}
 use Rattle.run_loading.proofs.separation_kinds.Words.{read_words, set_length, set_word, writes}
-use Rattle.run_loading.specs.separation.Codes.{run_code, AreKinds}
+use Rattle.run_loading.specs.separation.Codes.{AreKinds}
 use Rattle.run_loading.specs.separation.Alive.{Frozen, lower_trees, IsWaiting, AreAllWaiting, IsAlive}
 use Rattle.run_loading.proofs.separation.Calling.{some_left}
 use Rattle.run_loading.proofs.separation.Returning.{run_instr_at}
@@ -85,7 +85,7 @@ received_alike tb f own shared ks ws vs (d ∷ ds) (t ∷ ts) (MoreParts x xs) w
 
 -- ---- the frame below goes on, or the run is over
 
-resumed_alike : (f : Renaming) (c : PlainCode) (before waits : Kinds) (types : List ℕ) (s u : State) (n : ℕ) (lent : List Placed) (w v : Frame) (below under : List Frame) (g : Frozen) (gs : List Frozen) (trees : Parts) → IsSound c → AreKinds c before waits → IsStore u.store → IsProjected before waits (run_code c) f s u → StandAll c.types s.store (results c n) trees → StandAll c.types u.store (results c n) (renamed_parts f trees) → IsWaiting c s.store (lower_trees gs lent) n w g → IsRenamedFrame c.types f s.store u.store (waits w.function w.at) w v → AreRenamedFrames c.types f s.store u.store waits below under → NextAlike before waits c f types s u (resumed s w below (option_and_then (λ ds. write_all w.words ds (words_of trees)) (D.destinations (run_code c) w))) (resumed u v under (option_and_then (λ ds. write_all v.words ds (words_of (renamed_parts f trees))) (D.destinations (run_code c) v)))
+resumed_alike : (f : Renaming) (c : PlainCode) (before waits : Kinds) (types : List ℕ) (s u : State) (n : ℕ) (lent : List Placed) (w v : Frame) (below under : List Frame) (g : Frozen) (gs : List Frozen) (trees : Parts) → IsSound c → AreKinds c before waits → IsStore u.store → IsProjected before waits c f s u → StandAll c.types s.store (results c n) trees → StandAll c.types u.store (results c n) (renamed_parts f trees) → IsWaiting c s.store (lower_trees gs lent) n w g → IsRenamedFrame c.types f s.store u.store (waits w.function w.at) w v → AreRenamedFrames c.types f s.store u.store waits below under → NextAlike before waits c f types s u (resumed s w below (option_and_then (λ ds. write_all w.words ds (words_of trees)) (D.destinations c w))) (resumed u v under (option_and_then (λ ds. write_all v.words ds (words_of (renamed_parts f trees))) (D.destinations c v)))
 resumed_alike f c before waits types s u n lent w v below under g gs trees sound kinds good whole stand among i m rest =
     let call : Instr = I.Call i.callee i.sources i.destinations in
     let p = both (in_range c i.function w.at call) _ i.asked in
@@ -106,11 +106,11 @@ resumed_alike f c before waits types s u n lent w v below under g gs trees sound
     let goes : GoesTo c i.function w.at (w.at + 1) left = record { kinds = i.before; instr = call; reached = record { known = i.known; instr = i.instr }; asked = i.asked; goes = inl (omega arith, (g.kinds, i.left, refl)) } in
     let alike : AreAlike c.types f s.store u.store (at (before w.function (w.at + 1))) (word_at got.words) (word_at got.mates) = arrive_alike f c before waits w.function w.at (w.at + 1) i.function s.store u.store left (word_at got.words) (word_at got.mates) sound kinds i.is goes got.alike in
     let wide : length (before w.function (w.at + 1)) ≡ length got.words = arrive_wide c before waits w.function w.at (w.at + 1) i.function left sound kinds i.is goes ∙ got.wide ∙ sym (got.long ∙ i.long) in
-    let instr : C.instr_at (run_code c) w.function w.at ≡ Some call = run_instr_at c w.function w.at i.function call i.is i.instr in
-    let to : D.destinations (run_code c) w ≡ Some i.destinations = ap destinations_in instr in
-    let also : D.destinations (run_code c) v ≡ Some i.destinations = ap₂ (λ n j. destinations_in (C.instr_at (run_code c) n j)) m.function m.at ∙ to in
+    let instr : C.instr_at c w.function w.at ≡ Some call = run_instr_at c w.function w.at i.function call i.is i.instr in
+    let to : D.destinations c w ≡ Some i.destinations = ap destinations_in instr in
+    let also : D.destinations c v ≡ Some i.destinations = ap₂ (λ n j. destinations_in (C.instr_at c n j)) m.function m.at ∙ to in
     let write : write_all w.words i.destinations (words_of trees) ≡ Some got.words = ap (λ ws. write_all ws i.destinations (words_of trees)) i.words ∙ got.is in
-    subst (λ o. NextAlike before waits c f types s u (resumed s w below (option_and_then (λ ds. write_all w.words ds (words_of trees)) o)) (resumed u v under (option_and_then (λ ds. write_all v.words ds (words_of (renamed_parts f trees))) (D.destinations (run_code c) v)))) (sym to)
+    subst (λ o. NextAlike before waits c f types s u (resumed s w below (option_and_then (λ ds. write_all w.words ds (words_of trees)) o)) (resumed u v under (option_and_then (λ ds. write_all v.words ds (words_of (renamed_parts f trees))) (D.destinations c v)))) (sym to)
     (subst (λ o. NextAlike before waits c f types s u (resumed s w below (write_all w.words i.destinations (words_of trees))) (resumed u v under (option_and_then (λ ds. write_all v.words ds (words_of (renamed_parts f trees))) o))) (sym also)
     (subst (λ o. NextAlike before waits c f types s u (resumed s w below o) (resumed u v under (write_all v.words i.destinations (words_of (renamed_parts f trees))))) (sym write)
     (subst (λ o. NextAlike before waits c f types s u (resumed s w below (Some got.words)) (resumed u v under o)) (sym got.mates_is) (record {
@@ -130,7 +130,7 @@ resumed_alike f c before waits types s u n lent w v below under g gs trees sound
       beyond = λ q none. (refl, refl);
     }))))
 
-returned_alike : (f : Renaming) (c : PlainCode) (before waits : Kinds) (types : List ℕ) (s u : State) (n : ℕ) (lent : List Placed) (ws vs : List Frame) (gs : List Frozen) (trees : Parts) → IsSound c → AreKinds c before waits → IsStore u.store → IsProjected before waits (run_code c) f s u → StandAll c.types s.store (results c n) trees → StandAll c.types u.store (results c n) (renamed_parts f trees) → AreAllWaiting c s.store lent types n ws gs → AreRenamedFrames c.types f s.store u.store waits ws vs → NextAlike before waits c f types s u (returned (run_code c) s ws (Some (words_of trees))) (returned (run_code c) u vs (Some (words_of (renamed_parts f trees))))
+returned_alike : (f : Renaming) (c : PlainCode) (before waits : Kinds) (types : List ℕ) (s u : State) (n : ℕ) (lent : List Placed) (ws vs : List Frame) (gs : List Frozen) (trees : Parts) → IsSound c → AreKinds c before waits → IsStore u.store → IsProjected before waits c f s u → StandAll c.types s.store (results c n) trees → StandAll c.types u.store (results c n) (renamed_parts f trees) → AreAllWaiting c s.store lent types n ws gs → AreRenamedFrames c.types f s.store u.store waits ws vs → NextAlike before waits c f types s u (returned c s ws (Some (words_of trees))) (returned c u vs (Some (words_of (renamed_parts f trees))))
 returned_alike f c before waits types s u n lent [] [] [] trees sound kinds good whole stand among a m = trees_alike c.types f s.store u.store types trees (subst (λ ts. StandAll c.types s.store ts trees) a stand) (subst (λ ts. StandAll c.types u.store ts (renamed_parts f trees)) a among)
 returned_alike f c before waits types s u n lent [] [] (g ∷ gs) trees sound kinds good whole stand among a m = absurd a
 returned_alike f c before waits types s u n lent [] (v ∷ vs) gs trees sound kinds good whole stand among a m = absurd m
@@ -138,7 +138,7 @@ returned_alike f c before waits types s u n lent (w ∷ ws) [] gs trees sound ki
 returned_alike f c before waits types s u n lent (w ∷ ws) (v ∷ vs) [] trees sound kinds good whole stand among a m = absurd a
 returned_alike f c before waits types s u n lent (w ∷ ws) (v ∷ vs) (g ∷ gs) trees sound kinds good whole stand among a m = resumed_alike f c before waits types s u n lent w v ws vs g gs trees sound kinds good whole stand among a.0 m.0 m.1
 
-pub ret_alike : (f : Renaming) (c : PlainCode) (before waits : Kinds) (types kept : List ℕ) (s u : State) (rs : List ℕ) → IsSound c → AreKinds c before waits → (a : IsAlive c types kept s) → IsProjected before waits (run_code c) f s u → IsPair f c a.kinds s u → is_as_asked c a.function s.running.at a.kinds (I.Ret rs) ≡ true → NextAlike before waits c f types s u (returned (run_code c) s s.waiting (read_all s.running.words rs)) (returned (run_code c) u u.waiting (read_all u.running.words rs))
+pub ret_alike : (f : Renaming) (c : PlainCode) (before waits : Kinds) (types kept : List ℕ) (s u : State) (rs : List ℕ) → IsSound c → AreKinds c before waits → (a : IsAlive c types kept s) → IsProjected before waits c f s u → IsPair f c a.kinds s u → is_as_asked c a.function s.running.at a.kinds (I.Ret rs) ≡ true → NextAlike before waits c f types s u (returned c s s.waiting (read_all s.running.words rs)) (returned c u u.waiting (read_all u.running.words rs))
 ret_alike f c before waits types kept s u rs sound kinds a m pair asked =
     let fn : PlainFunction = a.function in
     let ws : List ℕ = s.running.words in
@@ -153,6 +153,6 @@ ret_alike f c before waits types kept s u rs sound kinds a m pair asked =
     let types_are : results c s.running.function ≡ fn.results = ap results_of a.is in
     let stand : StandAll c.types s.store (results c s.running.function) g.trees = subst (λ ts. StandAll c.types s.store ts g.trees) (sym types_are) g.stand in
     let among : StandAll c.types u.store (results c s.running.function) (renamed_parts f g.trees) = subst (λ ts. StandAll c.types u.store ts (renamed_parts f g.trees)) (sym types_are) g.among in
-    subst (λ o. NextAlike before waits c f types s u (returned (run_code c) s s.waiting o) (returned (run_code c) u u.waiting (read_all vs rs))) (sym read)
-    (subst (λ o. NextAlike before waits c f types s u (returned (run_code c) s s.waiting (Some (words_of g.trees))) (returned (run_code c) u u.waiting o)) (sym also)
+    subst (λ o. NextAlike before waits c f types s u (returned c s s.waiting o) (returned c u u.waiting (read_all vs rs))) (sym read)
+    (subst (λ o. NextAlike before waits c f types s u (returned c s s.waiting (Some (words_of g.trees))) (returned c u u.waiting o)) (sym also)
     (returned_alike f c before waits types s u s.running.function a.lent s.waiting u.waiting a.frozen g.trees sound kinds pair.good m stand among a.waiting m.waiting))

@@ -4,16 +4,14 @@ use Rattle.std.proofs.Common.{◌≡◌, ℕ, zero, suc, List, [], ◌∷◌, re
 use Rattle.run_loading.specs.fip_language.Table.{Table}
 use Rattle.run_loading.specs.cell_code.declared.kind.Kind.{Kind}
 use Rattle.run_loading.specs.cell_code.declared.kind.Kind.TheVariants.{Gone, Scalar, Owned, Lent, Credit}
-use Rattle.run_loading.specs.machine_semantics.Codes as R
+use Rattle.run_loading.specs.cell_code.Plain.{PlainCode, results}
 use Rattle.run_loading.specs.machine_semantics.Cells.{Store, IsStore, cell_at, there}
 use Rattle.run_loading.specs.machine_semantics.States.{Frame, Typed, State, Next, Went, Entered, Gave, Trapped, TooDeep}
 use Rattle.run_loading.specs.machine_semantics.Steps.{Kinds, next}
 use Rattle.run_loading.specs.machine_semantics.Runs.{End, Value, Trap, Out, Deep, Run, Going, Over, state_of, comes, later}
-use Rattle.run_loading.specs.code_rules.Codes.{PlainCode, results}
 use Rattle.run_loading.specs.code_rules.Breaks.{IsSound}
-use Rattle.run_loading.specs.separation.Codes.{run_code, HasLiterals, AreKinds}
+use Rattle.run_loading.specs.separation.Codes.{HasLiterals, AreKinds}
 use Rattle.run_loading.proofs.separation.Running.{GoodRun}
-use Rattle.run_loading.proofs.separation.Apartness.{run_results}
 use Rattle.task_semantics.specs.Schedules.{in_store}
 use Rattle.task_semantics.specs.Projected.{Renaming, IsThere, IsLikeCell, AreRenamed, IsRenamedTree, IsRenamedWord, AreRenamedWords, IsRenamedFrame, AreRenamedFrames, AreRenamedArguments, IsProjected, AreRenamedTrees, IsSameEnd, IsSameRun, IsSameAt}
 use Rattle.task_semantics.proofs.Renamings.{stands_there, tree_moves}
@@ -25,12 +23,12 @@ use Rattle.task_semantics.proofs.Stepping.{next_alike}
 
 -- the runs later and mate come after r and q
 pub record RunGoes (before waits : Kinds) (c : PlainCode) (n : ℕ) (f : Renaming) (r q later mate : Run) : Type 0 where
-  pub same : IsSameRun before waits (run_code c) n f later mate
+  pub same : IsSameRun before waits c n f later mate
   pub good : IsStore (state_of mate).store
   pub there : (p : ℕ) → there (state_of later).store p ≡ there (state_of r).store p
   pub beyond : Beyond f (state_of r).store (state_of q).store (state_of mate).store
 
-comes_alike : (before waits : Kinds) (c : PlainCode) (n : ℕ) (f : Renaming) (s u : State) (left k before_left before_steps : ℕ) (x y : Next) → IsStore u.store → IsProjected before waits (run_code c) f s u → NextAlike before waits c f (R.results_of (run_code c) n) s u x y → RunGoes before waits c n f (Going s before_left before_steps) (Going u before_left before_steps) (comes s left k x) (comes u left k y)
+comes_alike : (before waits : Kinds) (c : PlainCode) (n : ℕ) (f : Renaming) (s u : State) (left k before_left before_steps : ℕ) (x y : Next) → IsStore u.store → IsProjected before waits c f s u → NextAlike before waits c f (results c n) s u x y → RunGoes before waits c n f (Going s before_left before_steps) (Going u before_left before_steps) (comes s left k x) (comes u left k y)
 comes_alike before waits c n f s u left k l m (Went a) (Went b) good i g = record { same = (g.state, refl, refl); good = g.good; there = g.there; beyond = g.beyond }
 comes_alike before waits c n f s u zero k l m (Entered a) (Entered b) good i g = record { same = (tt, i, refl, refl); good = good; there = λ p. refl; beyond = λ p none. (refl, refl) }
 comes_alike before waits c n f s u (suc left) k l m (Entered a) (Entered b) good i g = record { same = (g.state, refl, refl); good = g.good; there = g.there; beyond = g.beyond }
@@ -40,11 +38,11 @@ comes_alike before waits c n f s u zero k l m TooDeep TooDeep good i g = record 
 comes_alike before waits c n f s u (suc left) k l m TooDeep TooDeep good i g = record { same = (tt, i, refl, refl); good = good; there = λ p. refl; beyond = λ p none. (refl, refl) }
 comes_alike before waits c n f s u left k l m x y good i g = absurd g
 
-pub later_alike : (before waits : Kinds) (c : PlainCode) (n : ℕ) (f : Renaming) (kept : List ℕ) (r q : Run) → IsSound c → HasLiterals c → AreKinds c before waits → GoodRun c (results c n) kept r → IsStore (state_of q).store → IsSameRun before waits (run_code c) n f r q → RunGoes before waits c n f r q (later before (run_code c) r) (later before (run_code c) q)
+pub later_alike : (before waits : Kinds) (c : PlainCode) (n : ℕ) (f : Renaming) (kept : List ℕ) (r q : Run) → IsSound c → HasLiterals c → AreKinds c before waits → GoodRun c (results c n) kept r → IsStore (state_of q).store → IsSameRun before waits c n f r q → RunGoes before waits c n f r q (later before c r) (later before c q)
 later_alike before waits c n f kept (Going s left k) (Going u l m) sound literals kinds g good i =
-    let x : Next = next before (run_code c) s in
-    let y : Next = next before (run_code c) u in
-    let step : NextAlike before waits c f (R.results_of (run_code c) n) s u x y = subst (λ ts. NextAlike before waits c f ts s u x y) (sym (run_results c n)) (next_alike f c before waits (results c n) kept s u sound literals kinds g good i.0) in
+    let x : Next = next before c s in
+    let y : Next = next before c u in
+    let step : NextAlike before waits c f (results c n) s u x y = next_alike f c before waits (results c n) kept s u sound literals kinds g good i.0 in
     subst (λ l. RunGoes before waits c n f (Going s left k) (Going u l m) (comes s left (suc k) x) (comes u l (suc m) y)) i.1
     (subst (λ m. RunGoes before waits c n f (Going s left k) (Going u left m) (comes s left (suc k) x) (comes u left (suc m) y)) i.2
     (comes_alike before waits c n f s u left (suc k) left k x y good i.0 step))
@@ -106,7 +104,7 @@ cells_stay f own old new h i = record {
   released = λ p there. (h p there).1 ∙ i.released p there;
 }
 
-state_stays : (before waits : Kinds) (code : R.PlainCode) (f : Renaming) (old new : Store) (a b : State) → OwnSame f a.store old new → IsProjected before waits code f a (record b { store = old }) → IsProjected before waits code f a (record b { store = new })
+state_stays : (before waits : Kinds) (code : PlainCode) (f : Renaming) (old new : Store) (a b : State) → OwnSame f a.store old new → IsProjected before waits code f a (record b { store = old }) → IsProjected before waits code f a (record b { store = new })
 state_stays before waits code f old new a b h i = record {
   cells = cells_stay f a.store old new h i.cells;
   running = frame_stays code.types f a.store old new (before a.running.function a.running.at) a.running b.running h i.running;
@@ -115,14 +113,14 @@ state_stays before waits code f old new a b h i = record {
   lent = arguments_stay code.types f a.store old new a.lent b.lent h i.lent;
 }
 
-end_stays : (code : R.PlainCode) (n : ℕ) (f : Renaming) (own old new : Store) (e d : End) → OwnSame f own old new → IsSameEnd code n f own old e d → IsSameEnd code n f own new e d
-end_stays code n f own old new (Value ws) (Value vs) h i = trees_stay code.types f own old new (R.results_of code n) ws vs h i
+end_stays : (code : PlainCode) (n : ℕ) (f : Renaming) (own old new : Store) (e d : End) → OwnSame f own old new → IsSameEnd code n f own old e d → IsSameEnd code n f own new e d
+end_stays code n f own old new (Value ws) (Value vs) h i = trees_stay code.types f own old new (results code n) ws vs h i
 end_stays code n f own old new (Trap k line col) (Trap l row at) h i = i
 end_stays code n f own old new Out Out h i = i
 end_stays code n f own old new Deep Deep h i = i
 end_stays code n f own old new e d h i = absurd i
 
-pub run_stays : (before waits : Kinds) (code : R.PlainCode) (n : ℕ) (f : Renaming) (old new : Store) (r q : Run) → OwnSame f (state_of r).store old new → IsSameRun before waits code n f r (in_store old q) → IsSameRun before waits code n f r (in_store new q)
+pub run_stays : (before waits : Kinds) (code : PlainCode) (n : ℕ) (f : Renaming) (old new : Store) (r q : Run) → OwnSame f (state_of r).store old new → IsSameRun before waits code n f r (in_store old q) → IsSameRun before waits code n f r (in_store new q)
 run_stays before waits code n f old new (Going a left k) (Going b l m) h i = (state_stays before waits code f old new a b h i.0, i.1, i.2)
 run_stays before waits code n f old new (Going a left k) (Over d b l m) h i = absurd i
 run_stays before waits code n f old new (Over e a left k) (Going b l m) h i = absurd i

@@ -6,7 +6,7 @@ use Rattle.std.specs.List.{fold}
 use Rattle.run_loading.specs.fip_language.Table.{Table}
 use Rattle.run_loading.specs.fip_language.Store.{Cell}
 use Rattle.run_loading.specs.cell_code.declared.kind.Kind.{Kind}
-use Rattle.run_loading.specs.machine_semantics.Codes.{PlainCode}
+use Rattle.run_loading.specs.cell_code.Plain.{PlainCode}
 use Rattle.run_loading.specs.machine_semantics.Cells.{Store, IsStore, cell_in, cell_at, released_at, one_if_true, one_held, held_in, count_held}
 use Rattle.run_loading.specs.machine_semantics.States.{Frame, State, frames_held, words_of_frame, words_held}
 use Rattle.run_loading.specs.machine_semantics.Steps.{Kinds}

@@ -2,18 +2,18 @@
 use Rattle.std.proofs.Common.{◌≡◌, ℕ, List, Some, sym, ap₂, ◌∙◌, subst}
 use Rattle.run_loading.specs.cell_code.declared.code.Instr.{Instr}
 use Rattle.run_loading.specs.cell_code.declared.code.Instr.TheVariants as I
+use Rattle.run_loading.specs.cell_code.Plain.{PlainCode}
 use Rattle.run_loading.specs.machine_semantics.Codes as C
 use Rattle.run_loading.specs.machine_semantics.Cells.{IsStore}
 use Rattle.run_loading.specs.machine_semantics.States.{State}
 use Rattle.run_loading.specs.machine_semantics.Steps.{Kinds, act, act_at, next, instr_of, kinds_of}
-use Rattle.run_loading.specs.code_rules.Codes.{PlainCode}
 use Rattle.run_loading.specs.code_rules.Breaks.{IsSound}
 use Rattle.run_loading.specs.separation.Rows.{IsReady}
 use Rattle.run_loading.proofs.separation.PlainRows.{asked, const_row, atom_row, move_row, jump_row, test_int_row}
 use Rattle.run_loading.proofs.separation.ReadingRows.{arith_row, test_row, peek_row}
 use Rattle.run_loading.proofs.separation.TakeRow.{take_row}
 use Rattle.run_loading.proofs.separation.CellRows.{put_row, free_row, drop_row}
-use Rattle.run_loading.specs.separation.Codes.{run_code, HasLiterals, AreKinds}
+use Rattle.run_loading.specs.separation.Codes.{HasLiterals, AreKinds}
 use Rattle.run_loading.specs.separation.Alive.{lower_trees, IsAlive}
 use Rattle.run_loading.proofs.separation.Local.{ready}
 use Rattle.run_loading.proofs.separation.Returning.{run_instr_at}
@@ -27,7 +27,7 @@ use Rattle.task_semantics.proofs.Inside.{went_alike, trapped_alike}
 use Rattle.task_semantics.proofs.Entering.{call_alike, tail_alike}
 use Rattle.task_semantics.proofs.Resuming.{ret_alike}
 
-act_alike : (f : Renaming) (c : PlainCode) (before waits : Kinds) (types kept : List ℕ) (s u : State) (x : Instr) → IsSound c → AreKinds c before waits → (a : IsAlive c types kept s) → IsProjected before waits (run_code c) f s u → IsPair f c a.kinds s u → IsReady c a.function (lower_trees a.frozen a.lent) a.kinds a.holds s x → NextAlike before waits c f types s u (act (run_code c) a.kinds s x) (act (run_code c) a.kinds u x)
+act_alike : (f : Renaming) (c : PlainCode) (before waits : Kinds) (types kept : List ℕ) (s u : State) (x : Instr) → IsSound c → AreKinds c before waits → (a : IsAlive c types kept s) → IsProjected before waits c f s u → IsPair f c a.kinds s u → IsReady c a.function (lower_trees a.frozen a.lent) a.kinds a.holds s x → NextAlike before waits c f types s u (act c a.kinds s x) (act c a.kinds u x)
 act_alike f c before waits types kept s u (I.Const d v) sound kinds a m p r = went_alike f c before waits types kept s u (I.Const d v) sound kinds a m (const_row c a.function (lower_trees a.frozen a.lent) a.kinds a.holds s d v r) (const_pair f c a.function (lower_trees a.frozen a.lent) a.kinds a.holds s u d v r p)
 act_alike f c before waits types kept s u (I.Atom d t k) sound kinds a m p r = went_alike f c before waits types kept s u (I.Atom d t k) sound kinds a m (atom_row c a.function (lower_trees a.frozen a.lent) a.kinds a.holds s d t k r) (atom_pair f c a.function (lower_trees a.frozen a.lent) a.kinds a.holds s u d t k r p)
 act_alike f c before waits types kept s u (I.Move d q) sound kinds a m p r = went_alike f c before waits types kept s u (I.Move d q) sound kinds a m (move_row c a.function (lower_trees a.frozen a.lent) a.kinds a.holds s d q r) (move_pair f c a.function (lower_trees a.frozen a.lent) a.kinds a.holds s u d q r p)
@@ -44,12 +44,12 @@ act_alike f c before waits types kept s u (I.Tail g rs) sound kinds a m p r = ta
 act_alike f c before waits types kept s u (I.Ret rs) sound kinds a m p r = ret_alike f c before waits types kept s u rs sound kinds a m p (asked c a.function (lower_trees a.frozen a.lent) a.kinds a.holds s (I.Ret rs) r)
 act_alike f c before waits types kept s u (I.Jump target) sound kinds a m p r = went_alike f c before waits types kept s u (I.Jump target) sound kinds a m (jump_row c a.function (lower_trees a.frozen a.lent) a.kinds a.holds s target r) (jump_pair f c a.function (lower_trees a.frozen a.lent) a.kinds a.holds s u target r p)
 
-pub next_alike : (f : Renaming) (c : PlainCode) (before waits : Kinds) (types kept : List ℕ) (s u : State) → IsSound c → HasLiterals c → AreKinds c before waits → IsAlive c types kept s → IsStore u.store → IsProjected before waits (run_code c) f s u → NextAlike before waits c f types s u (next before (run_code c) s) (next before (run_code c) u)
+pub next_alike : (f : Renaming) (c : PlainCode) (before waits : Kinds) (types kept : List ℕ) (s u : State) → IsSound c → HasLiterals c → AreKinds c before waits → IsAlive c types kept s → IsStore u.store → IsProjected before waits c f s u → NextAlike before waits c f types s u (next before c s) (next before c u)
 next_alike f c before waits types kept s u sound literals kinds a good m =
     let n : ℕ = s.running.function in
     let i : ℕ = s.running.at in
-    let instr : instr_of (run_code c) s ≡ Some a.instr = run_instr_at c n i a.function a.instr a.is a.is_instr in
-    let also : instr_of (run_code c) u ≡ Some a.instr = ap₂ (λ n i. C.instr_at (run_code c) n i) m.running.function m.running.at ∙ instr in
+    let instr : instr_of c s ≡ Some a.instr = run_instr_at c n i a.function a.instr a.is a.is_instr in
+    let also : instr_of c u ≡ Some a.instr = ap₂ (λ n i. C.instr_at c n i) m.running.function m.running.at ∙ instr in
     let known : kinds_of before s ≡ a.kinds = kinds.known n i a.function a.kinds a.is a.known in
     let mate_known : kinds_of before u ≡ a.kinds = ap₂ (λ n i. before n i) m.running.function m.running.at ∙ known in
     let words : AreRenamedWords c.types f s.store u.store a.kinds s.running.words u.running.words = subst (λ ks. AreRenamedWords c.types f s.store u.store ks s.running.words u.running.words) known m.running.words in
@@ -60,6 +60,6 @@ next_alike f c before waits types kept s u sound literals kinds a good m =
       long = words_even c.types f s.store u.store a.kinds s.running.words u.running.words words;
       alike = by_number c.types f s.store u.store a.kinds s.running.words u.running.words words;
     } in
-    subst (λ y. NextAlike before waits c f types s u y (next before (run_code c) u)) (sym (ap₂ (λ ks x. act_at (run_code c) ks s x) known instr))
-    (subst (λ y. NextAlike before waits c f types s u (act (run_code c) a.kinds s a.instr) y) (sym (ap₂ (λ ks x. act_at (run_code c) ks u x) mate_known also))
+    subst (λ y. NextAlike before waits c f types s u y (next before c u)) (sym (ap₂ (λ ks x. act_at c ks s x) known instr))
+    (subst (λ y. NextAlike before waits c f types s u (act c a.kinds s a.instr) y) (sym (ap₂ (λ ks x. act_at c ks u x) mate_known also))
     (act_alike f c before waits types kept s u a.instr sound kinds a m pair (ready c types kept s sound literals a)))

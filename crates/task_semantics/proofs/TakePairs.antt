@@ -12,7 +12,7 @@ use Rattle.run_loading.specs.machine_semantics.Trees.{Stands, IsTree, StandAll}
 use Rattle.run_loading.specs.machine_semantics.States.{State}
 use Rattle.run_loading.specs.machine_semantics.Rows as R
 use Rattle.run_loading.specs.machine_semantics.Apart.{Holding, Tree, RootIn, held_tree}
-use Rattle.run_loading.specs.code_rules.Codes.{PlainCode, PlainFunction}
+use Rattle.run_loading.specs.cell_code.Plain.{PlainFunction, PlainCode}
 use Rattle.run_loading.specs.code_rules.Types.{fields, fields_of}
 use Rattle.run_loading.specs.code_rules.Kinds.{has, at, is_free, is_owned, is_lent_of}
 use Rattle.run_loading.specs.code_rules.Changes.{forget}

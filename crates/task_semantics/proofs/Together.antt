@@ -10,11 +10,11 @@ use Rattle.run_loading.specs.machine_semantics.Apart.{IsGiven}
 use Rattle.run_loading.specs.machine_semantics.Example.{reversing, at_start, types, cons, nil_shape, cons_shape}
 use Rattle.run_loading.specs.machine_semantics.Runs.{Run, begun}
 use Rattle.task_semantics.specs.Schedules.{in_store}
-use Rattle.run_loading.specs.code_rules.Codes.{PlainFunction}
+use Rattle.run_loading.specs.cell_code.Plain.{PlainFunction}
 use Rattle.run_loading.specs.code_rules.Entry.{entry}
 use Rattle.run_loading.specs.code_rules.Example.{reversal, function_of, rev_with, nil_taken, acc_given, cons_taken, cons_put, again, cons_known}
 use Rattle.run_loading.proofs.separation_kinds.Agree.{one_apart}
-use Rattle.run_loading.specs.separation.Codes.{run_function, run_code, AreKinds}
+use Rattle.run_loading.specs.separation.Codes.{AreKinds}
 use Rattle.run_loading.specs.separation.Starts.{IsStart}
 use Rattle.run_loading.proofs.separation.Sound.{formed, has_form}
 use Rattle.run_loading.proofs.separation.Calling.{known_entry}
@@ -155,7 +155,7 @@ rev = function_of (2 ∷ []) (rev_with nil_taken acc_given cons_taken cons_put a
 known : (before waits : Kinds) → AreKinds reversal before waits → AtStart before
 known before waits kinds = kinds.known 0 0 rev (entry reversal rev) refl (known_entry reversal rev (has_form reversal rev (formed reversal 0 rev (reversal_starts before waits kinds).sound refl)))
 
-pub begins : (before waits : Kinds) → AreKinds reversal before waits → BeginTogether before waits (run_code reversal) tasks_alone (two_tasks 2)
+pub begins : (before waits : Kinds) → AreKinds reversal before waits → BeginTogether before waits reversal tasks_alone (two_tasks 2)
 begins before waits kinds = begin_by before waits (known before waits kinds)
 
 -- two lists of one item each
@@ -182,7 +182,7 @@ task_is_store item other = record {
   of_cells = λ p. let e = none_released 6 p in omega (arith, e);
 }
 
-given : (item other : ℕ) → item < 2 ^ 63 → other < 2 ^ 63 → IsGiven types (run_function rev) (store_of (cells_of item 0 other)) [] (1 ∷ 7 ∷ [])
+given : (item other : ℕ) → item < 2 ^ 63 → other < 2 ^ 63 → IsGiven types rev (store_of (cells_of item 0 other)) [] (1 ∷ 7 ∷ [])
 given item other h k = record {
   store = task_is_store item other;
   arguments = lists item other;

@@ -2,7 +2,7 @@
 use Rattle.std.proofs.Common.{◌≡◌, ◌≢◌, ℕ, zero, suc, List, [], ◌∷◌, ◌++◌, Some, None, refl, sym, ap, ◌∙◌, replicate, ◌+◌, arith}
 use Rattle.std.specs.Prelude.{slice_get, slice_set, Option}
 use Rattle.run_loading.specs.fip_language.Store.{count}
-use Rattle.run_loading.specs.machine_semantics.Codes.{PlainCode}
+use Rattle.run_loading.specs.cell_code.Plain.{PlainCode}
 use Rattle.run_loading.specs.machine_semantics.States.{State}
 use Rattle.run_loading.specs.machine_semantics.Steps.{Kinds}
 use Rattle.run_loading.specs.machine_semantics.Runs.{End, Run, Going, Over, after, later, state_of}

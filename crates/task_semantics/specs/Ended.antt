@@ -8,8 +8,7 @@ use Rattle.run_loading.specs.machine_semantics.Cells.{Store}
 use Rattle.run_loading.specs.machine_semantics.Runs.{End, Ends}
 use Rattle.run_loading.specs.machine_semantics.States.{State}
 use Rattle.run_loading.specs.machine_semantics.Steps.{Kinds}
-use Rattle.run_loading.specs.code_rules.Codes.{PlainCode, results}
-use Rattle.run_loading.specs.separation.Codes.{run_code}
+use Rattle.run_loading.specs.cell_code.Plain.{PlainCode, results}
 use Rattle.run_loading.specs.tree_refinement.Runs as A
 use Rattle.run_loading.specs.tree_semantics.Runs.{Over, after, entry, begun}
 use Rattle.run_loading.specs.tree_semantics.States as U
@@ -21,14 +20,14 @@ pub record EndsAlone (c : PlainCode) (before : Kinds) (b : Begun) (shared : Stor
   where
     pub end : End
     pub last : State
-    pub ends : Ends before (run_code c) b.state b.calls end last left steps
-    pub same : IsSameEnd (run_code c) b.function b.places last.store shared end e
+    pub ends : Ends before c b.state b.calls end last left steps
+    pub same : IsSameEnd c b.function b.places last.store shared end e
 
 -- On trees the run of the task's function on its arguments, with its calls and frames, ends so.
 pub record EndsOnTrees (c : PlainCode) (t : Task) (last : State) (e : End) (left steps : ℕ) : Type 0 where
   pub enough : ℕ
   pub answer : Answer
   pub state : U.State
-  pub is : after (run_code c) enough (begun (entry t.function t.arguments t.frames) t.calls)
+  pub is : after c enough (begun (entry t.function t.arguments t.frames) t.calls)
       ≡ Over answer state left steps
   pub same : A.IsSameEnd c.types (results c t.function) last left e answer

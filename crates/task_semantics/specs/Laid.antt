@@ -14,8 +14,7 @@ use Rattle.run_loading.specs.fip_language.Values.{Values}
 use Rattle.run_loading.specs.machine_semantics.Cells.{Store}
 use Rattle.run_loading.specs.machine_semantics.Runs.{Run, loaded, begun}
 use Rattle.run_loading.specs.machine_semantics.States.{State}
-use Rattle.run_loading.specs.code_rules.Codes as S
-use Rattle.run_loading.specs.separation.Codes.{run_code}
+use Rattle.run_loading.specs.cell_code.Plain.{PlainFunction, PlainCode, function_at}
 use Rattle.run_loading.specs.Loading.{all_places, all_words, credit_places, credit_words, unreleased}
 use Rattle.run_loading.specs.Loading.{first_store, first_words}
 use Rattle.task_semantics.specs.Projected.{Begun}
@@ -24,14 +23,14 @@ use Rattle.task_semantics.specs.Schedules.{Shared}
 -- a call of a function of the code: its header, its arguments, and the calls and frames of its run
 pub record Task : Type 0 where
   pub function : ℕ
-  pub header : S.PlainFunction
+  pub header : PlainFunction
   pub arguments : Values
   pub calls : ℕ
   pub frames : ℕ
 
 -- The code has this function, and the arguments have the types of its parameters.
-pub record IsTask (c : S.PlainCode) (t : Task) : Type 0 where
-  pub there : S.function_at c t.function ≡ Some t.header
+pub record IsTask (c : PlainCode) (t : Task) : Type 0 where
+  pub there : function_at c t.function ≡ Some t.header
   pub typed : HaveTypes c.types (map (λ p. p.ty) t.header.params) t.arguments
 
 -- the places of a task's cells, and the words that it is given, where n places stand before them
@@ -52,23 +51,23 @@ shared_store ts = unreleased (laid 0 ts)
 
 -- The task, whose cells have n places before them in the shared store, begins alone in a new store, and there with its
 -- words.
-pub record IsBegun (c : S.PlainCode) (shared : Store) (n : ℕ) (t : Task) (b : Begun) (r : Run) : Type 0 where
+pub record IsBegun (c : PlainCode) (shared : Store) (n : ℕ) (t : Task) (b : Begun) (r : Run) : Type 0 where
   pub task : IsTask c t
   pub own : State
-  pub first : loaded (run_code c) t.function (first_store t.arguments t.header.credits)
+  pub first : loaded c t.function (first_store t.arguments t.header.credits)
       (first_words t.arguments t.header.credits) t.frames ≡ Some own
   pub among : State
-  pub further : loaded (run_code c) t.function shared (task_words n t) t.frames ≡ Some among
+  pub further : loaded c t.function shared (task_words n t) t.frames ≡ Some among
   pub alone : b ≡ record { function = t.function; state = own; calls = t.calls; places = λ p. n + p }
   pub run : r ≡ begun among t.calls
 
-abbrev pub AreBegun : S.PlainCode → Store → ℕ → List Task → List Begun → List Run → Type 0
+abbrev pub AreBegun : PlainCode → Store → ℕ → List Task → List Begun → List Run → Type 0
 AreBegun c shared n [] [] [] = Unit {0}
 AreBegun c shared n (t ∷ ts) (b ∷ bs) (r ∷ rs) =
     IsBegun c shared n t b r × AreBegun c shared (n + length (task_places n t)) ts bs rs
 AreBegun c shared n ts bs rs = ⊥
 
 -- The tasks are loaded one after another, and each begins so, alone and in the shared store.
-pub record AreLaid (c : S.PlainCode) (tasks : List Task) (alone : List Begun) (first : Shared) : Type 0 where
+pub record AreLaid (c : PlainCode) (tasks : List Task) (alone : List Begun) (first : Shared) : Type 0 where
   pub store : first.store ≡ shared_store tasks
   pub begun : AreBegun c (shared_store tasks) 0 tasks alone first.runs

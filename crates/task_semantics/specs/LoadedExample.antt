@@ -2,7 +2,7 @@
 -- Cons(4, Nil)), each with two calls and no further frame.
 use Rattle.std.specs.Prelude.{ℤ, pos, List, [], ◌∷◌}
 use Rattle.run_loading.specs.fip_language.Example.{empty, item, pair}
-use Rattle.run_loading.specs.code_rules.Codes.{PlainFunction}
+use Rattle.run_loading.specs.cell_code.Plain.{PlainFunction}
 use Rattle.run_loading.specs.code_rules.Example.{function_of, rev_with, nil_taken, acc_given, cons_taken, cons_put, again}
 use Rattle.run_loading.specs.code_rules.Example.{cons_known}
 use Rattle.task_semantics.specs.Laid.{Task}

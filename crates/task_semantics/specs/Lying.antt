@@ -15,8 +15,7 @@ use Rattle.run_loading.specs.machine_semantics.Runs.{Run, loaded, begun}
 use Rattle.run_loading.specs.machine_semantics.States.{State}
 use Rattle.run_loading.specs.machine_semantics.Trees.{StandAll}
 use Rattle.run_loading.specs.machine_semantics.Words.{place_word}
-use Rattle.run_loading.specs.code_rules.Codes as S
-use Rattle.run_loading.specs.separation.Codes.{run_code}
+use Rattle.run_loading.specs.cell_code.Plain.{PlainCode, function_at}
 use Rattle.task_semantics.specs.Laid.{Task}
 use Rattle.task_semantics.specs.Projected.{Begun}
 use Rattle.task_semantics.specs.Schedules.{Shared}
@@ -28,8 +27,8 @@ pub record Lying : Type 0 where
   pub spares : List ℕ
 
 -- The code has this function, the trees stand in the store for the arguments, and there is a cell for each credit.
-pub record LiesIn (c : S.PlainCode) (s : Store) (l : Lying) : Type 0 where
-  pub there : S.function_at c l.task.function ≡ Some l.task.header
+pub record LiesIn (c : PlainCode) (s : Store) (l : Lying) : Type 0 where
+  pub there : function_at c l.task.function ≡ Some l.task.header
   pub values : values_of l.trees ≡ l.task.arguments
   pub stand : StandAll c.types s (map (λ p. p.ty) l.task.header.params) l.trees
   pub credits : AreSpare s l.task.header.credits l.spares
@@ -43,7 +42,7 @@ uses_by_all [] p = 0
 uses_by_all (l ∷ ls) p = uses_by l p + uses_by_all ls p
 
 -- Calls lie apart in the store: no cell is used twice, and none that is used is released.
-pub record LieApart (c : S.PlainCode) (s : Store) (ls : List Lying) : Type 0 where
+pub record LieApart (c : PlainCode) (s : Store) (ls : List Lying) : Type 0 where
   pub store : IsStore s
   pub calls : Every (LiesIn c s) ls
   pub once : (p : ℕ) → uses_by_all ls p + released_at s p ≤ there s p
@@ -66,16 +65,16 @@ abbrev pub own_store : Store → Lying → Store
 own_store s l = record { cells = cells_used (uses_by l) s.cells; released = replicate (length s.cells) false }
 
 -- The call begins alone over its own cells, and in the shared store with the same words.
-pub record IsBegun (c : S.PlainCode) (s : Store) (l : Lying) (b : Begun) (r : Run) : Type 0 where
+pub record IsBegun (c : PlainCode) (s : Store) (l : Lying) (b : Begun) (r : Run) : Type 0 where
   pub own : State
-  pub first : loaded (run_code c) l.task.function (own_store s l) (call_words l) l.task.frames ≡ Some own
+  pub first : loaded c l.task.function (own_store s l) (call_words l) l.task.frames ≡ Some own
   pub among : State
-  pub further : loaded (run_code c) l.task.function s (call_words l) l.task.frames ≡ Some among
+  pub further : loaded c l.task.function s (call_words l) l.task.frames ≡ Some among
   pub alone : b ≡ record { function = l.task.function; state = own; calls = l.task.calls; places = λ p. p }
   pub run : r ≡ begun among l.task.calls
 
 -- Calls that lie apart begin so.
-pub record AreApart (c : S.PlainCode) (ls : List Lying) (alone : List Begun) (first : Shared) : Type 0 where
+pub record AreApart (c : PlainCode) (ls : List Lying) (alone : List Begun) (first : Shared) : Type 0 where
   pub apart : LieApart c first.store ls
   pub number_alone : length alone ≡ length ls
   pub number : length first.runs ≡ length ls

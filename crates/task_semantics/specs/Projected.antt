@@ -13,15 +13,13 @@ use Rattle.run_loading.specs.fip_language.Table.{Table}
 use Rattle.run_loading.specs.fip_language.Store.{Cell, Placed, PlacedInt, Bare, At, Parts, NoParts, MoreParts}
 use Rattle.run_loading.specs.cell_code.declared.kind.Kind.{Kind}
 use Rattle.run_loading.specs.cell_code.declared.kind.Kind.TheVariants as K
-use Rattle.run_loading.specs.machine_semantics.Codes.{PlainCode, results_of}
+use Rattle.run_loading.specs.cell_code.Plain.{PlainCode, results}
 use Rattle.run_loading.specs.machine_semantics.Words.{is_place, place_word}
 use Rattle.run_loading.specs.machine_semantics.Cells.{Store, IsStore, size_of, cell_at, released_at, count_held}
 use Rattle.run_loading.specs.machine_semantics.Trees.{IsTree}
 use Rattle.run_loading.specs.machine_semantics.States.{Frame, Typed, State, frames_held, words_held}
 use Rattle.run_loading.specs.machine_semantics.Steps.{Kinds}
 use Rattle.run_loading.specs.machine_semantics.Runs.{End, Value, Trap, Out, Deep, Run, Going, Over, begun, state_of}
-use Rattle.run_loading.specs.code_rules.Codes as S
-use Rattle.run_loading.specs.separation.Codes.{run_code}
 use Rattle.run_loading.specs.separation.Starts.{IsStart}
 use Rattle.task_semantics.specs.Schedules.{Shared, turn, scheduled, alone, in_store}
 
@@ -123,7 +121,7 @@ AreRenamedTrees tb f own shared ts ws vs = ⊥
 
 -- the same end of a run of function n: its results are the same values, at their places
 abbrev pub IsSameEnd : PlainCode → ℕ → Renaming → Store → Store → End → End → Type 0
-IsSameEnd code n f own shared (Value ws) (Value vs) = AreRenamedTrees code.types f own shared (results_of code n) ws vs
+IsSameEnd code n f own shared (Value ws) (Value vs) = AreRenamedTrees code.types f own shared (results code n) ws vs
 IsSameEnd code n f own shared (Trap k line col) (Trap k' line' col') = (k ≡ k') × (line ≡ line') × (col ≡ col')
 IsSameEnd code n f own shared Out Out = Unit {0}
 IsSameEnd code n f own shared Deep Deep = Unit {0}
@@ -160,31 +158,31 @@ pub record BeginTogether (before waits : Kinds) (code : PlainCode) (tasks : List
 
 -- Each task begins alone in a state that is loaded: the code is sound, these are its kinds, the words that the function
 -- is given stand for arguments and credits that are apart, and of the store's other cells none is unreleased.
-abbrev pub AreLoaded : Kinds → Kinds → S.PlainCode → List Begun → Type 0
+abbrev pub AreLoaded : Kinds → Kinds → PlainCode → List Begun → Type 0
 AreLoaded before waits code tasks =
     (k : ℕ) (t : Begun) → slice_get tasks k ≡ Some t → IsStart code before waits t.function [] t.state
 
 -- Loaded tasks that begin together come each to what it comes to alone, whatever the schedule is.
-abbrev pub EachIsAlone : Kinds → Kinds → S.PlainCode → Type 0
+abbrev pub EachIsAlone : Kinds → Kinds → PlainCode → Type 0
 EachIsAlone before waits code = (tasks : List Begun) (first : Shared) → AreLoaded before waits code tasks →
-    BeginTogether before waits (run_code code) tasks first →
+    BeginTogether before waits code tasks first →
     (schedule : List ℕ) (k : ℕ) (t : Begun) (r : Run) → slice_get tasks k ≡ Some t →
-    slice_get (scheduled before (run_code code) schedule first).runs k ≡ Some r →
-    IsSameRun before waits (run_code code) t.function t.places
-    (alone before (run_code code) k schedule (begun t.state t.calls))
-    (in_store (scheduled before (run_code code) schedule first).store r)
+    slice_get (scheduled before code schedule first).runs k ≡ Some r →
+    IsSameRun before waits code t.function t.places
+    (alone before code k schedule (begun t.state t.calls))
+    (in_store (scheduled before code schedule first).store r)
 
 -- what is at a place of the store: a cell, and whether it is released
 abbrev pub IsSameAt : Store → Store → ℕ → Type 0
 IsSameAt s t p = (cell_at s p ≡ cell_at t p) × (released_at s p ≡ released_at t p)
 
 -- After every schedule a turn of task k changes no cell of task j.
-abbrev pub EachKeepsItsCells : Kinds → Kinds → S.PlainCode → Type 0
+abbrev pub EachKeepsItsCells : Kinds → Kinds → PlainCode → Type 0
 EachKeepsItsCells before waits code = (tasks : List Begun) (first : Shared) → AreLoaded before waits code tasks →
-    BeginTogether before waits (run_code code) tasks first →
+    BeginTogether before waits code tasks first →
     (schedule : List ℕ) (j k p : ℕ) (t : Begun) → slice_get tasks j ≡ Some t → j ≢ k → IsThere t.state.store p →
-    IsSameAt (turn before (run_code code) (scheduled before (run_code code) schedule first) k).store
-    (scheduled before (run_code code) schedule first).store (t.places p)
+    IsSameAt (turn before code (scheduled before code schedule first) k).store
+    (scheduled before code schedule first).store (t.places p)
 
 -- ---- what is seen of a task
 
@@ -212,10 +210,10 @@ pub record IsSeenAs (f : Renaming) (shared : Store) (a b : State) : Type 0 where
 
 -- After every schedule as much is seen of each task as of it alone. So its gauge, which reports of all its states, is
 -- that of the task alone.
-abbrev pub EachIsSeenAsAlone : Kinds → Kinds → S.PlainCode → Type 0
+abbrev pub EachIsSeenAsAlone : Kinds → Kinds → PlainCode → Type 0
 EachIsSeenAsAlone before waits code = (tasks : List Begun) (first : Shared) → AreLoaded before waits code tasks →
-    BeginTogether before waits (run_code code) tasks first →
+    BeginTogether before waits code tasks first →
     (schedule : List ℕ) (k : ℕ) (t : Begun) (r : Run) → slice_get tasks k ≡ Some t →
-    slice_get (scheduled before (run_code code) schedule first).runs k ≡ Some r →
-    IsSeenAs t.places (scheduled before (run_code code) schedule first).store
-    (state_of (alone before (run_code code) k schedule (begun t.state t.calls))) (state_of r)
+    slice_get (scheduled before code schedule first).runs k ≡ Some r →
+    IsSeenAs t.places (scheduled before code schedule first).store
+    (state_of (alone before code k schedule (begun t.state t.calls))) (state_of r)

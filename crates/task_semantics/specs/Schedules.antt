@@ -12,7 +12,7 @@ use Rattle.std.specs.Prelude.{◌≡◌, ℕ, suc, List, [], ◌∷◌, ◌++◌
 use Rattle.std.specs.Prelude.{slice_set}
 use Rattle.run_loading.specs.fip_language.Every.{Every}
 use Rattle.run_loading.specs.fip_language.Store.{count}
-use Rattle.run_loading.specs.machine_semantics.Codes.{PlainCode}
+use Rattle.run_loading.specs.cell_code.Plain.{PlainCode}
 use Rattle.run_loading.specs.machine_semantics.Cells.{Store}
 use Rattle.run_loading.specs.machine_semantics.Steps.{Kinds}
 use Rattle.run_loading.specs.machine_semantics.Runs.{Run, Going, Over, state_of, later, after}

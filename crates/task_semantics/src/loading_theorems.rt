@@ -5,9 +5,9 @@ ghost use Rattle.run_loading.specs.machine_semantics.Runs.{End, Over};
 ghost use Rattle.run_loading.specs.machine_semantics.States.{State};
 ghost use Rattle.run_loading.specs.machine_semantics.Steps.{Kinds};
 ghost use Rattle.run_loading.specs.code_rules.Breaks.{IsSound};
-ghost use Rattle.run_loading.specs.code_rules.Codes.{PlainCode};
+ghost use Rattle.run_loading.specs.cell_code.Plain.{PlainCode};
 ghost use Rattle.run_loading.specs.code_rules.Example.{reversal};
-ghost use Rattle.run_loading.specs.separation.Codes.{run_code, HasLiterals, AreKinds};
+ghost use Rattle.run_loading.specs.separation.Codes.{HasLiterals, AreKinds};
 ghost use Rattle.task_semantics.specs.ScheduleExample.{both, tasks_alone, two_tasks};
 ghost use Rattle.task_semantics.specs.Projected.{Begun, BeginTogether, AreLoaded};
 ghost use Rattle.task_semantics.specs.Schedules.{Shared, scheduled, EndsAll};
@@ -23,7 +23,7 @@ pub fn loaded_tasks_begin_together()
         (alone : List Begun) × (first : Shared) × AreLaid c tasks alone first }
     ensures together { (c : PlainCode) (before waits : Kinds) (tasks : List Task) (alone : List Begun)
         (first : Shared) → IsSound c → HasLiterals c → AreKinds c before waits → AreLaid c tasks alone first →
-        BeginTogether before waits (run_code c) alone first }
+        BeginTogether before waits c alone first }
     ensures loaded { (c : PlainCode) (before waits : Kinds) (tasks : List Task) (alone : List Begun)
         (first : Shared) → IsSound c → HasLiterals c → AreKinds c before waits → AreLaid c tasks alone first →
         AreLoaded before waits c alone }
@@ -37,14 +37,14 @@ pub fn what_tasks_come_to()
         (first : Shared) (schedule : List ℕ) (k : ℕ) (b : Begun) (e : End) (last : State) (left steps : ℕ) →
         IsSound c → HasLiterals c → AreKinds c before waits → AreLaid c tasks alone first →
         slice_get alone k ≡ Some b →
-        slice_get (scheduled before (run_code c) schedule first).runs k ≡ Some (Over e last left steps) →
-        EndsAlone c before b (scheduled before (run_code c) schedule first).store e left steps }
+        slice_get (scheduled before c schedule first).runs k ≡ Some (Over e last left steps) →
+        EndsAlone c before b (scheduled before c schedule first).store e left steps }
     ensures trees { (c : PlainCode) (before waits : Kinds) (tasks : List Task) (alone : List Begun)
         (first : Shared) (schedule : List ℕ) (k : ℕ) (t : Task) (e : End) (last : State) (left steps : ℕ) →
         IsSound c → HasLiterals c → AreKinds c before waits → AreLaid c tasks alone first →
         slice_get tasks k ≡ Some t →
-        slice_get (scheduled before (run_code c) schedule first).runs k ≡ Some (Over e last left steps) →
-        EndsOnTrees c t (record last { store = (scheduled before (run_code c) schedule first).store }) e left steps }
+        slice_get (scheduled before c schedule first).runs k ≡ Some (Over e last left steps) →
+        EndsOnTrees c t (record last { store = (scheduled before c schedule first).store }) e left steps }
 {}
 
 /// Whatever turns are drawn, each task comes to an end where it then has turns enough: some schedule that begins with
@@ -52,7 +52,7 @@ pub fn what_tasks_come_to()
 pub fn all_tasks_end()
     ensures theorem { (c : PlainCode) (before waits : Kinds) (tasks : List Task) (alone : List Begun) (first : Shared)
         (drawn : List ℕ) → IsSound c → HasLiterals c → AreKinds c before waits → AreLaid c tasks alone first →
-        (schedule : List ℕ) × EndsAll before (run_code c) first drawn schedule }
+        (schedule : List ℕ) × EndsAll before c first drawn schedule }
 {}
 
 /// The two tasks of the examples of schedules are loaded so: the second has its cells after those of the first, and

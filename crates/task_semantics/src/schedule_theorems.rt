@@ -1,14 +1,13 @@
 // The theorems of schedules. Each is the contract of a function that does nothing.
 ghost use Rattle.std.specs.Prelude.{◌≡◌, ◌≢◌, ℕ, List, [], ◌∷◌, ◌++◌, Some, slice_get, map, replicate};
-ghost use Rattle.run_loading.specs.machine_semantics.Codes.{PlainCode};
+ghost use Rattle.run_loading.specs.cell_code.Plain.{PlainCode};
 ghost use Rattle.run_loading.specs.machine_semantics.Cells.{Store, IsStore, count_held};
 ghost use Rattle.run_loading.specs.machine_semantics.States.{State, frames_held, words_held};
 ghost use Rattle.run_loading.specs.machine_semantics.Steps.{Kinds};
 ghost use Rattle.run_loading.specs.machine_semantics.Runs.{End, Value, Out, Run, Over, begun, state_of};
 ghost use Rattle.run_loading.specs.machine_semantics.Example.{reversing, unknown, at_start};
-ghost use Rattle.run_loading.specs.code_rules.Codes as S;
 ghost use Rattle.run_loading.specs.code_rules.Example.{reversal};
-ghost use Rattle.run_loading.specs.separation.Codes.{run_code, AreKinds};
+ghost use Rattle.run_loading.specs.separation.Codes.{AreKinds};
 ghost use Rattle.task_semantics.specs.Draws.{drawn, numbers};
 ghost use Rattle.task_semantics.specs.Projected.{BeginTogether, Renaming, AreRenamed, IsProjected, held_among};
 ghost use Rattle.task_semantics.specs.Projected.{AreLoaded, EachIsAlone, EachKeepsItsCells, EachIsSeenAsAlone};
@@ -77,7 +76,7 @@ pub fn an_example_of_draws()
 pub fn an_example_begins_together()
     ensures theorem { BeginTogether at_start at_start reversing tasks_alone (two_tasks 2) }
     ensures together { (before waits : Kinds) → AreKinds reversal before waits →
-        BeginTogether before waits (run_code reversal) tasks_alone (two_tasks 2) }
+        BeginTogether before waits reversal tasks_alone (two_tasks 2) }
     ensures loaded { (before waits : Kinds) → AreKinds reversal before waits →
         AreLoaded before waits reversal tasks_alone }
 {}
@@ -98,7 +97,7 @@ pub fn a_task_is_seen_as_alone()
 /// cells, calls and steps at the task's places, and the same end with the same results. No turn of one task changes a
 /// cell of another, and as much is seen of each as of it alone. For who gives turns to tasks that share a store.
 pub fn tasks_do_as_alone()
-    ensures alone { (before waits : Kinds) (code : S.PlainCode) → EachIsAlone before waits code }
-    ensures cells { (before waits : Kinds) (code : S.PlainCode) → EachKeepsItsCells before waits code }
-    ensures seen { (before waits : Kinds) (code : S.PlainCode) → EachIsSeenAsAlone before waits code }
+    ensures alone { (before waits : Kinds) (code : PlainCode) → EachIsAlone before waits code }
+    ensures cells { (before waits : Kinds) (code : PlainCode) → EachKeepsItsCells before waits code }
+    ensures seen { (before waits : Kinds) (code : PlainCode) → EachIsSeenAsAlone before waits code }
 {}

@@ -5,8 +5,8 @@ ghost use Rattle.run_loading.specs.machine_semantics.Runs.{End, Over};
 ghost use Rattle.run_loading.specs.machine_semantics.States.{State};
 ghost use Rattle.run_loading.specs.machine_semantics.Steps.{Kinds};
 ghost use Rattle.run_loading.specs.code_rules.Breaks.{IsSound};
-ghost use Rattle.run_loading.specs.code_rules.Codes.{PlainCode};
-ghost use Rattle.run_loading.specs.separation.Codes.{run_code, HasLiterals, AreKinds};
+ghost use Rattle.run_loading.specs.cell_code.Plain.{PlainCode};
+ghost use Rattle.run_loading.specs.separation.Codes.{HasLiterals, AreKinds};
 ghost use Rattle.task_semantics.specs.Projected.{Begun, BeginTogether, AreLoaded};
 ghost use Rattle.task_semantics.specs.Schedules.{Shared, scheduled};
 ghost use Rattle.task_semantics.specs.Ended.{EndsOnTrees};
@@ -19,7 +19,7 @@ pub fn apart_tasks_begin_together()
         (alone : List Begun) × (first : Shared) × (first.store ≡ s) × AreApart c ls alone first }
     ensures together { (c : PlainCode) (before waits : Kinds) (ls : List Lying) (alone : List Begun) (first : Shared) →
         IsSound c → HasLiterals c → AreKinds c before waits → AreApart c ls alone first →
-        BeginTogether before waits (run_code c) alone first }
+        BeginTogether before waits c alone first }
     ensures loaded { (c : PlainCode) (before waits : Kinds) (ls : List Lying) (alone : List Begun) (first : Shared) →
         IsSound c → HasLiterals c → AreKinds c before waits → AreApart c ls alone first →
         AreLoaded before waits c alone }
@@ -32,7 +32,7 @@ pub fn apart_tasks_end_as_on_trees()
     ensures theorem { (c : PlainCode) (before waits : Kinds) (ls : List Lying) (alone : List Begun) (first : Shared)
         (schedule : List ℕ) (k : ℕ) (l : Lying) (e : End) (last : State) (left steps : ℕ) → IsSound c →
         HasLiterals c → AreKinds c before waits → AreApart c ls alone first → slice_get ls k ≡ Some l →
-        slice_get (scheduled before (run_code c) schedule first).runs k ≡ Some (Over e last left steps) →
-        EndsOnTrees c l.task (record last { store = (scheduled before (run_code c) schedule first).store }) e left
+        slice_get (scheduled before c schedule first).runs k ≡ Some (Over e last left steps) →
+        EndsOnTrees c l.task (record last { store = (scheduled before c schedule first).store }) e left
         steps }
 {}

@@ -7,7 +7,8 @@ use Rattle.separation_bounds.specs.cell_code.declared.kind.Kind.{Kind}
 use Rattle.tree_semantics.specs.machine_semantics.Cells.{Store}
 use Rattle.tree_semantics.specs.machine_semantics.Steps.{Kinds}
 use Rattle.tree_semantics.specs.Contents.{Contents}
-use Rattle.separation_bounds.specs.code_rules.Codes.{PlainCode, PlainFunction, function_at, label_at}
+use Rattle.separation_bounds.specs.cell_code.Plain.{PlainFunction, PlainCode, function_at}
+use Rattle.separation_bounds.specs.code_rules.Codes.{label_at}
 use Rattle.separation_bounds.specs.code_rules.Kinds.{at}
 use Rattle.separation_bounds.specs.code_rules.Ranges.{in_range, is_target}
 use Rattle.separation_bounds.specs.code_rules.Leaves.{Jumps}

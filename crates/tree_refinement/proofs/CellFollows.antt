@@ -12,14 +12,13 @@ use Rattle.tree_semantics.specs.machine_semantics.Words.{place_word, place_of}
 use Rattle.tree_semantics.specs.machine_semantics.Cells.{Release, Write, there}
 use Rattle.tree_semantics.specs.machine_semantics.Trees.{HasPart, Stands, StandAll}
 use Rattle.tree_semantics.specs.machine_semantics.States.{State}
-use Rattle.tree_semantics.specs.machine_semantics.Codes as C
+use Rattle.separation_bounds.specs.cell_code.Plain.{PlainFunction, PlainCode}
 use Rattle.tree_semantics.specs.machine_semantics.Rows as R
 use Rattle.tree_semantics.specs.machine_semantics.Apart.{Holding, holding_uses, owned_uses, trees_uses}
 use Rattle.tree_semantics.specs.Contents.{Contents}
 use Rattle.tree_semantics.specs.Contents as T
 use Rattle.tree_semantics.specs.States as U
 use Rattle.tree_semantics.specs.Steps as N
-use Rattle.separation_bounds.specs.code_rules.Codes.{PlainCode, PlainFunction}
 use Rattle.separation_bounds.specs.code_rules.Types.{fields, fields_of}
 use Rattle.separation_bounds.specs.code_rules.Kinds.{at, kind_or_gone, is_owned, is_credit}
 use Rattle.separation_bounds.specs.code_rules.Ranges.{are_below, is_constructor}
@@ -80,7 +79,7 @@ owned_is (Credit n) e = absurd (true≢false (sym e))
 place_in_is : (s : State) (r p : ℕ) → r < length s.running.words → place_word p ≡ word_at s.running.words r → R.place_in s r ≡ Some p
 place_in_is s r p h e = ap (λ o. option_and_then (λ w. place_of w) o) (word_get s.running.words r h) ∙ place_is p (word_at s.running.words r) e
 
-pub free_follows : (c : PlainCode) (f : PlainFunction) (b : List Placed) (ks : List Kind) (hs : ℕ → Holding) (s : State) (code : C.PlainCode) (t : U.State) (r : ℕ) → IsReady c f b ks hs s (I.Free r) → s.running.at ≡ t.running.at → AreShown c.types s.store (at ks) (word_at s.running.words) t.running.contents → Follows c f ks s (I.Free r) t (N.act code t (I.Free r))
+pub free_follows : (c : PlainCode) (f : PlainFunction) (b : List Placed) (ks : List Kind) (hs : ℕ → Holding) (s : State) (code : PlainCode) (t : U.State) (r : ℕ) → IsReady c f b ks hs s (I.Free r) → s.running.at ≡ t.running.at → AreShown c.types s.store (at ks) (word_at s.running.words) t.running.contents → Follows c f ks s (I.Free r) t (N.act code t (I.Free r))
 free_follows c f b ks hs s code t r g same shown =
     let wide = g.wide in
     let long = g.long in
@@ -103,7 +102,7 @@ type_of_owned : (o : Option Kind) (t : ℕ) (cs : List ℕ) → kind_or_gone o �
 type_of_owned None t cs e = absurd (true≢false (sym (ap is_owned e)))
 type_of_owned (Some k) t cs e = ap (λ k. R.owned_type (Some k)) e
 
-pub drop_follows : (c : PlainCode) (f : PlainFunction) (b : List Placed) (ks : List Kind) (hs : ℕ → Holding) (s : State) (code : C.PlainCode) (t : U.State) (r : ℕ) → IsReady c f b ks hs s (I.Drop r) → s.running.at ≡ t.running.at → AreShown c.types s.store (at ks) (word_at s.running.words) t.running.contents → Follows c f ks s (I.Drop r) t (N.act code t (I.Drop r))
+pub drop_follows : (c : PlainCode) (f : PlainFunction) (b : List Placed) (ks : List Kind) (hs : ℕ → Holding) (s : State) (code : PlainCode) (t : U.State) (r : ℕ) → IsReady c f b ks hs s (I.Drop r) → s.running.at ≡ t.running.at → AreShown c.types s.store (at ks) (word_at s.running.words) t.running.contents → Follows c f ks s (I.Drop r) t (N.act code t (I.Drop r))
 drop_follows c f b ks hs s code t r g same shown =
     let wide = g.wide in
     let long = g.long in
@@ -143,7 +142,7 @@ has_part (MoreParts x xs) h = tt
 same_word : (d w : ℕ) (ws : ℕ → ℕ) → ws d ≡ w → (r : ℕ) → ws r ≡ put d w ws r
 same_word d w ws e r = pick (λ v. ws r ≡ v) (r == d) w (ws r) (λ z. ap ws (equal r d z) ∙ e) (λ z. refl)
 
-pub put_follows : (c : PlainCode) (f : PlainFunction) (b : List Placed) (ks : List Kind) (hs : ℕ → Holding) (s : State) (code : C.PlainCode) (t : U.State) (d u k : ℕ) (rs : List ℕ) → IsReady c f b ks hs s (I.Put d u k rs) → s.running.at ≡ t.running.at → AreShown c.types s.store (at ks) (word_at s.running.words) t.running.contents → Follows c f ks s (I.Put d u k rs) t (N.act code t (I.Put d u k rs))
+pub put_follows : (c : PlainCode) (f : PlainFunction) (b : List Placed) (ks : List Kind) (hs : ℕ → Holding) (s : State) (code : PlainCode) (t : U.State) (d u k : ℕ) (rs : List ℕ) → IsReady c f b ks hs s (I.Put d u k rs) → s.running.at ≡ t.running.at → AreShown c.types s.store (at ks) (word_at s.running.words) t.running.contents → Follows c f ks s (I.Put d u k rs) t (N.act code t (I.Put d u k rs))
 put_follows c f b ks hs s code t d u k rs g same shown =
     let a = both (nat_lt d f.registers) (is_constructor c.types u k && are_below f.registers rs) g.ranged in
     let e = both (is_constructor c.types u k) (are_below f.registers rs) a.1 in

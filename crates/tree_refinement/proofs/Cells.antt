@@ -14,12 +14,10 @@ use Rattle.tree_semantics.specs.machine_semantics.States.{State}
 use Rattle.tree_semantics.specs.machine_semantics.Steps.{Kinds}
 use Rattle.tree_semantics.specs.machine_semantics.Trees.{Stands, StandAll}
 use Rattle.tree_semantics.proofs.machine_semantics.Gauged.{held, lowest_is_last, highest_is_first}
-use Rattle.separation_bounds.specs.code_rules.Codes.{PlainCode, results}
+use Rattle.separation_bounds.specs.cell_code.Plain.{PlainCode, results}
 use Rattle.separation_bounds.proofs.separation_kinds.Agree.{one_here}
 use Rattle.separation_bounds.proofs.separation_kinds.Shapes.{scalar_bare}
-use Rattle.separation_bounds.specs.separation.Codes.{run_code}
 use Rattle.separation_bounds.specs.separation.Starts.{IsStart}
-use Rattle.separation_bounds.proofs.separation.Apartness.{run_results}
 use Rattle.separation_bounds.proofs.separation.Loading.{loaded_is, start_alive}
 use Rattle.separation_bounds.proofs.separation.Running.{run_gives}
 use Rattle.separation_bounds.specs.ByTrees.{cells_of_trees}
@@ -76,9 +74,9 @@ begun_held : (k : ℕ) (s : State) (calls : ℕ) → held k (begun s calls) ≡ 
 begun_held k s zero = refl
 begun_held k s (suc left) = refl
 
-pub highest_by_trees : (c : PlainCode) (before waits : Kinds) (n : ℕ) (s : State) (vs : Values) (calls steps size : ℕ) → (t : IsStart c before waits n [] s) → BeginsWith c n s vs → 1 ≤ size → highest size (seen before (run_code c) steps (begun s calls)) ≡ cells_of_all size vs + count size t.function.credits
+pub highest_by_trees : (c : PlainCode) (before waits : Kinds) (n : ℕ) (s : State) (vs : Values) (calls steps size : ℕ) → (t : IsStart c before waits n [] s) → BeginsWith c n s vs → 1 ≤ size → highest size (seen before c steps (begun s calls)) ≡ cells_of_all size vs + count size t.function.credits
 highest_by_trees c before waits n s vs calls steps size t b some =
-    let first = highest_is_first before (run_code c) size some steps (begun s calls) in
+    let first = highest_is_first before c size some steps (begun s calls) in
     let begins = begun_held size s calls in
     let trees = start_held c before waits n [] s size t in
     let values = ap (cells_of_all size) (begins_values c before waits n [] s t vs b) in
@@ -94,13 +92,13 @@ lent_first c before waits n s vs size t b zs h =
     lent_cells size c.types s.store t.function.params t.given.arguments _ zs t.given.stand (subst (λ ts. AreTrees c.types s.store ts zs) words h)
     ∙ ap (λ us. cells_of_all size (lent_values t.function.params us)) (begins_values c before waits n [] s t vs b)
 
-pub lowest_by_trees : (c : PlainCode) (before waits : Kinds) (n : ℕ) (s : State) (vs us : Values) (calls size : ℕ) (words : List ℕ) (last : State) (left steps : ℕ) → (t : IsStart c before waits n [] s) → BeginsWith c n s vs → 1 ≤ size → (e : Ends before (run_code c) s calls (Value words) last left steps) → AreWordsOf c.types last.store (results c n) words us → lowest size (seen before (run_code c) e.enough (begun s calls)) ≡ cells_of_all size us + cells_of_all size (lent_values t.function.params vs)
+pub lowest_by_trees : (c : PlainCode) (before waits : Kinds) (n : ℕ) (s : State) (vs us : Values) (calls size : ℕ) (words : List ℕ) (last : State) (left steps : ℕ) → (t : IsStart c before waits n [] s) → BeginsWith c n s vs → 1 ≤ size → (e : Ends before c s calls (Value words) last left steps) → AreWordsOf c.types last.store (results c n) words us → lowest size (seen before c e.enough (begun s calls)) ≡ cells_of_all size us + cells_of_all size (lent_values t.function.params vs)
 lowest_by_trees c before waits n s vs us calls size words last left steps t b some e w =
-    let least = lowest_is_last before (run_code c) size some e.enough (begun s calls) in
-    let there : held size (after before (run_code c) e.enough (begun s calls)) ≡ count_held size last.store = ap (held size) e.is in
-    let g : GivesApart (run_code c) n [] last words = run_gives c before waits n [] s calls e.enough words last left steps t e.is in
+    let least = lowest_is_last before c size some e.enough (begun s calls) in
+    let there : held size (after before c e.enough (begun s calls)) ≡ count_held size last.store = ap (held size) e.is in
+    let g : GivesApart c n [] last words = run_gives c before waits n [] s calls e.enough words last left steps t e.is in
     let counted = end_held c before waits n [] s calls e.enough words last left steps size t e.is g in
-    let given = value_cells size c.types last.store (results c n) words us g.results w (subst (λ ts. AreTrees c.types last.store (typed ts words) g.results) (run_results c n) g.stand) in
+    let given = value_cells size c.types last.store (results c n) words us g.results w g.stand in
     let alive = start_alive c before waits n [] s t in
     let lends = subst (λ (r : Run). (((state_of r).lent ≡ s.lent) × AreTrees c.types (state_of r).store s.lent alive.lent)) e.is (run_lends c before waits n [] s calls e.enough alive.lent t alive.arguments) in
     let same : g.lent ≡ alive.lent = trees_once c.types last.store s.lent g.lent alive.lent (subst (λ ts. AreTrees c.types last.store ts g.lent) lends.0 g.arguments) lends.1 in

@@ -7,8 +7,7 @@ use Rattle.tree_semantics.specs.fip_language.Values.{Values}
 use Rattle.tree_semantics.specs.machine_semantics.Runs.{Run, End, Value, Trap, Out, Deep, Unsound, Going, Over, Ends}
 use Rattle.tree_semantics.specs.machine_semantics.States.{State}
 use Rattle.tree_semantics.specs.machine_semantics.Steps.{Kinds}
-use Rattle.separation_bounds.specs.code_rules.Codes.{PlainCode, results}
-use Rattle.separation_bounds.specs.separation.Codes.{run_code}
+use Rattle.separation_bounds.specs.cell_code.Plain.{PlainCode, results}
 use Rattle.separation_bounds.specs.separation.Starts.{IsStart}
 use Rattle.separation_bounds.proofs.Ending.{ends_once}
 use Rattle.tree_semantics.specs.Runs as T
@@ -44,11 +43,11 @@ abbrev steps_in : Run → ℕ
 steps_in (Going s left steps) = steps
 steps_in (Over e s left steps) = steps
 
-pub ends_alike : (c : PlainCode) (before waits first other : Kinds) (n : ℕ) (kept more : List ℕ) (s u : State) (vs : Values) (calls : ℕ) (e d : End) (last end : State) (left rest steps done : ℕ) → IsStart c before waits n kept s → BeginsWith c n s vs → IsStart c first other n more u → BeginsWith c n u vs → s.free ≡ u.free → Ends before (run_code c) s calls e last left steps → Ends first (run_code c) u calls d end rest done → IsAlike c.types (results c n) last.store e end.store d × (left ≡ rest) × (steps ≡ done)
+pub ends_alike : (c : PlainCode) (before waits first other : Kinds) (n : ℕ) (kept more : List ℕ) (s u : State) (vs : Values) (calls : ℕ) (e d : End) (last end : State) (left rest steps done : ℕ) → IsStart c before waits n kept s → BeginsWith c n s vs → IsStart c first other n more u → BeginsWith c n u vs → s.free ≡ u.free → Ends before c s calls e last left steps → Ends first c u calls d end rest done → IsAlike c.types (results c n) last.store e end.store d × (left ≡ rest) × (steps ≡ done)
 ends_alike c before waits first other n kept more s u vs calls e d last end left rest steps done t b t' b' free x y =
     let on_trees = trees_end c before waits n kept s vs calls e last left steps t b x in
-    let there : T.after (run_code c) x.enough (T.begun (T.entry n vs u.free) calls) ≡ T.Over on_trees.0 on_trees.1 left steps =
-    subst (λ f. T.after (run_code c) x.enough (T.begun (T.entry n vs f) calls) ≡ T.Over on_trees.0 on_trees.1 left steps) free on_trees.2 in
+    let there : T.after c x.enough (T.begun (T.entry n vs u.free) calls) ≡ T.Over on_trees.0 on_trees.1 left steps =
+    subst (λ f. T.after c x.enough (T.begun (T.entry n vs f) calls) ≡ T.Over on_trees.0 on_trees.1 left steps) free on_trees.2 in
     let cells = cells_end c first other n more u vs calls x.enough on_trees.0 on_trees.1 left steps t' b' there in
     let once : Over d end rest done ≡ Over cells.0 cells.1 left steps = ends_once c first other first other n more u calls d cells.0 end cells.1 rest left done steps t' t'.kinds y cells.2 in
     let alike = same_answer c.types (results c n) last cells.1 left left e cells.0 on_trees.0 on_trees.3 cells.3 in

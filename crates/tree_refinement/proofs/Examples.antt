@@ -15,9 +15,9 @@ use Rattle.tree_semantics.specs.machine_semantics.Runs as R
 use Rattle.tree_semantics.specs.Contents.{put}
 use Rattle.tree_semantics.specs.States as U
 use Rattle.tree_semantics.specs.Runs as T
-use Rattle.separation_bounds.specs.code_rules.Codes.{PlainCode}
+use Rattle.separation_bounds.specs.cell_code.Plain.{PlainCode}
 use Rattle.separation_bounds.specs.code_rules.Example.{reversal}
-use Rattle.separation_bounds.specs.separation.Codes.{run_code, AreKinds}
+use Rattle.separation_bounds.specs.separation.Codes.{AreKinds}
 use Rattle.separation_bounds.specs.separation.Starts.{IsStart}
 use Rattle.separation_bounds.proofs.separation.Examples.{reversal_starts}
 use Rattle.tree_refinement.specs.Agreement.{IsWordOf, AreWordsOf}
@@ -52,7 +52,7 @@ has_arguments = (
 pub example_begins : (before waits : Kinds) → AreKinds reversal before waits → IsStart reversal before waits 0 [] (first listed 3) × BeginsWith reversal 0 (first listed 3) (pair items empty)
 example_begins before waits kinds = (reversal_starts before waits kinds, has_arguments)
 
-on_trees : T.ending (T.after (run_code reversal) 11 (T.begun (T.entry 0 (pair items empty) 0) 3)) ≡ Some (record { answer = M.Gives (More reversed End) 0; steps = 11 })
+on_trees : T.ending (T.after reversal 11 (T.begun (T.entry 0 (pair items empty) 0) 3)) ≡ Some (record { answer = M.Gives (More reversed End) 0; steps = 11 })
 unfolding put
 on_trees = refl
 
@@ -73,7 +73,7 @@ is_one tb s t v ws (NoParts, w, g, e) = absurd g
 is_one tb s t v ws (MoreParts x (MoreParts y ys), w, g, e) = absurd g.1
 is_one tb s t v ws (MoreParts x NoParts, w, g, e) = record { word = word_of x; words = w; stands = (x, record { word = refl; stands = g.0 }, cc) }
 
-gives_one : (tb : Table) (before : Kinds) (code : PlainCode) (s end : State) (e : R.End) (left t l : ℕ) (v : Value) → R.Ends before (run_code code) s 3 e end left 11 → IsSameEnd tb (t ∷ []) end left e (M.Gives (More v End) l) → (word : ℕ) × (last : State) × R.Ends before (run_code code) s 3 (R.Value (word ∷ [])) last l 11 × IsWordOf tb last.store t word v
+gives_one : (tb : Table) (before : Kinds) (code : PlainCode) (s end : State) (e : R.End) (left t l : ℕ) (v : Value) → R.Ends before code s 3 e end left 11 → IsSameEnd tb (t ∷ []) end left e (M.Gives (More v End) l) → (word : ℕ) × (last : State) × R.Ends before code s 3 (R.Value (word ∷ [])) last l 11 × IsWordOf tb last.store t word v
 gives_one tb before code s end (R.Value ws) left t l v ends same =
     let one = is_one tb end t v ws same.0 in
     (one.word, end, record { enough = ends.enough; is = ends.is ∙ ap (λ ws. R.Over (R.Value ws) end left 11) one.words ∙ ap (λ m. R.Over (R.Value (one.word ∷ [])) end m 11) same.1 }, one.stands)
@@ -82,8 +82,8 @@ gives_one tb before code s end R.Out left t l v ends same = absurd same
 gives_one tb before code s end R.Deep left t l v ends same = absurd same
 gives_one tb before code s end R.Unsound left t l v ends same = absurd same
 
-pub example_ends : (before waits : Kinds) → AreKinds reversal before waits → (word : ℕ) × (end : State) × R.Ends before (run_code reversal) (first listed 3) 3 (R.Value (word ∷ [])) end 0 11 × IsWordOf reversal.types end.store 2 word reversed
+pub example_ends : (before waits : Kinds) → AreKinds reversal before waits → (word : ℕ) × (end : State) × R.Ends before reversal (first listed 3) 3 (R.Value (word ∷ [])) end 0 11 × IsWordOf reversal.types end.store 2 word reversed
 example_ends before waits kinds =
-    let over = over_of (T.after (run_code reversal) 11 (T.begun (T.entry 0 (pair items empty) 0) 3)) (M.Gives (More reversed End) 0) 11 on_trees in
+    let over = over_of (T.after reversal 11 (T.begun (T.entry 0 (pair items empty) 0) 3)) (M.Gives (More reversed End) 0) 11 on_trees in
     let o = cells_end reversal before waits 0 [] (first listed 3) (pair items empty) 3 11 (M.Gives (More reversed End) 0) over.0 over.1 11 (reversal_starts before waits kinds) has_arguments over.2 in
     gives_one reversal.types before reversal (first listed 3) o.1 o.0 over.1 2 0 reversed o.2 o.3

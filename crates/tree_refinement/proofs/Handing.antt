@@ -9,7 +9,7 @@ use Rattle.separation_bounds.specs.cell_code.declared.kind.Kind.TheVariants.{Gon
 use Rattle.tree_semantics.specs.machine_semantics.Cells.{Store}
 use Rattle.tree_semantics.specs.Contents.{Contents}
 use Rattle.tree_semantics.specs.Contents as T
-use Rattle.separation_bounds.specs.code_rules.Codes.{PlainCode, PlainFunction, function_at}
+use Rattle.separation_bounds.specs.cell_code.Plain.{PlainFunction, PlainCode, function_at}
 use Rattle.separation_bounds.specs.code_rules.Types.{is_scalar_type, all}
 use Rattle.separation_bounds.specs.code_rules.Kinds.{at, is_scalar_of, is_owned_of, is_credit_of}
 use Rattle.separation_bounds.specs.code_rules.Entry.{param_kind, gones}

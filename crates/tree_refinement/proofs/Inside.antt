@@ -9,7 +9,7 @@ use Rattle.tree_semantics.specs.machine_semantics.States.{Frame, State}
 use Rattle.tree_semantics.specs.machine_semantics.Rows as R
 use Rattle.tree_semantics.specs.machine_semantics.Steps.{Kinds, went, went_with, trapped}
 use Rattle.tree_semantics.specs.States as U
-use Rattle.separation_bounds.specs.code_rules.Codes.{PlainCode}
+use Rattle.separation_bounds.specs.cell_code.Plain.{PlainCode}
 use Rattle.separation_bounds.specs.code_rules.Kinds.{at}
 use Rattle.separation_bounds.specs.code_rules.Breaks.{IsSound}
 use Rattle.separation_bounds.specs.separation_kinds.Meanings.{owned_by, word_at}

@@ -8,13 +8,12 @@ use Rattle.separation_bounds.specs.cell_code.declared.code.Instr.{Instr}
 use Rattle.separation_bounds.specs.cell_code.declared.code.Instr.TheVariants as I
 use Rattle.tree_semantics.specs.machine_semantics.Apart.{AreTrees, trees_uses}
 use Rattle.tree_semantics.specs.machine_semantics.Cells.{Store}
-use Rattle.tree_semantics.specs.machine_semantics.Codes as R
+use Rattle.separation_bounds.specs.cell_code.Plain.{PlainFunction, PlainCode, results}
 use Rattle.tree_semantics.specs.machine_semantics.Rows as D
 use Rattle.tree_semantics.specs.machine_semantics.Runs.{Run, Going, Over, state_of, begun, comes, later, after}
 use Rattle.tree_semantics.specs.machine_semantics.States.{Frame, State, Typed, Next, Went, Entered, Gave, Trapped, TooDeep, Stuck}
 use Rattle.tree_semantics.specs.machine_semantics.Steps.{Kinds, went, went_with, trapped, called, called_with, replaced, returned, resumed, act, act_at, next, instr_of, kinds_of}
 use Rattle.separation_bounds.specs.code_rules.Breaks.{IsSound}
-use Rattle.separation_bounds.specs.code_rules.Codes.{PlainCode, results}
 use Rattle.separation_bounds.specs.code_rules.Kinds.{at}
 use Rattle.separation_bounds.specs.separation_kinds.Meanings.{owned_by}
 use Rattle.separation_bounds.specs.separation.Rows.{IsReady, IsDone}
@@ -24,7 +23,7 @@ use Rattle.separation_bounds.proofs.separation.ReadingRows.{IsCalculated, arith_
 use Rattle.separation_bounds.proofs.separation.TakeRow.{take_row}
 use Rattle.separation_bounds.proofs.separation.CellRows.{put_row, free_row, drop_row}
 use Rattle.separation_bounds.specs.separation.Alive.{lower_trees, IsAlive}
-use Rattle.separation_bounds.specs.separation.Codes.{run_code, HasLiterals, AreKinds}
+use Rattle.separation_bounds.specs.separation.Codes.{HasLiterals, AreKinds}
 use Rattle.separation_bounds.specs.separation.Starts.{IsStart}
 use Rattle.separation_bounds.proofs.separation.Loading.{start_alive}
 use Rattle.separation_bounds.proofs.separation.Local.{ready}
@@ -71,7 +70,7 @@ module _ (c : PlainCode) (types kept : List ℕ) (s : State) where
     | inr k ↦ subst (λ t. Stays c s.lent a.lent (trapped s line col t (D.done c.types a.kinds s i))) (sym k.1) tt
   ]
 
-  called_stays : (xs : List Placed) (n : ℕ) (o : Option R.PlainFunction) (vs : Option (List ℕ)) → AreTrees c.types s.store s.lent xs → Stays c s.lent xs (called s n o vs)
+  called_stays : (xs : List Placed) (n : ℕ) (o : Option PlainFunction) (vs : Option (List ℕ)) → AreTrees c.types s.store s.lent xs → Stays c s.lent xs (called s n o vs)
   called_stays xs n None vs h = tt
   called_stays xs n (Some g) None h = tt
   called_stays xs n (Some g) (Some ws) h = by s.free
@@ -80,7 +79,7 @@ module _ (c : PlainCode) (types kept : List ℕ) (s : State) where
       by zero = tt
       by (suc free) = (refl, h)
 
-  replaced_stays : (xs : List Placed) (n : ℕ) (o : Option R.PlainFunction) (vs : Option (List ℕ)) → AreTrees c.types s.store s.lent xs → Stays c s.lent xs (replaced s n o vs)
+  replaced_stays : (xs : List Placed) (n : ℕ) (o : Option PlainFunction) (vs : Option (List ℕ)) → AreTrees c.types s.store s.lent xs → Stays c s.lent xs (replaced s n o vs)
   replaced_stays xs n None vs h = tt
   replaced_stays xs n (Some g) None h = tt
   replaced_stays xs n (Some g) (Some ws) h = (refl, h)
@@ -89,12 +88,12 @@ module _ (c : PlainCode) (types kept : List ℕ) (s : State) where
   resumed_stays xs w below None h = tt
   resumed_stays xs w below (Some ws) h = (refl, h)
 
-  returned_stays : (xs : List Placed) (ws : List Frame) (o : Option (List ℕ)) → AreTrees c.types s.store s.lent xs → Stays c s.lent xs (returned (run_code c) s ws o)
+  returned_stays : (xs : List Placed) (ws : List Frame) (o : Option (List ℕ)) → AreTrees c.types s.store s.lent xs → Stays c s.lent xs (returned c s ws o)
   returned_stays xs ws None h = tt
   returned_stays xs [] (Some vs) h = tt
   returned_stays xs (w ∷ below) (Some vs) h = resumed_stays xs w below _ h
 
-  act_stays : (x : Instr) (a : IsAlive c types kept s) → IsReady c a.function (lower_trees a.frozen a.lent) a.kinds a.holds s x → Stays c s.lent a.lent (act (run_code c) a.kinds s x)
+  act_stays : (x : Instr) (a : IsAlive c types kept s) → IsReady c a.function (lower_trees a.frozen a.lent) a.kinds a.holds s x → Stays c s.lent a.lent (act c a.kinds s x)
   act_stays (I.Const d v) a r = went_stays (I.Const d v) a (const_row c a.function (lower_trees a.frozen a.lent) a.kinds a.holds s d v r)
   act_stays (I.Atom d t k) a r = went_stays (I.Atom d t k) a (atom_row c a.function (lower_trees a.frozen a.lent) a.kinds a.holds s d t k r)
   act_stays (I.Move d q) a r = went_stays (I.Move d q) a (move_row c a.function (lower_trees a.frozen a.lent) a.kinds a.holds s d q r)
@@ -111,11 +110,11 @@ module _ (c : PlainCode) (types kept : List ℕ) (s : State) where
   act_stays (I.Ret rs) a r = returned_stays a.lent s.waiting (D.read_all s.running.words rs) a.arguments
   act_stays (I.Jump target) a r = went_stays (I.Jump target) a (jump_row c a.function (lower_trees a.frozen a.lent) a.kinds a.holds s target r)
 
-  next_stays : (before waits : Kinds) → IsSound c → HasLiterals c → AreKinds c before waits → (a : IsAlive c types kept s) → Stays c s.lent a.lent (next before (run_code c) s)
+  next_stays : (before waits : Kinds) → IsSound c → HasLiterals c → AreKinds c before waits → (a : IsAlive c types kept s) → Stays c s.lent a.lent (next before c s)
   next_stays before waits sound literals kinds a =
-      let instr : instr_of (run_code c) s ≡ Some a.instr = run_instr_at c s.running.function s.running.at a.function a.instr a.is a.is_instr in
+      let instr : instr_of c s ≡ Some a.instr = run_instr_at c s.running.function s.running.at a.function a.instr a.is a.is_instr in
       let known : kinds_of before s ≡ a.kinds = kinds.known s.running.function s.running.at a.function a.kinds a.is a.known in
-      subst (Stays c s.lent a.lent) (sym (ap₂ (λ ks x. act_at (run_code c) ks s x) known instr)) (act_stays a.instr a (ready c types kept s sound literals a))
+      subst (Stays c s.lent a.lent) (sym (ap₂ (λ ks x. act_at c ks s x) known instr)) (act_stays a.instr a (ready c types kept s sound literals a))
 
 -- ---- a run
 
@@ -130,24 +129,24 @@ comes_lends c ts xs s (suc left) n TooDeep h g = h
 comes_lends c ts xs s left n Stuck h g = h
 
 module _ (c : PlainCode) (before waits : Kinds) (types kept : List ℕ) (ts : List Typed) (xs : List Placed) (sound : IsSound c) (literals : HasLiterals c) (kinds : AreKinds c before waits) where
-  later_lends : (r : Run) → GoodRun c types kept r → Lends c ts xs (state_of r) → Lends c ts xs (state_of (later before (run_code c) r))
+  later_lends : (r : Run) → GoodRun c types kept r → Lends c ts xs (state_of r) → Lends c ts xs (state_of (later before c r))
   later_lends (Going s left n) g h =
-      let comes_next : Next = next before (run_code c) s in
+      let comes_next : Next = next before c s in
       let stays : Stays c s.lent g.lent comes_next = next_stays c types kept s before waits sound literals kinds g in
       let here : AreTrees c.types s.store ts g.lent = subst (λ us. AreTrees c.types s.store us g.lent) h.0 g.arguments in
       let same : g.lent ≡ xs = trees_once c.types s.store ts g.lent xs here h.1 in
       comes_lends c ts xs s left (suc n) comes_next h (subst (λ ys. Stays c ts ys comes_next) same (subst (λ us. Stays c us g.lent comes_next) h.0 stays))
   later_lends (Over e s left n) g h = h
 
-  after_lends : (k : ℕ) (r : Run) → GoodRun c types kept r → Lends c ts xs (state_of r) → Lends c ts xs (state_of (after before (run_code c) k r))
+  after_lends : (k : ℕ) (r : Run) → GoodRun c types kept r → Lends c ts xs (state_of r) → Lends c ts xs (state_of (after before c k r))
   after_lends zero r g h = h
-  after_lends (suc k) r g h = after_lends k (later before (run_code c) r) (later_good c before waits types kept r sound literals kinds g) (later_lends r g h)
+  after_lends (suc k) r g h = after_lends k (later before c r) (later_good c before waits types kept r sound literals kinds g) (later_lends r g h)
 
 begun_lends : (c : PlainCode) (ts : List Typed) (xs : List Placed) (s : State) (calls : ℕ) → Lends c ts xs s → Lends c ts xs (state_of (begun s calls))
 begun_lends c ts xs s zero h = h
 begun_lends c ts xs s (suc left) h = h
 
-pub run_lends : (c : PlainCode) (before waits : Kinds) (n : ℕ) (kept : List ℕ) (s : State) (calls k : ℕ) (xs : List Placed) → IsStart c before waits n kept s → AreTrees c.types s.store s.lent xs → Lends c s.lent xs (state_of (after before (run_code c) k (begun s calls)))
+pub run_lends : (c : PlainCode) (before waits : Kinds) (n : ℕ) (kept : List ℕ) (s : State) (calls k : ℕ) (xs : List Placed) → IsStart c before waits n kept s → AreTrees c.types s.store s.lent xs → Lends c s.lent xs (state_of (after before c k (begun s calls)))
 run_lends c before waits n kept s calls k xs t h =
     after_lends c before waits (results c n) kept s.lent xs t.sound t.literals t.kinds k (begun s calls)
     (begun_good c (results c n) kept s calls (start_alive c before waits n kept s t)) (begun_lends c s.lent xs s calls (refl, h))

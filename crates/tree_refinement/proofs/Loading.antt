@@ -14,14 +14,14 @@ use Rattle.tree_semantics.specs.machine_semantics.Steps.{Kinds, first_words, fir
 use Rattle.tree_semantics.specs.machine_semantics.Runs.{lent_words}
 use Rattle.tree_semantics.specs.Contents.{first_contents}
 use Rattle.tree_semantics.specs.Runs as T
-use Rattle.separation_bounds.specs.code_rules.Codes.{PlainCode, PlainFunction, function_at, params, params_of}
+use Rattle.separation_bounds.specs.cell_code.Plain.{PlainFunction, PlainCode, function_at}
+use Rattle.separation_bounds.specs.code_rules.Codes.{params, params_of}
 use Rattle.separation_bounds.specs.code_rules.Kinds.{at}
 use Rattle.separation_bounds.specs.code_rules.Entry.{param_kind, gones, entry}
 use Rattle.separation_bounds.specs.separation_kinds.Meanings.{word_at}
 use Rattle.separation_bounds.proofs.separation_kinds.Basics.{length_map}
 use Rattle.separation_bounds.proofs.separation_kinds.Passing.{at_gones}
 use Rattle.separation_bounds.proofs.separation.Reading.{stand_length}
-use Rattle.separation_bounds.specs.separation.Codes.{run_function}
 use Rattle.separation_bounds.specs.separation.Starts.{IsStart}
 use Rattle.separation_bounds.proofs.separation.Sound.{formed, has_form}
 use Rattle.separation_bounds.proofs.separation.Calling.{known_entry}
@@ -47,7 +47,7 @@ load_shows tb s (p ∷ ps) cs (MoreParts x xs) us m (suc r) g = load_shows tb s 
 start_same : (c : PlainCode) (before waits : Kinds) (n : ℕ) (kept : List ℕ) (s : State) (t : IsStart c before waits n kept s) (vs : Values) → values_of t.given.arguments ≡ vs → IsSame c.types before waits s (T.entry n vs s.free)
 start_same c before waits n kept s t vs e =
     let f : PlainFunction = t.function in
-    let begins : State = record { store = s.store; running = first_frame n (run_function f) t.words; waiting = []; free = t.free; lent = lent_words c.types f.params t.words } in
+    let begins : State = record { store = s.store; running = first_frame n f t.words; waiting = []; free = t.free; lent = lent_words c.types f.params t.words } in
     let is : s ≡ begins = loaded_is c n f s.store t.words t.free s t.is t.loaded in
     let known : before n 0 ≡ entry c f = t.kinds.known n 0 f (entry c f) t.is (known_entry c f (has_form c f (formed c n f t.sound t.is))) in
     let xs : Parts = t.given.arguments in
@@ -82,7 +82,7 @@ first_taken c before waits n kept s t =
     let xs : Parts = t.given.arguments in
     let spares : List ℕ = map (λ p. place_word p) t.given.spares in
     let zs : List ℕ = replicate (f.registers - length t.words) 0 in
-    let begins : State = record { store = s.store; running = first_frame n (run_function f) t.words; waiting = []; free = t.free; lent = lent_words c.types f.params t.words } in
+    let begins : State = record { store = s.store; running = first_frame n f t.words; waiting = []; free = t.free; lent = lent_words c.types f.params t.words } in
     let is : s ≡ begins = loaded_is c n f s.store t.words t.free s t.is t.loaded in
     let words : s.running.words ≡ words_of xs ++ (spares ++ zs) = ap (λ (s : State). s.running.words) is ∙ ap (λ ws. ws ++ zs) t.given.words ∙ append_twice (words_of xs) spares zs in
     let number : length (words_of xs) ≡ length f.params = stand_length c.types s.store (map (λ p. p.ty) f.params) xs t.given.stand ∙ length_map (λ (p : Param). p.ty) f.params in

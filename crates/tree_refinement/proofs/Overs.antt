@@ -1,6 +1,6 @@
 -- After its end a run shows no more states; and it is at its end after as many steps as it says.
 use Rattle.std.proofs.Common.{◌≡◌, ◌∙◌, ℕ, zero, suc, ◌+◌, ◌∷◌, map, refl, sym, ap, subst, arith}
-use Rattle.tree_semantics.specs.machine_semantics.Codes.{PlainCode}
+use Rattle.separation_bounds.specs.cell_code.Plain.{PlainCode}
 use Rattle.tree_semantics.specs.machine_semantics.Gauges.{seen_of, states, seen}
 use Rattle.tree_semantics.specs.machine_semantics.Runs.{Run, End, Going, Over, Ends, begun, comes, later, after}
 use Rattle.tree_semantics.specs.machine_semantics.States.{State, Next, Went, Entered, Gave, Trapped, TooDeep, Stuck}

@@ -16,14 +16,13 @@ use Rattle.separation_bounds.specs.cell_code.declared.kind.Kind.TheVariants.{Gon
 use Rattle.tree_semantics.specs.machine_semantics.Words.{atom_word, int_of, scalar_word}
 use Rattle.tree_semantics.specs.machine_semantics.Cells.{Store, changed_by}
 use Rattle.tree_semantics.specs.machine_semantics.States.{State}
-use Rattle.tree_semantics.specs.machine_semantics.Codes as C
+use Rattle.separation_bounds.specs.cell_code.Plain.{PlainFunction, PlainCode}
 use Rattle.tree_semantics.specs.machine_semantics.Rows as R
 use Rattle.tree_semantics.specs.machine_semantics.Apart.{Holding}
 use Rattle.tree_semantics.specs.Contents.{Contents}
 use Rattle.tree_semantics.specs.Contents as T
 use Rattle.tree_semantics.specs.States as U
 use Rattle.tree_semantics.specs.Steps as N
-use Rattle.separation_bounds.specs.code_rules.Codes.{PlainCode, PlainFunction}
 use Rattle.separation_bounds.specs.code_rules.Types.{is_scalar_type}
 use Rattle.separation_bounds.specs.code_rules.Kinds.{at, is_scalar_of}
 use Rattle.separation_bounds.specs.code_rules.Ranges.{is_constructor}
@@ -84,14 +83,14 @@ writes_follow c f b ks mid hs s x t n d w k v r same is leaves wide there next s
     (reworded_shown c.types s.store (at (written mid d k)) (put d w (word_at s.running.words)) (word_at (slice_set s.running.words d w)) (T.put t.running.contents d v) (set_word s.running.words d w within)
     (written_shown c.types s.store mid (word_at s.running.words) t.running.contents d k w v inside shown new))
 
-pub const_follows : (c : PlainCode) (f : PlainFunction) (b : List Placed) (ks : List Kind) (hs : ℕ → Holding) (s : State) (code : C.PlainCode) (t : U.State) (d : ℕ) (v : ℤ) → IsReady c f b ks hs s (I.Const d v) → s.running.at ≡ t.running.at → AreShown c.types s.store (at ks) (word_at s.running.words) t.running.contents → Follows c f ks s (I.Const d v) t (N.act code t (I.Const d v))
+pub const_follows : (c : PlainCode) (f : PlainFunction) (b : List Placed) (ks : List Kind) (hs : ℕ → Holding) (s : State) (code : PlainCode) (t : U.State) (d : ℕ) (v : ℤ) → IsReady c f b ks hs s (I.Const d v) → s.running.at ≡ t.running.at → AreShown c.types s.store (at ks) (word_at s.running.words) t.running.contents → Follows c f ks s (I.Const d v) t (N.act code t (I.Const d v))
 const_follows c f b ks hs s code t d v r same shown =
     let wide = r.wide in
     let within = below d f.registers r.ranged in
     writes_follow c f b ks ks hs s (I.Const d v) t _ d (int_word v) (Scalar 0) (Int v) r same refl refl refl (omega arith) refl shown
     (PlacedInt v, record { word = refl; stands = r.literal }, refl)
 
-pub atom_follows : (c : PlainCode) (f : PlainFunction) (b : List Placed) (ks : List Kind) (hs : ℕ → Holding) (s : State) (code : C.PlainCode) (t : U.State) (d u k : ℕ) → IsReady c f b ks hs s (I.Atom d u k) → s.running.at ≡ t.running.at → AreShown c.types s.store (at ks) (word_at s.running.words) t.running.contents → Follows c f ks s (I.Atom d u k) t (N.act code t (I.Atom d u k))
+pub atom_follows : (c : PlainCode) (f : PlainFunction) (b : List Placed) (ks : List Kind) (hs : ℕ → Holding) (s : State) (code : PlainCode) (t : U.State) (d u k : ℕ) → IsReady c f b ks hs s (I.Atom d u k) → s.running.at ≡ t.running.at → AreShown c.types s.store (at ks) (word_at s.running.words) t.running.contents → Follows c f ks s (I.Atom d u k) t (N.act code t (I.Atom d u k))
 atom_follows c f b ks hs s code t d u k r same shown =
     let a = both (nat_lt d f.registers) (is_constructor c.types u k) r.ranged in
     let wide = r.wide in
@@ -110,7 +109,7 @@ moved_shown tb s ks r ws cs (Lent t ds root from) e a = (refl, a)
 moved_shown tb s ks r ws cs (Owned t ds) e a = (length_become ks _, used_up_shown tb s ks r ws cs a)
 moved_shown tb s ks r ws cs (Credit n) e a = (length_become ks _, gone_shown tb s ks ws cs r (credit_within ks r n e) a)
 
-pub move_follows : (c : PlainCode) (f : PlainFunction) (b : List Placed) (ks : List Kind) (hs : ℕ → Holding) (s : State) (code : C.PlainCode) (t : U.State) (d r : ℕ) → IsReady c f b ks hs s (I.Move d r) → s.running.at ≡ t.running.at → AreShown c.types s.store (at ks) (word_at s.running.words) t.running.contents → Follows c f ks s (I.Move d r) t (N.act code t (I.Move d r))
+pub move_follows : (c : PlainCode) (f : PlainFunction) (b : List Placed) (ks : List Kind) (hs : ℕ → Holding) (s : State) (code : PlainCode) (t : U.State) (d r : ℕ) → IsReady c f b ks hs s (I.Move d r) → s.running.at ≡ t.running.at → AreShown c.types s.store (at ks) (word_at s.running.words) t.running.contents → Follows c f ks s (I.Move d r) t (N.act code t (I.Move d r))
 move_follows c f b ks hs s code t d r g same shown =
     let a = both (nat_lt d f.registers) (nat_lt r f.registers) g.ranged in
     let wide = g.wide in
@@ -124,7 +123,7 @@ move_follows c f b ks hs s code t d r g same shown =
 
 -- ---- Jump, TestInt
 
-pub jump_follows : (c : PlainCode) (f : PlainFunction) (b : List Placed) (ks : List Kind) (hs : ℕ → Holding) (s : State) (code : C.PlainCode) (t : U.State) (target : ℕ) → IsReady c f b ks hs s (I.Jump target) → AreShown c.types s.store (at ks) (word_at s.running.words) t.running.contents → Follows c f ks s (I.Jump target) t (N.act code t (I.Jump target))
+pub jump_follows : (c : PlainCode) (f : PlainFunction) (b : List Placed) (ks : List Kind) (hs : ℕ → Holding) (s : State) (code : PlainCode) (t : U.State) (target : ℕ) → IsReady c f b ks hs s (I.Jump target) → AreShown c.types s.store (at ks) (word_at s.running.words) t.running.contents → Follows c f ks s (I.Jump target) t (N.act code t (I.Jump target))
 jump_follows c f b ks hs s code t target g shown = follows c f ks s (I.Jump target) t _ target s.running.words ks t.running.contents refl (jumps c f b ks hs s (I.Jump target) target ks g (refl, refl)) refl shown
 
 int_branch : (c : PlainCode) (f : PlainFunction) (b : List Placed) (ks : List Kind) (hs : ℕ → Holding) (s : State) (t : U.State) (r : ℕ) (v : ℤ) (target : ℕ) (o : Bool) → IsReady c f b ks hs s (I.TestInt r v target) → s.running.at ≡ t.running.at → R.done c.types ks s (I.TestInt r v target) ≡ R.branch s target (Some o) → AreShown c.types s.store (at ks) (word_at s.running.words) t.running.contents → Follows c f ks s (I.TestInt r v target) t (N.branch t target o)
@@ -135,7 +134,7 @@ int_branch c f b ks hs s t r v target false g same is shown = follows c f ks s (
 scalar_value : (tb : Table) (s : Store) (k : Kind) (w : ℕ) (v : Value) → is_scalar_of 0 k ≡ true → Shows tb s (type_in k) w v → (v ≡ Int (int_of w)) × FitsSigned w64 (int_of w)
 scalar_value tb s k w v e i = int_value tb s w v (subst (λ k. Shows tb s (type_in k) w v) (scalar_of 0 k e) i)
 
-pub test_int_follows : (c : PlainCode) (f : PlainFunction) (b : List Placed) (ks : List Kind) (hs : ℕ → Holding) (s : State) (code : C.PlainCode) (t : U.State) (r : ℕ) (v : ℤ) (target : ℕ) → IsReady c f b ks hs s (I.TestInt r v target) → s.running.at ≡ t.running.at → AreShown c.types s.store (at ks) (word_at s.running.words) t.running.contents → Follows c f ks s (I.TestInt r v target) t (N.act code t (I.TestInt r v target))
+pub test_int_follows : (c : PlainCode) (f : PlainFunction) (b : List Placed) (ks : List Kind) (hs : ℕ → Holding) (s : State) (code : PlainCode) (t : U.State) (r : ℕ) (v : ℤ) (target : ℕ) → IsReady c f b ks hs s (I.TestInt r v target) → s.running.at ≡ t.running.at → AreShown c.types s.store (at ks) (word_at s.running.words) t.running.contents → Follows c f ks s (I.TestInt r v target) t (N.act code t (I.TestInt r v target))
 test_int_follows c f b ks hs s code t r v target g same shown =
     let a = both (nat_lt r f.registers) _ g.ranged in
     let wide = g.wide in
@@ -161,7 +160,7 @@ calculated_follows c f b ks hs s t d o x y line col (Is v) g same is given shown
     let within = below d f.registers a.0 in
     inl (ap R.trap is, writes_follow c f b ks ks hs s (I.Arith d o x y line col) t _ d (scalar_word v) (Scalar (result_type o)) v g same (ap (R.calculated s d) is) refl refl (omega arith) refl shown given)
 
-pub arith_follows : (c : PlainCode) (f : PlainFunction) (b : List Placed) (ks : List Kind) (hs : ℕ → Holding) (s : State) (code : C.PlainCode) (t : U.State) (d : ℕ) (o : Operator) (x y line col : ℕ) → IsReady c f b ks hs s (I.Arith d o x y line col) → s.running.at ≡ t.running.at → AreShown c.types s.store (at ks) (word_at s.running.words) t.running.contents → FollowsOrTraps c f ks s o x y line col (I.Arith d o x y line col) t (N.act code t (I.Arith d o x y line col))
+pub arith_follows : (c : PlainCode) (f : PlainFunction) (b : List Placed) (ks : List Kind) (hs : ℕ → Holding) (s : State) (code : PlainCode) (t : U.State) (d : ℕ) (o : Operator) (x y line col : ℕ) → IsReady c f b ks hs s (I.Arith d o x y line col) → s.running.at ≡ t.running.at → AreShown c.types s.store (at ks) (word_at s.running.words) t.running.contents → FollowsOrTraps c f ks s o x y line col (I.Arith d o x y line col) t (N.act code t (I.Arith d o x y line col))
 arith_follows c f b ks hs s code t d o x y line col g same shown =
     let a = both (nat_lt d f.registers) (nat_lt x f.registers && nat_lt y f.registers) g.ranged in
     let e = both (nat_lt x f.registers) (nat_lt y f.registers) a.1 in

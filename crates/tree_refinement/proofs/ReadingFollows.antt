@@ -12,13 +12,12 @@ use Rattle.separation_bounds.specs.cell_code.declared.kind.Kind.TheVariants.{Gon
 use Rattle.tree_semantics.specs.machine_semantics.Cells.{Store}
 use Rattle.tree_semantics.specs.machine_semantics.Trees.{IsTree}
 use Rattle.tree_semantics.specs.machine_semantics.States.{State}
-use Rattle.tree_semantics.specs.machine_semantics.Codes as C
+use Rattle.separation_bounds.specs.cell_code.Plain.{PlainFunction, PlainCode}
 use Rattle.tree_semantics.specs.machine_semantics.Rows as R
 use Rattle.tree_semantics.specs.machine_semantics.Apart.{Holding, Tree, RootIn}
 use Rattle.tree_semantics.specs.Contents.{children, value_at}
 use Rattle.tree_semantics.specs.States as U
 use Rattle.tree_semantics.specs.Steps as N
-use Rattle.separation_bounds.specs.code_rules.Codes.{PlainCode, PlainFunction}
 use Rattle.separation_bounds.specs.code_rules.Types.{is_scalar_type, all, lent_kind}
 use Rattle.separation_bounds.specs.code_rules.Kinds.{at, set_of, root_of}
 use Rattle.separation_bounds.specs.code_rules.Ranges.{is_target}
@@ -80,7 +79,7 @@ branch_follows c f b ks hs s t r k target false g same is shown =
     refl
     (tested_shown c.types s.store ks r cs (word_at s.running.words) t.running.contents shown)
 
-pub test_follows : (c : PlainCode) (f : PlainFunction) (b : List Placed) (ks : List Kind) (hs : ℕ → Holding) (s : State) (code : C.PlainCode) (t : U.State) (r k target : ℕ) → IsReady c f b ks hs s (I.Test r k target) → s.running.at ≡ t.running.at → AreShown c.types s.store (at ks) (word_at s.running.words) t.running.contents → Follows c f ks s (I.Test r k target) t (N.act code t (I.Test r k target))
+pub test_follows : (c : PlainCode) (f : PlainFunction) (b : List Placed) (ks : List Kind) (hs : ℕ → Holding) (s : State) (code : PlainCode) (t : U.State) (r k target : ℕ) → IsReady c f b ks hs s (I.Test r k target) → s.running.at ≡ t.running.at → AreShown c.types s.store (at ks) (word_at s.running.words) t.running.contents → Follows c f ks s (I.Test r k target) t (N.act code t (I.Test r k target))
 test_follows c f b ks hs s code t r k target g same shown =
     let a = both (nat_lt r f.registers) (is_target f s.running.at target) g.ranged in
     let wide = g.wide in
@@ -112,7 +111,7 @@ known_type tb (Owned u cs) i t e = (u, refl)
 known_type tb (Lent u cs root from) i t e = (u, refl)
 known_type tb (Credit n) i t e = absurd (none-some t e)
 
-pub peek_follows : (c : PlainCode) (f : PlainFunction) (b : List Placed) (ks : List Kind) (hs : ℕ → Holding) (s : State) (code : C.PlainCode) (t : U.State) (d r i : ℕ) → IsReady c f b ks hs s (I.Peek d r i) → s.running.at ≡ t.running.at → AreShown c.types s.store (at ks) (word_at s.running.words) t.running.contents → Follows c f ks s (I.Peek d r i) t (N.act code t (I.Peek d r i))
+pub peek_follows : (c : PlainCode) (f : PlainFunction) (b : List Placed) (ks : List Kind) (hs : ℕ → Holding) (s : State) (code : PlainCode) (t : U.State) (d r i : ℕ) → IsReady c f b ks hs s (I.Peek d r i) → s.running.at ≡ t.running.at → AreShown c.types s.store (at ks) (word_at s.running.words) t.running.contents → Follows c f ks s (I.Peek d r i) t (N.act code t (I.Peek d r i))
 peek_follows c f b ks hs s code t d r i g same shown =
     let a = both (nat_lt d f.registers) (nat_lt r f.registers) g.ranged in
     let wide = g.wide in

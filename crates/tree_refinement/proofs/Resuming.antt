@@ -9,6 +9,7 @@ use Rattle.separation_bounds.specs.cell_code.declared.kind.Kind.{Kind}
 use Rattle.separation_bounds.specs.cell_code.declared.kind.Kind.TheVariants.{Scalar, Owned}
 use Rattle.tree_semantics.specs.machine_semantics.Cells.{Store}
 use Rattle.tree_semantics.specs.machine_semantics.Trees.{StandAll, IsTree}
+use Rattle.separation_bounds.specs.cell_code.Plain.{PlainFunction, PlainCode, results_of, results}
 use Rattle.tree_semantics.specs.machine_semantics.Codes as C
 use Rattle.tree_semantics.specs.machine_semantics.Rows.{read_all, write_all}
 use Rattle.tree_semantics.specs.machine_semantics.States.{Frame, State}
@@ -18,7 +19,6 @@ use Rattle.tree_semantics.specs.Contents.{Contents}
 use Rattle.tree_semantics.specs.Contents as T
 use Rattle.tree_semantics.specs.States as U
 use Rattle.tree_semantics.specs.Steps as N
-use Rattle.separation_bounds.specs.code_rules.Codes.{PlainCode, PlainFunction, results, results_of}
 use Rattle.separation_bounds.specs.code_rules.Types.{is_scalar_type, all, field_kind}
 use Rattle.separation_bounds.specs.code_rules.Kinds.{at}
 use Rattle.separation_bounds.specs.code_rules.Changes.{written}
@@ -33,7 +33,7 @@ use Rattle.separation_bounds.proofs.separation_kinds.Basics.{pick, both, equal, 
 use Rattle.separation_bounds.proofs.separation_kinds.KindLemmas.{put}
 use Rattle.separation_bounds.proofs.separation_kinds.Words.{read_words, set_length, set_word, writes}
 use Rattle.separation_bounds.proofs.separation_kinds.Giving.{AreGiven, given}
-use Rattle.separation_bounds.specs.separation.Codes.{run_code, AreKinds}
+use Rattle.separation_bounds.specs.separation.Codes.{AreKinds}
 use Rattle.separation_bounds.specs.separation.Alive.{Frozen, lower_trees, IsWaiting, AreAllWaiting, IsAlive}
 use Rattle.separation_bounds.proofs.separation.Calling.{some_left}
 use Rattle.separation_bounds.proofs.separation.Returning.{run_instr_at}
@@ -77,7 +77,7 @@ received_on tb s ks ws cs (d ∷ ds) (t ∷ ts) (MoreParts x xs) w l b g m =
 
 -- ---- the frame below goes on, or the run is over
 
-resumed_same : (c : PlainCode) (before waits : Kinds) (types : List ℕ) (s : State) (t : U.State) (n : ℕ) (lent : List Placed) (w : Frame) (below : List Frame) (u : U.Frame) (under : List U.Frame) (g : Frozen) (gs : List Frozen) (trees : Parts) → IsSound c → AreKinds c before waits → s.free ≡ t.free → StandAll c.types s.store (results c n) trees → IsWaiting c s.store (lower_trees gs lent) n w g → IsSameFrame c.types s.store (waits w.function w.at) w u → AreSameFrames c.types s.store waits below under → IsSameNext c.types before waits types s (resumed s w below (option_and_then (λ ds. write_all w.words ds (words_of trees)) (D.destinations (run_code c) w))) (N.resumed u under t.free (values_of trees) (destinations_in (C.instr_at (run_code c) u.function u.at)))
+resumed_same : (c : PlainCode) (before waits : Kinds) (types : List ℕ) (s : State) (t : U.State) (n : ℕ) (lent : List Placed) (w : Frame) (below : List Frame) (u : U.Frame) (under : List U.Frame) (g : Frozen) (gs : List Frozen) (trees : Parts) → IsSound c → AreKinds c before waits → s.free ≡ t.free → StandAll c.types s.store (results c n) trees → IsWaiting c s.store (lower_trees gs lent) n w g → IsSameFrame c.types s.store (waits w.function w.at) w u → AreSameFrames c.types s.store waits below under → IsSameNext c.types before waits types s (resumed s w below (option_and_then (λ ds. write_all w.words ds (words_of trees)) (D.destinations c w))) (N.resumed u under t.free (values_of trees) (destinations_in (C.instr_at c u.function u.at)))
 resumed_same c before waits types s t n lent w below u under g gs trees sound kinds free stand i m rest =
     let call : Instr = I.Call i.callee i.sources i.destinations in
     let p = both (in_range c i.function w.at call) _ i.asked in
@@ -93,13 +93,13 @@ resumed_same c before waits types s t n lent w below u under g gs trees sound ki
     (subst (λ m. are_below m i.destinations ≡ true) (sym i.wide) b.1) (subst (λ ts. StandAll c.types s.store ts trees) (sym i.results) stand) shown in
     let left : List Kind = received c.types g.kinds i.destinations (results c i.callee) in
     let goes : GoesTo c i.function w.at (w.at + 1) left = record { kinds = i.before; instr = call; reached = record { known = i.known; instr = i.instr }; asked = i.asked; goes = inl (omega arith, (g.kinds, i.left, refl)) } in
-    let instr : C.instr_at (run_code c) w.function w.at ≡ Some call = run_instr_at c w.function w.at i.function call i.is i.instr in
-    let to : D.destinations (run_code c) w ≡ Some i.destinations = ap destinations_in instr in
-    let also : destinations_in (C.instr_at (run_code c) u.function u.at) ≡ Some i.destinations = subst (λ f. destinations_in (C.instr_at (run_code c) f u.at) ≡ Some i.destinations) m.function (subst (λ j. destinations_in (C.instr_at (run_code c) w.function j) ≡ Some i.destinations) m.instr to) in
+    let instr : C.instr_at c w.function w.at ≡ Some call = run_instr_at c w.function w.at i.function call i.is i.instr in
+    let to : D.destinations c w ≡ Some i.destinations = ap destinations_in instr in
+    let also : destinations_in (C.instr_at c u.function u.at) ≡ Some i.destinations = subst (λ f. destinations_in (C.instr_at c f u.at) ≡ Some i.destinations) m.function (subst (λ j. destinations_in (C.instr_at c w.function j) ≡ Some i.destinations) m.instr to) in
     let write : write_all w.words i.destinations (words_of trees) ≡ Some got.words = ap (λ ws. write_all ws i.destinations (words_of trees)) i.words ∙ got.is in
     let place = m.instr in
-    subst (λ o. IsSameNext c.types before waits types s (resumed s w below (option_and_then (λ ds. write_all w.words ds (words_of trees)) o)) (N.resumed u under t.free (values_of trees) (destinations_in (C.instr_at (run_code c) u.function u.at)))) (sym to)
-    (subst (λ o. IsSameNext c.types before waits types s (resumed s w below o) (N.resumed u under t.free (values_of trees) (destinations_in (C.instr_at (run_code c) u.function u.at)))) (sym write)
+    subst (λ o. IsSameNext c.types before waits types s (resumed s w below (option_and_then (λ ds. write_all w.words ds (words_of trees)) o)) (N.resumed u under t.free (values_of trees) (destinations_in (C.instr_at c u.function u.at)))) (sym to)
+    (subst (λ o. IsSameNext c.types before waits types s (resumed s w below o) (N.resumed u under t.free (values_of trees) (destinations_in (C.instr_at c u.function u.at)))) (sym write)
     (subst (λ o. IsSameNext c.types before waits types s (resumed s w below (Some got.words)) (N.resumed u under t.free (values_of trees) o)) (sym also) (record {
       running = record {
         shown = arrive_shown c before waits w.function w.at (w.at + 1) i.function s.store left (word_at got.words) (T.put_all cs i.destinations (values_of trees)) sound kinds i.is goes got.shown;
@@ -110,7 +110,7 @@ resumed_same c before waits types s t n lent w below u under g gs trees sound ki
       free = let z : s.free + 1 ≡ suc t.free = omega arith in z;
     })))
 
-returned_same : (c : PlainCode) (before waits : Kinds) (types : List ℕ) (s : State) (t : U.State) (n : ℕ) (lent : List Placed) (ws : List Frame) (us : List U.Frame) (gs : List Frozen) (trees : Parts) → IsSound c → AreKinds c before waits → s.free ≡ t.free → StandAll c.types s.store (results c n) trees → AreAllWaiting c s.store lent types n ws gs → AreSameFrames c.types s.store waits ws us → IsSameNext c.types before waits types s (returned (run_code c) s ws (Some (words_of trees))) (N.returned (run_code c) us t.free (values_of trees))
+returned_same : (c : PlainCode) (before waits : Kinds) (types : List ℕ) (s : State) (t : U.State) (n : ℕ) (lent : List Placed) (ws : List Frame) (us : List U.Frame) (gs : List Frozen) (trees : Parts) → IsSound c → AreKinds c before waits → s.free ≡ t.free → StandAll c.types s.store (results c n) trees → AreAllWaiting c s.store lent types n ws gs → AreSameFrames c.types s.store waits ws us → IsSameNext c.types before waits types s (returned c s ws (Some (words_of trees))) (N.returned c us t.free (values_of trees))
 returned_same c before waits types s t n lent [] [] [] trees sound kinds free stand a m = (trees, refl, subst (λ ts. StandAll c.types s.store ts trees) a stand, refl)
 returned_same c before waits types s t n lent [] [] (g ∷ gs) trees sound kinds free stand a m = absurd a
 returned_same c before waits types s t n lent [] (u ∷ us) gs trees sound kinds free stand a m = absurd m
@@ -118,7 +118,7 @@ returned_same c before waits types s t n lent (w ∷ ws) [] gs trees sound kinds
 returned_same c before waits types s t n lent (w ∷ ws) (u ∷ us) [] trees sound kinds free stand a m = absurd a
 returned_same c before waits types s t n lent (w ∷ ws) (u ∷ us) (g ∷ gs) trees sound kinds free stand a m = resumed_same c before waits types s t n lent w ws u us g gs trees sound kinds free stand a.0 m.0 m.1
 
-pub ret_same : (c : PlainCode) (before waits : Kinds) (types kept : List ℕ) (s : State) (t : U.State) (rs : List ℕ) → IsSound c → AreKinds c before waits → (a : IsAlive c types kept s) → IsSame c.types before waits s t → is_as_asked c a.function s.running.at a.kinds (I.Ret rs) ≡ true → AreShown c.types s.store (at a.kinds) (word_at s.running.words) t.running.contents → IsSameNext c.types before waits types s (returned (run_code c) s s.waiting (read_all s.running.words rs)) (N.returned (run_code c) t.waiting t.free (T.read_all t.running.contents rs))
+pub ret_same : (c : PlainCode) (before waits : Kinds) (types kept : List ℕ) (s : State) (t : U.State) (rs : List ℕ) → IsSound c → AreKinds c before waits → (a : IsAlive c types kept s) → IsSame c.types before waits s t → is_as_asked c a.function s.running.at a.kinds (I.Ret rs) ≡ true → AreShown c.types s.store (at a.kinds) (word_at s.running.words) t.running.contents → IsSameNext c.types before waits types s (returned c s s.waiting (read_all s.running.words rs)) (N.returned c t.waiting t.free (T.read_all t.running.contents rs))
 ret_same c before waits types kept s t rs sound kinds a m asked shown =
     let f : PlainFunction = a.function in
     let ws : List ℕ = s.running.words in
@@ -132,6 +132,6 @@ ret_same c before waits types kept s t rs sound kinds a m asked shown =
     let read : read_all ws rs ≡ Some (words_of g.trees) = read_words ws rs (subst (λ m. are_below m rs ≡ true) (sym (a.long ∙ a.wide)) p.0) ∙ ap Some (sym g.words) in
     let values : values_of g.trees ≡ T.read_all cs rs = v.values g.trees g.stand g.words in
     let stand : StandAll c.types s.store (results c s.running.function) g.trees = subst (λ ts. StandAll c.types s.store ts g.trees) (sym (ap results_of a.is)) g.stand in
-    subst (λ o. IsSameNext c.types before waits types s (returned (run_code c) s s.waiting o) (N.returned (run_code c) t.waiting t.free (T.read_all cs rs))) (sym read)
-    (subst (λ vs. IsSameNext c.types before waits types s (returned (run_code c) s s.waiting (Some (words_of g.trees))) (N.returned (run_code c) t.waiting t.free vs)) values
+    subst (λ o. IsSameNext c.types before waits types s (returned c s s.waiting o) (N.returned c t.waiting t.free (T.read_all cs rs))) (sym read)
+    (subst (λ vs. IsSameNext c.types before waits types s (returned c s s.waiting (Some (words_of g.trees))) (N.returned c t.waiting t.free vs)) values
     (returned_same c before waits types s t s.running.function a.lent s.waiting t.waiting a.frozen g.trees sound kinds m.free stand a.waiting m.waiting))

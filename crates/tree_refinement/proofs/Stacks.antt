@@ -5,15 +5,13 @@ use Rattle.tree_semantics.specs.fip_language.Gauge.{highest_frames, highest_word
 use Rattle.tree_semantics.specs.fip_language.Store.{Placed}
 use Rattle.tree_semantics.specs.fip_language.Values.{Values}
 use Rattle.tree_semantics.specs.machine_semantics.Cells.{Store}
-use Rattle.tree_semantics.specs.machine_semantics.Codes as R
+use Rattle.separation_bounds.specs.cell_code.Plain.{PlainFunction, PlainCode, function_at, results}
 use Rattle.tree_semantics.specs.machine_semantics.Gauges.{seen}
 use Rattle.tree_semantics.specs.machine_semantics.Limits.{frame_words}
 use Rattle.tree_semantics.specs.machine_semantics.Runs.{Run, End, Going, Over, Ends, state_of, begun, later, after}
 use Rattle.tree_semantics.specs.machine_semantics.States.{Frame, State, frames_held, words_of_frame, words_held}
 use Rattle.tree_semantics.specs.machine_semantics.Steps.{Kinds}
-use Rattle.separation_bounds.specs.code_rules.Codes.{PlainCode, PlainFunction, function_at, results}
 use Rattle.separation_bounds.specs.separation.Alive.{Frozen, IsAlive, AreAllWaiting}
-use Rattle.separation_bounds.specs.separation.Codes.{run_code}
 use Rattle.separation_bounds.specs.separation.Starts.{IsStart}
 use Rattle.separation_bounds.proofs.separation.Running.{run_alive}
 use Rattle.separation_bounds.proofs.Chains.{sum_first}
@@ -46,7 +44,7 @@ abbrev pub tree_words : PlainCode → U.State → ℕ
 tree_words c t = wide_at c t.running.function + wide_all c t.waiting
 
 -- the highest of a number over the states of a run on trees
-abbrev pub tree_highest : (U.State → ℕ) → R.PlainCode → ℕ → T.Run → ℕ
+abbrev pub tree_highest : (U.State → ℕ) → PlainCode → ℕ → T.Run → ℕ
 tree_highest f code zero (T.Going t left m) = max (f t) 0
 tree_highest f code (suc n) (T.Going t left m) = max (f t) (tree_highest f code n (T.later code (T.Going t left m)))
 tree_highest f code zero (T.Over a t left m) = max (f t) 0
@@ -86,78 +84,78 @@ state_words c before waits types kept s t a m =
 
 -- ---- a run
 
-tree_after_later : (code : R.PlainCode) (k : ℕ) (q : T.Run) → T.after code (suc k) q ≡ T.later code (T.after code k q)
+tree_after_later : (code : PlainCode) (k : ℕ) (q : T.Run) → T.after code (suc k) q ≡ T.later code (T.after code k q)
 tree_after_later code zero q = refl
 tree_after_later code (suc k) q = tree_after_later code k (T.later code q)
 
 module _ (c : PlainCode) (before waits : Kinds) (n : ℕ) (kept : List ℕ) (s : State) (vs : Values) (calls : ℕ) (t : IsStart c before waits n kept s) (b : BeginsWith c n s vs) where
   abbrev moment : ℕ → Run
-  moment k = after before (run_code c) k (begun s calls)
+  moment k = after before c k (begun s calls)
 
   abbrev tree_moment : ℕ → T.Run
-  tree_moment k = T.after (run_code c) k (T.begun (T.entry n vs s.free) calls)
+  tree_moment k = T.after c k (T.begun (T.entry n vs s.free) calls)
 
   -- a moment with what comes after it
-  frames_more : (m : ℕ) (r : Run) (q : T.Run) → IsSameRun c.types before waits (results c n) r q → highest_frames (seen before (run_code c) m (later before (run_code c) r)) ≡ tree_highest (tree_frames c) (run_code c) m (T.later (run_code c) q) → highest_frames (seen before (run_code c) (suc m) r) ≡ tree_highest (tree_frames c) (run_code c) (suc m) q
+  frames_more : (m : ℕ) (r : Run) (q : T.Run) → IsSameRun c.types before waits (results c n) r q → highest_frames (seen before c m (later before c r)) ≡ tree_highest (tree_frames c) c m (T.later c q) → highest_frames (seen before c (suc m) r) ≡ tree_highest (tree_frames c) c (suc m) q
   frames_more m (Going u left j) (T.Going v l k) i rest = ap₂ max (state_frames c before waits u v i.0) rest
   frames_more m (Going u left j) (T.Over a v l k) i rest = absurd i
   frames_more m (Over e u left j) (T.Going v l k) i rest = absurd i
   frames_more m (Over e u left j) (T.Over a v l k) i rest = ap (λ x. max x 0) (state_frames c before waits u v i.1)
 
-  frames_end : (r : Run) (q : T.Run) → IsSameRun c.types before waits (results c n) r q → highest_frames (seen before (run_code c) 0 r) ≡ tree_highest (tree_frames c) (run_code c) 0 q
+  frames_end : (r : Run) (q : T.Run) → IsSameRun c.types before waits (results c n) r q → highest_frames (seen before c 0 r) ≡ tree_highest (tree_frames c) c 0 q
   frames_end (Going u left j) (T.Going v l k) i = ap (λ x. max x 0) (state_frames c before waits u v i.0)
   frames_end (Going u left j) (T.Over a v l k) i = absurd i
   frames_end (Over e u left j) (T.Going v l k) i = absurd i
   frames_end (Over e u left j) (T.Over a v l k) i = ap (λ x. max x 0) (state_frames c before waits u v i.1)
 
-  pub frames_from : (m k : ℕ) → highest_frames (seen before (run_code c) m (moment k)) ≡ tree_highest (tree_frames c) (run_code c) m (tree_moment k)
+  pub frames_from : (m k : ℕ) → highest_frames (seen before c m (moment k)) ≡ tree_highest (tree_frames c) c m (tree_moment k)
   frames_from zero k = frames_end (moment k) (tree_moment k) (run_same c before waits n kept s vs calls k t b)
   frames_from (suc m) k =
-      let rest = subst (λ r. highest_frames (seen before (run_code c) m r) ≡ tree_highest (tree_frames c) (run_code c) m (T.later (run_code c) (tree_moment k))) (after_later before (run_code c) k (begun s calls))
-      (subst (λ q. highest_frames (seen before (run_code c) m (moment (suc k))) ≡ tree_highest (tree_frames c) (run_code c) m q) (tree_after_later (run_code c) k (T.begun (T.entry n vs s.free) calls)) (frames_from m (suc k))) in
+      let rest = subst (λ r. highest_frames (seen before c m r) ≡ tree_highest (tree_frames c) c m (T.later c (tree_moment k))) (after_later before c k (begun s calls))
+      (subst (λ q. highest_frames (seen before c m (moment (suc k))) ≡ tree_highest (tree_frames c) c m q) (tree_after_later c k (T.begun (T.entry n vs s.free) calls)) (frames_from m (suc k))) in
       frames_more m (moment k) (tree_moment k) (run_same c before waits n kept s vs calls k t b) rest
 
-  words_more : (m : ℕ) (r : Run) (q : T.Run) → IsAlive c (results c n) kept (state_of r) → IsSameRun c.types before waits (results c n) r q → highest_words (seen before (run_code c) m (later before (run_code c) r)) ≡ tree_highest (tree_words c) (run_code c) m (T.later (run_code c) q) → highest_words (seen before (run_code c) (suc m) r) ≡ tree_highest (tree_words c) (run_code c) (suc m) q
+  words_more : (m : ℕ) (r : Run) (q : T.Run) → IsAlive c (results c n) kept (state_of r) → IsSameRun c.types before waits (results c n) r q → highest_words (seen before c m (later before c r)) ≡ tree_highest (tree_words c) c m (T.later c q) → highest_words (seen before c (suc m) r) ≡ tree_highest (tree_words c) c (suc m) q
   words_more m (Going u left j) (T.Going v l k) a i rest = ap₂ max (state_words c before waits (results c n) kept u v a i.0) rest
   words_more m (Going u left j) (T.Over x v l k) a i rest = absurd i
   words_more m (Over e u left j) (T.Going v l k) a i rest = absurd i
   words_more m (Over e u left j) (T.Over x v l k) a i rest = ap (λ y. max y 0) (state_words c before waits (results c n) kept u v a i.1)
 
-  words_end : (r : Run) (q : T.Run) → IsAlive c (results c n) kept (state_of r) → IsSameRun c.types before waits (results c n) r q → highest_words (seen before (run_code c) 0 r) ≡ tree_highest (tree_words c) (run_code c) 0 q
+  words_end : (r : Run) (q : T.Run) → IsAlive c (results c n) kept (state_of r) → IsSameRun c.types before waits (results c n) r q → highest_words (seen before c 0 r) ≡ tree_highest (tree_words c) c 0 q
   words_end (Going u left j) (T.Going v l k) a i = ap (λ y. max y 0) (state_words c before waits (results c n) kept u v a i.0)
   words_end (Going u left j) (T.Over x v l k) a i = absurd i
   words_end (Over e u left j) (T.Going v l k) a i = absurd i
   words_end (Over e u left j) (T.Over x v l k) a i = ap (λ y. max y 0) (state_words c before waits (results c n) kept u v a i.1)
 
-  pub words_from : (m k : ℕ) → highest_words (seen before (run_code c) m (moment k)) ≡ tree_highest (tree_words c) (run_code c) m (tree_moment k)
+  pub words_from : (m k : ℕ) → highest_words (seen before c m (moment k)) ≡ tree_highest (tree_words c) c m (tree_moment k)
   words_from zero k = words_end (moment k) (tree_moment k) (run_alive c before waits n kept s calls k t) (run_same c before waits n kept s vs calls k t b)
   words_from (suc m) k =
-      let rest = subst (λ r. highest_words (seen before (run_code c) m r) ≡ tree_highest (tree_words c) (run_code c) m (T.later (run_code c) (tree_moment k))) (after_later before (run_code c) k (begun s calls))
-      (subst (λ q. highest_words (seen before (run_code c) m (moment (suc k))) ≡ tree_highest (tree_words c) (run_code c) m q) (tree_after_later (run_code c) k (T.begun (T.entry n vs s.free) calls)) (words_from m (suc k))) in
+      let rest = subst (λ r. highest_words (seen before c m r) ≡ tree_highest (tree_words c) c m (T.later c (tree_moment k))) (after_later before c k (begun s calls))
+      (subst (λ q. highest_words (seen before c m (moment (suc k))) ≡ tree_highest (tree_words c) c m q) (tree_after_later c k (T.begun (T.entry n vs s.free) calls)) (words_from m (suc k))) in
       words_more m (moment k) (tree_moment k) (run_alive c before waits n kept s calls k t) (run_same c before waits n kept s vs calls k t b) rest
 
 -- ---- two runs
 
-module _ (c : PlainCode) (before waits first other : Kinds) (n : ℕ) (kept more : List ℕ) (s u : State) (vs : Values) (calls : ℕ) (e d : End) (last end : State) (left rest steps done : ℕ) (t : IsStart c before waits n kept s) (b : BeginsWith c n s vs) (t' : IsStart c first other n more u) (b' : BeginsWith c n u vs) (free : s.free ≡ u.free) (x : Ends before (run_code c) s calls e last left steps) (y : Ends first (run_code c) u calls d end rest done) where
+module _ (c : PlainCode) (before waits first other : Kinds) (n : ℕ) (kept more : List ℕ) (s u : State) (vs : Values) (calls : ℕ) (e d : End) (last end : State) (left rest steps done : ℕ) (t : IsStart c before waits n kept s) (b : BeginsWith c n s vs) (t' : IsStart c first other n more u) (b' : BeginsWith c n u vs) (free : s.free ≡ u.free) (x : Ends before c s calls e last left steps) (y : Ends first c u calls d end rest done) where
   abbrev both : ℕ
   both = x.enough + y.enough
 
-  pub frames_alike : highest_frames (seen before (run_code c) x.enough (begun s calls)) ≡ highest_frames (seen first (run_code c) y.enough (begun u calls))
+  pub frames_alike : highest_frames (seen before c x.enough (begun s calls)) ≡ highest_frames (seen first c y.enough (begun u calls))
   frames_alike =
       let turned : y.enough + x.enough ≡ both = omega arith in
-      ap highest_frames (sym (seen_enough before (run_code c) x.enough y.enough (begun s calls) e last left steps x.is))
+      ap highest_frames (sym (seen_enough before c x.enough y.enough (begun s calls) e last left steps x.is))
       ∙ frames_from c before waits n kept s vs calls t b both 0
-      ∙ ap (λ f. tree_highest (tree_frames c) (run_code c) both (T.begun (T.entry n vs f) calls)) free
+      ∙ ap (λ f. tree_highest (tree_frames c) c both (T.begun (T.entry n vs f) calls)) free
       ∙ sym (frames_from c first other n more u vs calls t' b' both 0)
-      ∙ ap (λ m. highest_frames (seen first (run_code c) m (begun u calls))) (sym turned)
-      ∙ ap highest_frames (seen_enough first (run_code c) y.enough x.enough (begun u calls) d end rest done y.is)
+      ∙ ap (λ m. highest_frames (seen first c m (begun u calls))) (sym turned)
+      ∙ ap highest_frames (seen_enough first c y.enough x.enough (begun u calls) d end rest done y.is)
 
-  pub words_alike : highest_words (seen before (run_code c) x.enough (begun s calls)) ≡ highest_words (seen first (run_code c) y.enough (begun u calls))
+  pub words_alike : highest_words (seen before c x.enough (begun s calls)) ≡ highest_words (seen first c y.enough (begun u calls))
   words_alike =
       let turned : y.enough + x.enough ≡ both = omega arith in
-      ap highest_words (sym (seen_enough before (run_code c) x.enough y.enough (begun s calls) e last left steps x.is))
+      ap highest_words (sym (seen_enough before c x.enough y.enough (begun s calls) e last left steps x.is))
       ∙ words_from c before waits n kept s vs calls t b both 0
-      ∙ ap (λ f. tree_highest (tree_words c) (run_code c) both (T.begun (T.entry n vs f) calls)) free
+      ∙ ap (λ f. tree_highest (tree_words c) c both (T.begun (T.entry n vs f) calls)) free
       ∙ sym (words_from c first other n more u vs calls t' b' both 0)
-      ∙ ap (λ m. highest_words (seen first (run_code c) m (begun u calls))) (sym turned)
-      ∙ ap highest_words (seen_enough first (run_code c) y.enough x.enough (begun u calls) d end rest done y.is)
+      ∙ ap (λ m. highest_words (seen first c m (begun u calls))) (sym turned)
+      ∙ ap highest_words (seen_enough first c y.enough x.enough (begun u calls) d end rest done y.is)

@@ -11,7 +11,7 @@ use Rattle.separation_bounds.specs.cell_code.declared.kind.Kind.TheVariants.{Gon
 use Rattle.tree_semantics.specs.machine_semantics.Cells.{Store}
 use Rattle.tree_semantics.specs.machine_semantics.Trees.{IsTree, StandAll}
 use Rattle.tree_semantics.specs.machine_semantics.States.{State}
-use Rattle.tree_semantics.specs.machine_semantics.Codes as C
+use Rattle.separation_bounds.specs.cell_code.Plain.{PlainFunction, PlainCode}
 use Rattle.tree_semantics.specs.machine_semantics.Rows as R
 use Rattle.tree_semantics.specs.machine_semantics.Apart.{Holding, Tree, RootIn}
 use Rattle.tree_semantics.specs.Contents.{Contents, children}
@@ -19,7 +19,6 @@ use Rattle.tree_semantics.specs.Contents as T
 use Rattle.tree_semantics.specs.States as U
 use Rattle.tree_semantics.specs.Steps as N
 use Rattle.tree_semantics.proofs.Puts.{put_same, put_other}
-use Rattle.separation_bounds.specs.code_rules.Codes.{PlainCode, PlainFunction}
 use Rattle.separation_bounds.specs.code_rules.Types.{fields, fields_of}
 use Rattle.separation_bounds.specs.code_rules.Kinds.{has, at, is_free, is_owned, is_lent_of}
 use Rattle.separation_bounds.specs.code_rules.Changes.{forget}
@@ -173,7 +172,7 @@ taken_shows tb s below ks ws hs cs r ds ts left y ps to t m a q (Some p) e =
     let is : part_in ps p.field ≡ Some g.tree = sym (t.parts p.field) ∙ g.part in
     rw is (means_shows tb s below (at ks) hs (part_kind tb r (at ks q) p) (word_of g.tree) g.tree (g.means below (at ks) hs))
 
-pub take_follows : (c : PlainCode) (f : PlainFunction) (b : List Placed) (ks : List Kind) (hs : ℕ → Holding) (s : State) (code : C.PlainCode) (t : U.State) (r : ℕ) (ds : List ℕ) → IsReady c f b ks hs s (I.Take r ds) → s.running.at ≡ t.running.at → AreShown c.types s.store (at ks) (word_at s.running.words) t.running.contents → Follows c f ks s (I.Take r ds) t (N.act code t (I.Take r ds))
+pub take_follows : (c : PlainCode) (f : PlainFunction) (b : List Placed) (ks : List Kind) (hs : ℕ → Holding) (s : State) (code : PlainCode) (t : U.State) (r : ℕ) (ds : List ℕ) → IsReady c f b ks hs s (I.Take r ds) → s.running.at ≡ t.running.at → AreShown c.types s.store (at ks) (word_at s.running.words) t.running.contents → Follows c f ks s (I.Take r ds) t (N.act code t (I.Take r ds))
 take_follows c f b ks hs s code t r ds g same shown =
     let a = both (nat_lt r f.registers) (are_below f.registers ds) g.ranged in
     let e = both (are_places ks ds) (not (has ds r)) g.destinations in

@@ -10,7 +10,8 @@ use Rattle.tree_semantics.specs.machine_semantics.Steps.{Kinds}
 use Rattle.tree_semantics.specs.machine_semantics.States.{State}
 use Rattle.tree_semantics.specs.machine_semantics.Runs.{Run, Going, Over}
 use Rattle.tree_semantics.specs.Runs as T
-use Rattle.separation_bounds.specs.code_rules.Codes.{PlainCode, params}
+use Rattle.separation_bounds.specs.cell_code.Plain.{PlainCode}
+use Rattle.separation_bounds.specs.code_rules.Codes.{params}
 use Rattle.tree_refinement.specs.Agreement.{IsSame}
 use Rattle.tree_refinement.specs.Endings.{AreWordsOf}
 pub use Rattle.tree_refinement.specs.Endings.{IsSameEnd}

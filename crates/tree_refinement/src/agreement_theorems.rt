@@ -13,10 +13,10 @@ ghost use Rattle.tree_semantics.specs.machine_semantics.Example.{listed, first};
 ghost use Rattle.tree_semantics.specs.States as U;
 ghost use Rattle.tree_semantics.specs.Steps as N;
 ghost use Rattle.tree_semantics.specs.Runs as T;
-ghost use Rattle.separation_bounds.specs.code_rules.Codes.{PlainCode, results};
+ghost use Rattle.separation_bounds.specs.cell_code.Plain.{PlainCode, results};
 ghost use Rattle.separation_bounds.specs.code_rules.Breaks.{IsSound};
 ghost use Rattle.separation_bounds.specs.code_rules.Example.{reversal};
-ghost use Rattle.separation_bounds.specs.separation.Codes.{run_code, HasLiterals, AreKinds};
+ghost use Rattle.separation_bounds.specs.separation.Codes.{HasLiterals, AreKinds};
 ghost use Rattle.separation_bounds.specs.separation.Alive.{IsAlive};
 ghost use Rattle.separation_bounds.specs.separation.Starts.{IsStart};
 ghost use Rattle.tree_refinement.specs.Agreement.{IsWordOf, AreWordsOf, IsSame, IsSameNext};
@@ -50,7 +50,7 @@ pub fn each_step_on_cells_is_the_step_on_trees()
     ensures next { (c : PlainCode) (before waits : Kinds) (types kept : List ℕ) (s : State) (t : U.State) →
         IsSound c → HasLiterals c → AreKinds c before waits → IsAlive c types kept s →
         IsSame c.types before waits s t →
-        IsSameNext c.types before waits types s (next before (run_code c) s) (N.next (run_code c) t) }
+        IsSameNext c.types before waits types s (next before c s) (N.next c t) }
 {}
 
 /// A run of sound code on cells is at each moment the run on trees, from the entry with the values of its arguments.
@@ -58,8 +58,8 @@ pub fn each_step_on_cells_is_the_step_on_trees()
 pub fn a_run_on_cells_is_the_run_on_trees()
     ensures theorem { (c : PlainCode) (before waits : Kinds) (n : ℕ) (kept : List ℕ) (s : State)
         (arguments : Values) (calls steps : ℕ) → IsStart c before waits n kept s → BeginsWith c n s arguments →
-        IsSameRun c.types before waits (results c n) (after before (run_code c) steps (begun s calls))
-        (T.after (run_code c) steps (T.begun (T.entry n arguments s.free) calls)) }
+        IsSameRun c.types before waits (results c n) (after before c steps (begun s calls))
+        (T.after c steps (T.begun (T.entry n arguments s.free) calls)) }
 {}
 
 /// A run of sound code on cells ends where the run on trees ends, with the same calls left: with words that stand for
@@ -69,15 +69,15 @@ pub fn a_run_on_cells_ends_as_the_run_on_trees()
     ensures cells { (c : PlainCode) (before waits : Kinds) (n : ℕ) (kept : List ℕ) (s : State)
         (arguments : Values) (calls enough : ℕ) (answer : Answer) (last : U.State) (left steps : ℕ) →
         IsStart c before waits n kept s → BeginsWith c n s arguments →
-        T.after (run_code c) enough (T.begun (T.entry n arguments s.free) calls) ≡ T.Over answer last left steps →
-        (e : End) × (end : State) × Ends before (run_code c) s calls e end left steps
+        T.after c enough (T.begun (T.entry n arguments s.free) calls) ≡ T.Over answer last left steps →
+        (e : End) × (end : State) × Ends before c s calls e end left steps
         × IsSameEnd c.types (results c n) end left e answer }
     ensures trees { (c : PlainCode) (before waits : Kinds) (n : ℕ) (kept : List ℕ) (s : State)
         (arguments : Values) (calls : ℕ) (e : End) (end : State) (left steps : ℕ) →
         IsStart c before waits n kept s → BeginsWith c n s arguments →
-        (ends : Ends before (run_code c) s calls e end left steps) →
+        (ends : Ends before c s calls e end left steps) →
         (answer : Answer) × (last : U.State)
-        × (T.after (run_code c) ends.enough (T.begun (T.entry n arguments s.free) calls)
+        × (T.after c ends.enough (T.begun (T.entry n arguments s.free) calls)
         ≡ T.Over answer last left steps) × IsSameEnd c.types (results c n) end left e answer }
 {}
 
@@ -89,6 +89,6 @@ pub fn an_example_ends_as_on_trees()
         × BeginsWith reversal 0 (first listed 3) (pair (item (pos 1) (item (pos 2) empty)) empty) }
     ensures ends { (before waits : Kinds) → AreKinds reversal before waits →
         (word : ℕ) × (end : State)
-        × Ends before (run_code reversal) (first listed 3) 3 (R.Value (word ∷ [])) end 0 11
+        × Ends before reversal (first listed 3) 3 (R.Value (word ∷ [])) end 0 11
         × IsWordOf reversal.types end.store 2 word (item (pos 2) (item (pos 1) empty)) }
 {}

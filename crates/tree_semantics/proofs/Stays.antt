@@ -1,7 +1,7 @@
 -- A run that is over stays as it is.
 use Rattle.std.proofs.Common.{◌≡◌, refl, ℕ, zero, suc}
 use Rattle.machine_semantics.specs.fip_language.Meaning.{Answer}
-use Rattle.machine_semantics.specs.Codes.{PlainCode}
+use Rattle.machine_semantics.specs.cell_code.Plain.{PlainCode}
 use Rattle.tree_semantics.specs.States.{State}
 use Rattle.tree_semantics.specs.Runs.{Over, after}
 

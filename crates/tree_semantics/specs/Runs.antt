@@ -5,7 +5,7 @@
 use Rattle.std.specs.Prelude.{◌≡◌, ℕ, zero, suc, [], Option, Some, None}
 use Rattle.machine_semantics.specs.fip_language.Values.{Values}
 use Rattle.machine_semantics.specs.fip_language.Meaning.{Answer, Gives, Trap, Out, Deep, Stuck}
-use Rattle.machine_semantics.specs.Codes.{PlainCode}
+use Rattle.machine_semantics.specs.cell_code.Plain.{PlainCode}
 use Rattle.tree_semantics.specs.States.{State, Next, Went, Entered, Gave, Trapped, TooDeep, Halted}
 use Rattle.tree_semantics.specs.Steps.{first_frame, next}
 

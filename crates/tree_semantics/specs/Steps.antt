@@ -11,7 +11,8 @@ use Rattle.machine_semantics.specs.fip_language.Matching.{same_int}
 use Rattle.machine_semantics.specs.fip_language.Arithmetic.{Operated, Is, Fails, operate}
 use Rattle.machine_semantics.specs.cell_code.declared.code.Instr.{Instr}
 use Rattle.machine_semantics.specs.cell_code.declared.code.Instr.TheVariants as I
-use Rattle.machine_semantics.specs.Codes.{PlainFunction, PlainCode, function_at, instr_at}
+use Rattle.machine_semantics.specs.cell_code.Plain.{PlainFunction, PlainCode, function_at}
+use Rattle.machine_semantics.specs.Codes.{instr_at}
 use Rattle.machine_semantics.specs.Steps.{destinations_in}
 use Rattle.tree_semantics.specs.Contents.{Contents, put, put_all, read_all, first_contents, children, value_at}
 use Rattle.tree_semantics.specs.States.{Frame, State, Next, Went, Entered, Gave, Trapped, TooDeep, Halted}

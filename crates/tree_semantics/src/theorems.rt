@@ -4,7 +4,7 @@ ghost use Rattle.machine_semantics.specs.fip_language.Meaning.{Answer, Gives, Tr
 ghost use Rattle.machine_semantics.specs.fip_language.Values.{End, More};
 ghost use Rattle.machine_semantics.specs.fip_language.declared.TrapKind.TheVariants.{Overflow};
 ghost use Rattle.machine_semantics.specs.fip_language.Example.{empty, pair, three, three_reversed};
-ghost use Rattle.machine_semantics.specs.Codes.{PlainCode};
+ghost use Rattle.machine_semantics.specs.cell_code.Plain.{PlainCode};
 ghost use Rattle.tree_semantics.specs.States.{State};
 ghost use Rattle.tree_semantics.specs.Runs.{Run, Going, Over, Steps, later, after, begun, entry, Ending, ending};
 ghost use Rattle.tree_semantics.specs.Example.{lists, great};

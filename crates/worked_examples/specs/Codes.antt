@@ -2,7 +2,7 @@
 use Rattle.std.specs.Prelude.{ℕ, List, [], ◌∷◌}
 use Rattle.source_report.specs.cell_code.declared.kind.Kind.{Kind}
 use Rattle.source_report.specs.cell_code.declared.kind.Kind.TheVariants.{Gone, Owned}
-use Rattle.source_report.specs.code_rules.Codes.{PlainFunction}
+use Rattle.source_report.specs.cell_code.Plain.{PlainFunction}
 use Rattle.source_report.specs.code_rules.Example.{function_of, rev_with, nil_taken, acc_given, cons_taken, cons_put, again}
 use Rattle.source_report.specs.code_rules.Example.{cons_known}
 

@@ -1,5 +1,5 @@
 use Rattle.std.proofs.Common.{◌≡◌, drop}
-use Rattle.code_rules.specs.Codes.{plain_function}
+use Rattle.cell_code.specs.Plain.{plain_function}
 use Rattle.code_rows.specs.Numbering.{are_good_labels}
 use Rattle.code_rows.proofs.form.are_labels.Given as goal
 

@@ -3,7 +3,7 @@ use Rattle.std.specs.Prelude.{slice_get, option_map}
 use Rattle.std.proofs.lemmas.Option.{slice_get_read, slice_get-map}
 use Rattle.std.proofs.lemmas.List.{length-set, length-map, length-replicate}
 use Rattle.cell_code.specs.declared.kind.Label.{Label}
-use Rattle.code_rules.specs.Codes.{plain_label}
+use Rattle.cell_code.specs.Plain.{plain_label}
 use Rattle.code_rows.specs.Numbering.{IsNumberFrom}
 use Rattle.code_rows.proofs.Steps.{first_numbers, number_put, numbers_from}
 use Rattle.code_rows.proofs.labels.numbers_of.Goals as goal
@@ -31,13 +31,15 @@ loop-number-preserved c =
     let read : slice_get labels at ≡ Some label = slice_get_read labels (length labels) at label refl within c.index-labels-number.is in
     let there : slice_get maps at ≡ Some (plain_label label) = slice_get-map plain_label labels at ∙ ap (option_map plain_label) read in
     let before = c.loop-number.numbers.items in
-    let put : c.put.new.numbers.items ≡ set before label.at (Some at) =
-    c.put.ensures ∙ ap (λ (l : Label). set before l.at (Some at)) (sym c.index-labels-number.is) in
+    let like = c.alike_or_own-alike.ensures.alike label read in
+    let there_too = slice_get-map plain_label labels c.alike_or_own-alike.result ∙ ap (option_map plain_label) like.1 in
+    let put : c.put.new.numbers.items ≡ set before label.at (Some c.alike_or_own-alike.result) =
+    c.put.ensures ∙ ap (λ (l : Label). set before l.at (Some c.alike_or_own-alike.result)) (sym c.index-labels-number.is) in
     record {
-      long = ap length put ∙ length-set before label.at (Some at) ∙ c.loop-number.invariant.long;
+      long = ap length put ∙ length-set before label.at (Some c.alike_or_own-alike.result) ∙ c.loop-number.invariant.long;
       are =
           subst (λ (xs : List (Option ℕ)). (i : ℕ) → i < length xs → IsNumberFrom maps at i (get_or xs i None)) (sym put)
-          (number_put maps before at c.loop-number.number (plain_label label) (omega (arith, test)) there c.loop-number.invariant.are);
+          (number_put maps before at c.alike_or_own-alike.result c.loop-number.number (plain_label label) (plain_label like.0) (omega (arith, test)) there there_too like.2 c.loop-number.invariant.are);
     }
 
 pub returns : goal.returns

@@ -1,5 +1,5 @@
 use Rattle.std.proofs.Common.{◌≡◌, ◌<◌, ℕ, length, map, get_or, None}
-use Rattle.code_rules.specs.Codes.{plain_label}
+use Rattle.cell_code.specs.Plain.{plain_label}
 use Rattle.code_rows.specs.Numbering.{IsNumberFrom}
 use Rattle.code_rows.proofs.labels.numbers_of.Given as goal
 

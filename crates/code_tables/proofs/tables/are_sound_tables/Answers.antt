@@ -3,7 +3,7 @@ use Rattle.std.proofs.lemmas.Bool.{false≢true}
 use Rattle.fip_base.specs.declared.plain.NoMemory.{NoMemory}
 use Rattle.fip_language.specs.Table.{constructors}
 use Rattle.cell_code.specs.declared.code.Code.{Code}
-use Rattle.code_rules.specs.Codes.{plain}
+use Rattle.cell_code.specs.Plain.{plain}
 use Rattle.code_rules.specs.Limits.{most_types, most_functions}
 use Rattle.code_rules.specs.Tables.{AreSoundTables}
 use Rattle.code_tables.specs.Apart.{apart, is_some_name, none_met, function_names}

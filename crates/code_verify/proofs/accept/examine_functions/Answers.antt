@@ -1,5 +1,5 @@
 use Rattle.std.proofs.Common.{◌≡◌, ◌∙◌, Option, Some, None, length, sym, subst}
-use Rattle.code_rules.specs.Codes.{plain}
+use Rattle.cell_code.specs.Plain.{plain}
 use Rattle.code_rows.specs.declared.least.Violation.{Violation}
 use Rattle.code_rows.specs.Noting.{Answers}
 use Rattle.code_verify.specs.Surveying.{OwnBelow}

@@ -1,6 +1,6 @@
 use Rattle.std.proofs.Common.{◌≡◌, ◌∙◌, true, false, Some, Result, Ok, Err, IfOk, length, sym, ap}
 use Rattle.std.proofs.lemmas.Result.{IfOk-weaker}
-use Rattle.code_rules.specs.Codes.{plain, plain_function, function_at}
+use Rattle.cell_code.specs.Plain.{plain_function, plain, function_at}
 use Rattle.code_rules.specs.Headers.{is_formed}
 use Rattle.code_rows.specs.register_kinds.State.{of_types}
 use Rattle.code_verify.specs.Finding.{IsFound, HasMachineIntsBelow}

@@ -1,7 +1,7 @@
 use Rattle.std.proofs.Common.{◌≡◌, ◌∙◌, ◌+◌, ◌<◌, length, sym, subst, refl, arith}
 use Rattle.std.proofs.lemmas.Grind.{common_steps}
 use Rattle.std.proofs.lemmas.List.{length-map}
-use Rattle.code_rules.specs.Codes.{plain, plain_function}
+use Rattle.cell_code.specs.Plain.{plain_function, plain}
 use Rattle.code_rows.specs.Noting.{Answers}
 use Rattle.code_verify.specs.Surveying.{OwnBelow}
 use Rattle.code_verify.proofs.OwnCalls.{none_own, own_turn}
@@ -10,7 +10,7 @@ use Rattle.code_verify.proofs.accept.least_of.Goals as goal
 
 pub loop-number-init : goal.loop-number-init
 loop-number-init c =
-    none_own (plain c.args.code.now) (length (plain c.args.code.now).functions) c.args.survey.now.least.first c.requires.survey.least
+    none_own (plain c.args.code.now) (length (plain c.args.code.now).functions) c.args.survey.now.walked.least.first c.requires.survey.walked.least
 
 pub loop-number-preserved : goal.loop-number-preserved
 loop-number-preserved c =
@@ -20,9 +20,9 @@ loop-number-preserved c =
     let within : n < length code.functions.items = grind (arith, common_steps) in
     let long = length-map code.functions.items plain_function in
     own_turn (plain code) (length (plain code).functions) n (n + 1) (plain_function c.function_at.result.now) survey.groups
-    survey.calls.items survey.waiting.items survey.drops.items c.loop-number.least.first c.note_own.new.least.first refl
+    survey.walked.calls.items survey.walked.waiting.items survey.walked.drops.items c.loop-number.least.first c.note_own.new.least.first refl
     (omega (arith, within, long)) (omega arith) (is_at code n c.function_at.result.now c.function_at.ensures.is)
-    c.requires.survey.rows_are c.requires.survey.groups c.note_own.ensures c.loop-number.invariant
+    c.requires.survey.walked.rows_are c.requires.survey.groups c.note_own.ensures c.loop-number.invariant
 
 pub returns : goal.returns
 returns c =

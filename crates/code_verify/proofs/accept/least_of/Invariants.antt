@@ -1,5 +1,5 @@
 use Rattle.std.proofs.Common.{length}
-use Rattle.code_rules.specs.Codes.{plain}
+use Rattle.cell_code.specs.Plain.{plain}
 use Rattle.code_rows.specs.Noting.{Answers}
 use Rattle.code_verify.specs.Surveying.{OwnBelow}
 use Rattle.code_verify.proofs.accept.least_of.Given as goal

@@ -1,5 +1,5 @@
 use Rattle.std.proofs.Common.{subst}
-use Rattle.code_rules.specs.Codes.{plain}
+use Rattle.cell_code.specs.Plain.{plain}
 use Rattle.code_verify.specs.Releasing.{AreShort}
 use Rattle.code_verify.proofs.OwnCalls.{survey_releases, survey_flows, survey_literals}
 use Rattle.code_verify.proofs.Running.{runnable, formed_at}
@@ -8,8 +8,8 @@ use Rattle.code_verify.proofs.accept.settle.Goals as goal
 pub new-requires : goal.new-requires
 new-requires c =
     let code = c.args.code in
-    let s = c.args.survey in
-    let rows = c.requires.survey.rows_are in
+    let s = c.args.walked in
+    let rows = c.requires.walked.rows_are in
     let short = subst AreShort c.deref.ensures.value (c.are_short.ensures c.if-not-are_short.false) in
     record {
       verified = record {

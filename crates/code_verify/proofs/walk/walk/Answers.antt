@@ -1,4 +1,4 @@
-use Rattle.code_rules.specs.Codes.{plain, plain_function}
+use Rattle.cell_code.specs.Plain.{plain_function, plain}
 use Rattle.code_verify.proofs.Forms.{form_of, labels_below, IsForm}
 use Rattle.code_verify.proofs.walk.walk.Goals as goal
 

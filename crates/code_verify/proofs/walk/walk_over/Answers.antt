@@ -1,6 +1,6 @@
 use Rattle.std.proofs.Common.{◌≡◌, ◌∙◌, ◌+◌, length, subst, arith}
 use Rattle.std.proofs.lemmas.Grind.{common_steps}
-use Rattle.code_rules.specs.Codes.{plain, plain_function}
+use Rattle.cell_code.specs.Plain.{plain_function, plain}
 use Rattle.code_rows.specs.Placing.{code_in, with_maps}
 use Rattle.code_verify.specs.Finding.{IsFound, HasMachineIntsBelow}
 use Rattle.code_verify.proofs.Walking.{first_found, first_literals, next_literals}

@@ -1,5 +1,5 @@
 use Rattle.std.proofs.Common.{◌≡◌}
-use Rattle.code_rules.specs.Codes.{plain, plain_function}
+use Rattle.cell_code.specs.Plain.{plain_function, plain}
 use Rattle.code_rules.specs.Handing.{kept_if}
 use Rattle.code_verify.specs.Finding.{Coming, IsFound, HasMachineIntsBelow}
 use Rattle.code_verify.proofs.walk.walk_over.Given as goal

@@ -1,5 +1,5 @@
 use Rattle.std.proofs.Common.{◌≡◌, ◌-◌, refl, subst, length, map, slice_get}
-use Rattle.lowering_relation.specs.code_rules.Codes.{plain_label}
+use Rattle.cell_code.specs.Plain.{plain_label}
 use Rattle.lower_frame.specs.Labels.{stands_at}
 use Rattle.lower_frame.proofs.Labels.{reported_again}
 use Rattle.lower_frame.proofs.buffer.report.Goals as goal

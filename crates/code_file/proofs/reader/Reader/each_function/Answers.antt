@@ -2,7 +2,7 @@ use Rattle.std.proofs.Common.{List, ℕ, Global, map}
 use Rattle.std.specs.Prelude.{Vec}
 use Rattle.std.proofs.lemmas.Result.{err_from_is_err_and}
 use Rattle.cell_code.specs.declared.code.Function.{Function}
-use Rattle.code_file.specs.Plain.{plain_function}
+use Rattle.cell_code.specs.Plain.{plain_function}
 use Rattle.code_file.specs.Reading.{read, times, function_reader}
 use Rattle.code_file.proofs.Steps.{times_err, times_more_seen, times_all}
 use Rattle.code_file.proofs.reader.Reader.each_function.Goals as goal

@@ -1,6 +1,6 @@
 use Rattle.std.proofs.Common.{◌≡◌, ◌-◌, map}
 use Rattle.code_file.specs.Reading.{with_front, read, times, label_reader}
-use Rattle.code_file.specs.Plain.{plain_label}
+use Rattle.cell_code.specs.Plain.{plain_label}
 use Rattle.code_file.proofs.reader.Reader.each_label.Given as goal
 
 abbrev pub invariant-loop-i : goal.invariant-loop-i

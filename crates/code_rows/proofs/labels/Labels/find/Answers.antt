@@ -1,7 +1,7 @@
 use Rattle.std.proofs.Common.{◌≤◌, subst, map, length, None, arith}
 use Rattle.std.proofs.lemmas.Grind.{common_steps}
 use Rattle.std.proofs.lemmas.Option.{gets}
-use Rattle.code_rules.specs.Codes.{plain_label}
+use Rattle.cell_code.specs.Plain.{plain_label}
 use Rattle.code_rows.specs.Numbering.{IsNumber}
 use Rattle.code_rows.proofs.Steps.{number_past}
 use Rattle.code_rows.proofs.labels.Labels.find.Goals as goal

@@ -1,5 +1,5 @@
 use Rattle.std.proofs.Common.{subst}
-use Rattle.code_rules.specs.Codes.{plain}
+use Rattle.cell_code.specs.Plain.{plain}
 use Rattle.code_rules.specs.Tables.{AreSoundTables}
 use Rattle.code_rules.specs.Breaks.{IsSound}
 use Rattle.code_verify.specs.Checked.{Checked, HasMachineInts}

@@ -1,6 +1,6 @@
 use Rattle.std.proofs.Common.{◌≡◌, ◌∙◌, Some, sym, ap, subst}
 use Rattle.std.specs.Prelude.{slice_get}
-use Rattle.code_rules.specs.Codes.{plain}
+use Rattle.cell_code.specs.Plain.{plain}
 use Rattle.code_rules.specs.StackNumbers.{HasStack}
 use Rattle.code_verify.specs.Checked.{Checked, stack_at}
 use Rattle.code_verify.proofs.Running.{of_stack}

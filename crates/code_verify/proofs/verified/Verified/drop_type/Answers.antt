@@ -1,6 +1,6 @@
 use Rattle.std.proofs.Common.{◌≡◌, ◌↔◌, ◌∙◌, ℕ, Some, ap, subst}
 use Rattle.call_groups.specs.CallGraph.{In}
-use Rattle.code_rules.specs.Codes.{plain}
+use Rattle.cell_code.specs.Plain.{plain}
 use Rattle.code_verify.specs.Checked.{Checked, ReleasesAt}
 use Rattle.code_verify.specs.Steps.{drops_at}
 use Rattle.code_verify.specs.Surveying.{row_at}

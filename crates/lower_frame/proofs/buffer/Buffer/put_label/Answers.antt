@@ -1,7 +1,7 @@
 use Rattle.std.proofs.Common.{◌≡◌, rules, subst, sym, ap, ◌∙◌, map, Some, None, slice_get}
 use Rattle.lowering_relation.specs.Written.{Extends, size}
 use Rattle.lowering_relation.proofs.Placing.{put_there}
-use Rattle.lowering_relation.specs.code_rules.Codes.{plain_label}
+use Rattle.cell_code.specs.Plain.{plain_label}
 use Rattle.lower_frame.proofs.Labels.{reported_extends}
 use Rattle.lower_frame.proofs.buffer.Buffer.put_label.Goals as goal
 

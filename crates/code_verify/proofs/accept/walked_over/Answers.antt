@@ -1,12 +1,11 @@
 use Rattle.std.proofs.Common.{◌≡◌, ◌∙◌, ◌+◌, length, sym, ap, subst, arith}
 use Rattle.std.proofs.lemmas.Grind.{common_steps}
 use Rattle.std.proofs.lemmas.List.{length-map}
-use Rattle.call_groups.specs.CallGraph.{rows, IsPartition}
-use Rattle.code_rules.specs.Codes.{plain, plain_function}
+use Rattle.cell_code.specs.Plain.{plain_function, plain}
 use Rattle.code_rows.specs.Noting.{better_if, Answers}
 use Rattle.code_verify.specs.Surveying.{AreRowsBelow, OtherBelow}
 use Rattle.code_verify.proofs.Surveyed.{first_survey, survey_more}
-use Rattle.code_verify.proofs.accept.survey_over.Goals as goal
+use Rattle.code_verify.proofs.accept.walked_over.Goals as goal
 
 pub loop-number-init : goal.loop-number-init
 loop-number-init c =
@@ -34,5 +33,4 @@ returns c =
           subst (λ n. AreRowsBelow (plain code) n c.loop-number.calls.items c.loop-number.waiting.items c.loop-number.drops.items) same
           c.loop-number.invariant.rows;
       least = subst (λ n. Answers (OtherBelow (plain code) n) c.loop-number.least.first) same c.loop-number.invariant.least;
-      groups = subst (λ calls. IsPartition (rows calls) c.in_ok-groups.groups) c.deref.ensures.value c.in_ok-groups.ensures.groups;
     }

@@ -9,7 +9,7 @@ use Rattle.cell_code.specs.declared.code.Instr.TheVariants as I
 use Rattle.cell_code.specs.declared.kind.Kind.{Kind}
 use Rattle.cell_store.specs.Made.{Stored}
 use Rattle.machine_step.specs.code_verify.Checked.{Checked}
-use Rattle.machine_cells.specs.machine_semantics.Codes.{PlainFunction, PlainCode, plain, function_at}
+use Rattle.cell_code.specs.Plain.{PlainFunction, PlainCode, plain, function_at}
 use Rattle.machine_cells.specs.machine_semantics.Cells.{Store}
 use Rattle.machine_cells.specs.machine_semantics.States.{Frame, State, frames_held, words_held, Next, Went, Entered, Gave, Trapped, TooDeep, Stuck}
 use Rattle.machine_cells.specs.machine_semantics.Rows.{Done, read_all, write_all, operated, done, trap}

@@ -4,7 +4,7 @@
 use Rattle.std.proofs.Common.{◌≡◌, ℕ, zero, suc, ◌≤◌, max, List, refl, sym, ap, subst, ◌∙◌, arith}
 use Rattle.fip_language.specs.Gauge.{highest_frames, highest_words}
 use Rattle.cell_store.specs.Made.{Stored}
-use Rattle.machine_cells.specs.machine_semantics.Codes.{PlainCode, plain}
+use Rattle.cell_code.specs.Plain.{PlainCode, plain}
 use Rattle.machine_cells.specs.machine_semantics.States.{State, Next, Went, Entered, Gave, Trapped, TooDeep, Stuck, frames_held, words_held}
 use Rattle.machine_cells.specs.machine_semantics.Steps.{Kinds, next}
 use Rattle.machine_cells.specs.machine_semantics.Runs.{Value, Trap, Out, Deep, Unsound, Run, Going, Over, state_of, begun, comes, later, after}

@@ -4,7 +4,7 @@
 use Rattle.std.proofs.Common.{◌≡◌, ◌≢◌, ℕ, zero, suc, ◌-◌, List, [], refl, sym, ap, subst, ◌∙◌}
 use Rattle.cell_store.specs.Made.{Stored}
 use Rattle.machine_step.specs.code_verify.Checked.{Checked}
-use Rattle.machine_cells.specs.machine_semantics.Codes.{plain}
+use Rattle.cell_code.specs.Plain.{plain}
 use Rattle.machine_cells.specs.machine_semantics.States.{State, Next, Went, Entered, Gave, Trapped, TooDeep, Stuck}
 use Rattle.machine_cells.specs.machine_semantics.Steps.{next}
 use Rattle.machine_cells.specs.machine_semantics.Runs.{Value, Trap, Out, Deep, Unsound, Run, Going, Over, begun, comes, later}

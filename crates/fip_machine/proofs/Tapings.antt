@@ -7,7 +7,7 @@ use Rattle.cell_store.specs.Made.{Stored}
 use Rattle.cell_trace.specs.declared.tape.Tape.{Tape}
 use Rattle.cell_trace.specs.Traced.{Standing, Noted, standing_from}
 use Rattle.cell_trace.specs.Taped.{Recorded, IsTape, WasReported}
-use Rattle.machine_cells.specs.machine_semantics.Codes.{PlainCode, plain}
+use Rattle.cell_code.specs.Plain.{PlainCode, plain}
 use Rattle.machine_cells.specs.machine_semantics.Cells.{Change}
 use Rattle.machine_cells.specs.machine_semantics.States.{State, Next, Went, Entered, Gave, Trapped, TooDeep, Stuck}
 use Rattle.machine_cells.specs.machine_semantics.Steps.{Kinds, next, changes_of}

@@ -7,7 +7,7 @@ use Rattle.fip_language.specs.declared.limits.TheConstants.{MOST_FIELDS}
 use Rattle.fip_language.specs.Gauge as G
 use Rattle.cell_store.specs.Cells.{Cells, size_of, count_live}
 use Rattle.cell_store.specs.Made.{Stored}
-use Rattle.machine_cells.specs.machine_semantics.Codes.{PlainCode, plain}
+use Rattle.cell_code.specs.Plain.{PlainCode, plain}
 use Rattle.machine_cells.specs.machine_semantics.Cells.{Store, held_in, count_held}
 use Rattle.machine_cells.specs.machine_semantics.States.{Typed, State, frames_held, words_held}
 use Rattle.machine_cells.specs.machine_semantics.Steps.{Kinds}

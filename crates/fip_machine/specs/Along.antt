@@ -6,7 +6,8 @@ use Rattle.cell_code.specs.declared.code.Instr.TheVariants as I
 use Rattle.cell_store.specs.Cells.{Cells}
 use Rattle.cell_store.specs.Made.{Stored}
 use Rattle.machine_step.specs.code_verify.Checked.{Checked}
-use Rattle.machine_cells.specs.machine_semantics.Codes.{plain, instr_at}
+use Rattle.cell_code.specs.Plain.{plain}
+use Rattle.machine_cells.specs.machine_semantics.Codes.{instr_at}
 use Rattle.machine_cells.specs.machine_semantics.States.{Typed, State}
 use Rattle.machine_cells.specs.machine_semantics.Steps.{Kinds}
 use Rattle.machine_cells.specs.machine_semantics.Gauges.{seen}

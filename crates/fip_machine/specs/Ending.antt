@@ -4,7 +4,7 @@
 -- the machine answers Out, and stands before that call.
 use Rattle.std.specs.Prelude.{◌≡◌, ℕ, List, [], None}
 use Rattle.machine_step.specs.code_verify.Checked.{Checked}
-use Rattle.machine_cells.specs.machine_semantics.Codes.{PlainCode, plain}
+use Rattle.cell_code.specs.Plain.{PlainCode, plain}
 use Rattle.machine_cells.specs.machine_semantics.States.{Typed, State}
 use Rattle.machine_cells.specs.machine_semantics.Steps.{Kinds}
 use Rattle.machine_cells.specs.machine_semantics.Runs.{End, Value, Trap, Out, Deep, Unsound, Run, Going, Over, begun, after}

@@ -4,7 +4,7 @@
 use Rattle.std.specs.Prelude.{◌≡◌, ℕ, ◌-◌, ◌≤◌, Bool, true, false, List, min, slice_index_or}
 use Rattle.fip_language.specs.declared.limits.TheConstants.{MOST_FIELDS}
 use Rattle.fip_language.specs.Gauge.{Seen, lowest, highest, highest_frames, highest_words}
-use Rattle.machine_cells.specs.machine_semantics.Codes.{PlainCode}
+use Rattle.cell_code.specs.Plain.{PlainCode}
 use Rattle.machine_cells.specs.machine_semantics.Gauges.{seen}
 use Rattle.machine_cells.specs.machine_semantics.States.{State}
 use Rattle.machine_cells.specs.machine_semantics.Steps.{Kinds}

@@ -4,7 +4,7 @@ use Rattle.cell_store.specs.Made.{Stored}
 use Rattle.cell_trace.specs.declared.tape.Tape.{Tape}
 use Rattle.cell_trace.specs.Traced.{standing_from}
 use Rattle.cell_trace.specs.Taped.{Recorded, IsTape}
-use Rattle.machine_cells.specs.machine_semantics.Codes.{plain}
+use Rattle.cell_code.specs.Plain.{plain}
 use Rattle.machine_cells.specs.machine_semantics.Runs.{Run, Going, Over}
 use Rattle.machine_step.specs.declared.rows.Stepped.{Stepped}
 use Rattle.machine_step.specs.declared.rows.Stepped.TheVariants as S

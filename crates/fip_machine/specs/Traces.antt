@@ -5,7 +5,7 @@
 use Rattle.std.specs.Prelude.{ℕ, List, map}
 use Rattle.cell_trace.specs.declared.trace.Trace.{Trace}
 use Rattle.cell_trace.specs.Traced.{Noted, Reports, IsTooLong, standing_from}
-use Rattle.machine_cells.specs.machine_semantics.Codes.{PlainCode}
+use Rattle.cell_code.specs.Plain.{PlainCode}
 use Rattle.machine_cells.specs.machine_semantics.States.{State}
 use Rattle.machine_cells.specs.machine_semantics.Steps.{Kinds}
 use Rattle.machine_cells.specs.machine_semantics.Runs.{Value, Trap, Out, Deep, Unsound, Run, Going, Over, begun, after}

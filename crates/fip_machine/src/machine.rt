@@ -1,7 +1,7 @@
 // A machine: a task with a store of its own.
 ghost use Rattle.fip_language.specs.declared.limits.TheConstants.{MOST_FRAMES};
 ghost use Rattle.std.specs.Prelude.{◌≡◌, ◌<◌, ◌≤◌, true, List, [], length, IfOk, None, Some, slice_get};
-ghost use Rattle.machine_cells.specs.machine_semantics.Codes.{plain};
+ghost use Rattle.cell_code.specs.Plain.{plain};
 ghost use Rattle.machine_cells.specs.machine_semantics.States.{Typed, State};
 ghost use Rattle.machine_cells.specs.machine_semantics.Steps.{Kinds, next};
 ghost use Rattle.machine_cells.specs.machine_semantics.Runs.{loaded};

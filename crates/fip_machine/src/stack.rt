@@ -1,7 +1,7 @@
 // The frames of a task.
 ghost use Rattle.std.specs.Prelude.{◌≡◌, ◌≢◌, ℕ, ◌+◌, ◌*◌, ◌<◌, ◌≤◌, List, [], ◌++◌, length, vec_len, IfOk, None, Some};
 ghost use Rattle.std.specs.Prelude.{slice_get, false, true};
-ghost use Rattle.machine_cells.specs.machine_semantics.Codes.{plain};
+ghost use Rattle.cell_code.specs.Plain.{plain};
 ghost use Rattle.machine_cells.specs.machine_semantics.Cells.{Store};
 ghost use Rattle.machine_cells.specs.machine_semantics.States.{Typed, State};
 ghost use Rattle.machine_cells.specs.machine_semantics.Steps.{Kinds, first_words, next};

@@ -1,6 +1,6 @@
 // Runs that keep what they write.
 ghost use Rattle.std.specs.Prelude.{◌≡◌, ◌≢◌, ℕ, ◌-◌, ◌<◌, List, [], IfOk, OnOk, IfNone, IfSome, Some, None, Err, not};
-ghost use Rattle.machine_cells.specs.machine_semantics.Codes.{plain};
+ghost use Rattle.cell_code.specs.Plain.{plain};
 ghost use Rattle.machine_cells.specs.machine_semantics.States.{Typed};
 ghost use Rattle.machine_cells.specs.machine_semantics.Steps.{Kinds};
 ghost use Rattle.machine_cells.specs.Small.{IsSmall};

@@ -1,8 +1,9 @@
 // Operators on ints.
-ghost use Rattle.std.specs.Prelude.{◌≡◌, ℤ, ◌*ℤ◌, FitsSigned, IfSome, IfNone};
-ghost use Rattle.std.specs.Int.{w64};
+ghost use Rattle.std.specs.Prelude.{◌≡◌, ℤ, ◌*ℤ◌, FitsSigned, IfSome, IfNone, int_div, int_rem};
+ghost use Rattle.std.specs.Int.{w64, CanDivide, IsNonZero};
+ghost use Rattle.std.specs.Option.{SomeIff};
 ghost use Rattle.fip_language.specs.Arithmetic.{operate, int_or_overflow};
-ghost use Rattle.fip_language.specs.declared.Operator.TheVariants.{Multiply, Divide, Remainder};
+ghost use Rattle.fip_language.specs.declared.Operator.TheVariants.{Divide, Remainder};
 ghost use Rattle.machine_cells.specs.Outcomes.{Reports, truth_word};
 
 use fip_base::plain::{Operator, TrapKind};
@@ -34,35 +35,52 @@ fn in_range(exact: Option<i64>) -> Outcome
     }
 }
 
+// Products, quotients and remainders are calls, whose results are one or two words: an outcome that a call wrote would lie
+// in memory also where a sum or a comparison makes it.
 #[inline(never)]
-fn product(left: i64, right: i64) -> Outcome
-    ensures { Reports (operate Multiply left right) result }
+fn product(left: i64, right: i64) -> Option<i64>
+    ensures { SomeIff result (FitsSigned w64 (left *ℤ right)) (left *ℤ right) }
 {
-    in_range(left.checked_mul(right))
+    left.checked_mul(right)
 }
 
 #[inline(never)]
+fn divide(left: i64, right: i64) -> Option<i64>
+    ensures { SomeIff result (CanDivide w64 left right) (int_div left right) }
+{
+    left.checked_div(right)
+}
+
+#[inline(always)]
 fn quotient(left: i64, right: i64) -> Outcome
     ensures { Reports (operate Divide left right) result }
 {
     if right == 0 {
         return Outcome::Trap(TrapKind::DivideByZero);
     }
-    in_range(left.checked_div(right))
+    in_range(divide(left, right))
 }
 
 // The remainder has the sign of the dividend; by -1 it is 0, where the quotient may be out of range.
 #[inline(never)]
+fn modulo(left: i64, right: i64) -> i64
+    requires { IsNonZero w64 right }
+    ensures { result ≡ int_rem left right }
+{
+    if right == -1 {
+        return 0;
+    }
+    left % right
+}
+
+#[inline(always)]
 fn remainder(left: i64, right: i64) -> Outcome
     ensures { Reports (operate Remainder left right) result }
 {
     if right == 0 {
         return Outcome::Trap(TrapKind::DivideByZero);
     }
-    if right == -1 {
-        return Outcome::Int(0);
-    }
-    Outcome::Int((left % right).cast_unsigned())
+    Outcome::Int(modulo(left, right).cast_unsigned())
 }
 
 /// What an operator comes to.
@@ -73,7 +91,7 @@ pub fn outcome_of(operator: Operator, left: i64, right: i64) -> Outcome
     match operator {
         Operator::Add => in_range(left.checked_add(right)),
         Operator::Subtract => in_range(left.checked_sub(right)),
-        Operator::Multiply => product(left, right),
+        Operator::Multiply => in_range(product(left, right)),
         Operator::Divide => quotient(left, right),
         Operator::Remainder => remainder(left, right),
         Operator::Equal => Outcome::Flag(left == right),

@@ -244,13 +244,17 @@ fn clear_few(words: &mut [u64], from: usize, to: usize)
     }
 }
 
-/// The words from `from` up to `to` become 0: the first ones and the last ones, which may be the same.
+/// The registers of the frame at `base`, which has `own`, become 0 from number `given` on: the first ones and the last
+/// ones, which may be the same.
 #[inline(always)]
-pub fn clear(words: &mut [u64], from: usize, to: usize)
-    requires { to ≤ length words.old }
-    ensures { Clears from to words.old words.new }
+pub fn clear_rest(words: &mut [u64], base: usize, given: usize, own: usize)
+    requires given { given ≤ own }
+    requires room { base + own ≤ length words.old }
+    ensures { Clears (base + given) (base + own) words.old words.new }
 {
-    let count = to.saturating_sub(from);
+    let from = base + given;
+    let to = base + own;
+    let count = own - given;
     if count <= 8 {
         if count >= 4 {
             clear_fours(words, from, to);

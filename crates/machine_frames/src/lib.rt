@@ -3,4 +3,4 @@
 
 mod frame;
 
-pub use frame::{clear, give, pass, put, replace, take};
+pub use frame::{clear_rest, give, pass, put, replace, take};

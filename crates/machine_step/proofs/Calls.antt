@@ -6,7 +6,8 @@ use Rattle.cell_code.specs.declared.code.Function.{Function}
 use Rattle.cell_code.specs.declared.code.Instr.{Instr}
 use Rattle.cell_code.specs.declared.code.Instr.TheVariants as I
 use Rattle.code_verify.specs.Checked.{Checked}
-use Rattle.machine_frames.specs.machine_semantics.Codes.{PlainFunction, PlainCode, plain_function, instr_at}
+use Rattle.cell_code.specs.Plain.{PlainFunction, PlainCode, plain_function}
+use Rattle.machine_frames.specs.machine_semantics.Codes.{instr_at}
 use Rattle.machine_frames.specs.machine_semantics.Cells.{Store}
 use Rattle.machine_frames.specs.machine_semantics.States.{Typed, Frame, State}
 use Rattle.machine_frames.specs.machine_semantics.Rows.{write, write_all}

@@ -7,7 +7,8 @@ use Rattle.cell_code.specs.declared.code.Instr.{Instr}
 use Rattle.cell_code.specs.declared.kind.Kind.{Kind}
 use Rattle.cell_store.specs.Cells.{Cells}
 use Rattle.code_verify.specs.Checked.{Checked}
-use Rattle.machine_frames.specs.machine_semantics.Codes.{PlainCode, plain, instr_at, instr_in}
+use Rattle.cell_code.specs.Plain.{PlainCode, plain}
+use Rattle.machine_frames.specs.machine_semantics.Codes.{instr_at, instr_in}
 use Rattle.machine_frames.specs.machine_semantics.Cells.{Store}
 use Rattle.machine_frames.specs.machine_semantics.Rows.{constructor_of}
 use Rattle.machine_frames.specs.machine_semantics.States.{Typed, State, Next}

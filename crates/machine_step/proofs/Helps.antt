@@ -13,7 +13,7 @@ use Rattle.cell_code.specs.declared.code.Instr.{Instr}
 use Rattle.cell_code.specs.declared.kind.Kind.{Kind}
 use Rattle.cell_code.specs.Runnable.{AreBelow}
 use Rattle.cell_store.specs.Cells.{Cells, cell_at, size_in}
-use Rattle.machine_frames.specs.machine_semantics.Codes.{PlainCode}
+use Rattle.cell_code.specs.Plain.{PlainCode}
 use Rattle.machine_frames.specs.machine_semantics.Words.{scalar_word, int_of, is_place}
 use Rattle.machine_frames.specs.machine_semantics.Cells.{Store, cell_in}
 use Rattle.machine_frames.specs.machine_semantics.Rows.{constructor_if, constructor_of}

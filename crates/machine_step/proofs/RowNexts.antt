@@ -13,7 +13,7 @@ use Rattle.cell_code.specs.declared.code.Instr.TheVariants as I
 use Rattle.cell_code.specs.declared.kind.Kind.{Kind}
 use Rattle.cell_code.specs.Runnable.{AreBelow}
 use Rattle.code_verify.specs.Checked.{Checked}
-use Rattle.machine_frames.specs.machine_semantics.Codes.{plain}
+use Rattle.cell_code.specs.Plain.{plain}
 use Rattle.machine_frames.specs.machine_semantics.Words.{scalar_word, int_of, is_place, place_of, half_if}
 use Rattle.machine_frames.specs.machine_semantics.Cells.{Store, Change, Write, Release, cell_in, written, changed, changed_by}
 use Rattle.machine_frames.specs.machine_semantics.Trees.{tree_of}

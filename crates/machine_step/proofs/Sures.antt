@@ -7,7 +7,8 @@ use Rattle.cell_code.specs.declared.code.Instr.{Instr}
 use Rattle.cell_code.specs.declared.code.Instr.TheVariants as I
 use Rattle.cell_code.specs.declared.kind.Kind.{Kind}
 use Rattle.code_verify.specs.Checked.{Checked}
-use Rattle.machine_frames.specs.machine_semantics.Codes.{PlainCode, plain, instr_at}
+use Rattle.cell_code.specs.Plain.{PlainCode, plain}
+use Rattle.machine_frames.specs.machine_semantics.Codes.{instr_at}
 use Rattle.machine_frames.specs.machine_semantics.Cells.{Store, cell_in}
 use Rattle.machine_frames.specs.machine_semantics.Rows.{named, on, branch, constructor_of, write, write_all}
 use Rattle.machine_frames.specs.machine_semantics.States.{Typed, State}

@@ -7,7 +7,7 @@ use Rattle.cell_code.specs.declared.code.Instr.{Instr}
 use Rattle.cell_code.specs.declared.code.Instr.TheVariants as I
 use Rattle.cell_code.specs.declared.kind.Kind.{Kind}
 use Rattle.cell_store.specs.Reported.{Reported, Released}
-use Rattle.machine_frames.specs.machine_semantics.Codes.{PlainCode}
+use Rattle.cell_code.specs.Plain.{PlainCode}
 use Rattle.machine_frames.specs.machine_semantics.Cells.{Store, Change, Release, changed_by}
 use Rattle.machine_frames.specs.machine_semantics.States.{State, Next, Went, Entered, Gave, Trapped, TooDeep, Stuck}
 use Rattle.machine_frames.specs.machine_semantics.Rows.{on, on_with, branch, calculated, operated, write, done}

@@ -10,7 +10,7 @@ use Rattle.cell_code.specs.declared.code.Instr.TheVariants as I
 use Rattle.cell_code.specs.Runnable.{AreBelow, AreOthers}
 use Rattle.cell_store.specs.Cells.{Cells, cell_at}
 use Rattle.code_verify.specs.Checked.{Checked}
-use Rattle.machine_frames.specs.machine_semantics.Codes.{plain}
+use Rattle.cell_code.specs.Plain.{plain}
 use Rattle.machine_frames.specs.machine_semantics.Cells.{Store}
 use Rattle.machine_frames.specs.machine_semantics.Rows.{constructor_of}
 use Rattle.machine_frames.specs.machine_semantics.States.{Typed, State}

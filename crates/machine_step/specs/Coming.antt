@@ -4,9 +4,9 @@ use Rattle.std.specs.Prelude.{◌≡◌, ℕ, List, Some, slice_get}
 use Rattle.cell_code.specs.declared.code.Instr.{Instr}
 use Rattle.cell_code.specs.declared.code.Instr.TheVariants as I
 use Rattle.cell_code.specs.declared.kind.Kind.{Kind}
-use Rattle.code_verify.specs.code_rules.Codes as V
+use Rattle.cell_code.specs.Plain.{plain}
 use Rattle.code_verify.specs.Checked.{Checked, ReleasesAt}
-use Rattle.machine_frames.specs.machine_semantics.Codes.{plain, instr_at}
+use Rattle.machine_frames.specs.machine_semantics.Codes.{instr_at}
 use Rattle.machine_frames.specs.machine_semantics.Cells.{Store}
 use Rattle.machine_frames.specs.machine_semantics.States.{Typed, State, Next, Went, Entered, Gave, Trapped, TooDeep, Stuck}
 use Rattle.machine_frames.specs.machine_semantics.Rows.{owned_type}
@@ -46,9 +46,9 @@ IsReported v b kinds s ws c r t us d given = (lent : List Typed) → Comes (stat
 -- What a Drop releases, by the kinds, is what the verifier knows.
 abbrev pub KnowsDrop : Checked → Cursor → Instr → List Kind → Type 0
 KnowsDrop v c x ks = (r t : ℕ) → x ≡ I.Drop r → owned_type (slice_get ks r) ≡ Some t →
-    ReleasesAt (V.plain v.code) c.function c.at t
+    ReleasesAt (plain v.code) c.function c.at t
 
 -- So it is of the Drop, if it is one, that is instruction i of function f.
 abbrev pub KnowsAt : Checked → Kinds → ℕ → ℕ → Type 0
 KnowsAt v kinds f i = (r t : ℕ) → instr_at (plain v.code) f i ≡ Some (I.Drop r) →
-    owned_type (slice_get (kinds f i) r) ≡ Some t → ReleasesAt (V.plain v.code) f i t
+    owned_type (slice_get (kinds f i) r) ≡ Some t → ReleasesAt (plain v.code) f i t

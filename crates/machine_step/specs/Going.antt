@@ -7,7 +7,7 @@ use Rattle.cell_code.specs.declared.code.Instr.{Instr}
 use Rattle.cell_code.specs.declared.kind.Kind.{Kind}
 use Rattle.cell_store.specs.Cells.{Cells, cell_at}
 use Rattle.code_verify.specs.Checked.{Checked}
-use Rattle.machine_frames.specs.machine_semantics.Codes.{PlainCode, plain}
+use Rattle.cell_code.specs.Plain.{PlainCode, plain}
 use Rattle.machine_frames.specs.machine_semantics.Cells.{Store}
 use Rattle.machine_frames.specs.machine_semantics.States.{Typed, State, Next}
 use Rattle.machine_frames.specs.machine_semantics.Steps.{Kinds, act, next}

@@ -7,7 +7,7 @@ use Rattle.cell_code.specs.declared.code.Instr.{Instr}
 use Rattle.cell_code.specs.declared.kind.Kind.{Kind}
 use Rattle.cell_store.specs.Cells.{Cells}
 use Rattle.code_verify.specs.Checked.{Checked}
-use Rattle.machine_frames.specs.machine_semantics.Codes.{PlainCode, plain}
+use Rattle.cell_code.specs.Plain.{PlainCode, plain}
 use Rattle.machine_frames.specs.machine_semantics.States.{Typed, State}
 use Rattle.machine_frames.specs.machine_semantics.Steps.{Kinds, act, next}
 use Rattle.machine_cells.specs.Small.{IsSmall, store_of}

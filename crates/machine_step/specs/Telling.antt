@@ -5,7 +5,7 @@ use Rattle.cell_code.specs.declared.code.Instr.{Instr}
 use Rattle.cell_code.specs.declared.code.Instr.TheVariants as I
 use Rattle.cell_code.specs.declared.kind.Kind.{Kind}
 use Rattle.cell_store.specs.Reported.{Reported}
-use Rattle.machine_frames.specs.machine_semantics.Codes.{PlainCode}
+use Rattle.cell_code.specs.Plain.{PlainCode}
 use Rattle.machine_frames.specs.machine_semantics.States.{State, Next, Went, Entered, Gave, Trapped, TooDeep, Stuck}
 use Rattle.machine_frames.specs.machine_semantics.Rows.{done}
 use Rattle.machine_frames.specs.machine_semantics.Steps.{Kinds, act, next, changes_in, changes_of}

@@ -12,13 +12,12 @@ ghost use Rattle.cell_store.specs.Cells.{cell_at, size_in};
 ghost use Rattle.cell_store.specs.Reported.{Reported, Released};
 ghost use Rattle.cell_code.specs.Runnable.{AreBelow, CanCall, Covers, Row, IsSafe, IsRunnable, body_of};
 ghost use Rattle.cell_code.specs.declared.kind.Kind.{Kind};
-ghost use Rattle.code_verify.specs.code_rules.Codes as V;
+ghost use Rattle.cell_code.specs.Plain.{plain};
 ghost use Rattle.code_verify.specs.Checked.{ReleasesAt};
 ghost use Rattle.machine_frames.specs.machine_semantics.Cells.{Store, Release, changed_by};
 ghost use Rattle.machine_frames.specs.machine_semantics.Trees.{tree_of};
 ghost use Rattle.machine_frames.specs.machine_semantics.Words.{int_of};
 ghost use Rattle.machine_frames.specs.machine_semantics.States.{Typed};
-ghost use Rattle.machine_frames.specs.machine_semantics.Codes.{plain};
 ghost use Rattle.machine_frames.specs.machine_semantics.Steps.{Kinds, act, next};
 ghost use Rattle.machine_frames.specs.Keeping.{Keeps};
 ghost use Rattle.machine_frames.specs.Words.{words_from, put_words};
@@ -44,7 +43,7 @@ use machine_cells::{
     Outcome, SIZES, bool_word, cell_of, field_cell_of, has_size, outcome_of, release_cell,
     release_tree, sized_cell_of,
 };
-use machine_frames::{clear, give, pass, put, replace, take};
+use machine_frames::{clear_rest, give, pass, put, replace, take};
 
 /// What a step came to.
 #[derive(Clone, Copy, PartialEq, Eq)]
@@ -786,9 +785,8 @@ fn enter_again(
     ensures same { IsSame cursor.old cursor.new }
 {
     let base = cursor.base;
-    let end = base + cursor.registers;
     replace(words, spare, base, cursor.registers, arguments);
-    clear(words, base + arguments.len(), end);
+    clear_rest(words, base, arguments.len(), cursor.registers);
     cursor.at = 0;
     Stepped::Entered
 }
@@ -829,7 +827,7 @@ fn call<'a>(
     words[end] = cursor.function as u64;
     words[end + 1] = cursor.at as u64;
     pass(words, cursor.base, cursor.registers, above, arguments);
-    clear(words, above + arguments.len(), above + registers);
+    clear_rest(words, above, arguments.len(), registers);
     let frames = cursor.frames + 1;
     enter(
         verified,
@@ -875,7 +873,7 @@ fn enter_instead<'a>(
     let registers = callee.registers as usize;
     let base = cursor.base;
     replace(words, spare, base, cursor.registers, arguments);
-    clear(words, base + arguments.len(), base + registers);
+    clear_rest(words, base, arguments.len(), registers);
     cursor.instrs = callee.instrs.as_slice();
     cursor.registers = registers;
     cursor.function = function as usize;
@@ -1059,14 +1057,14 @@ fn drop_tree<C: Cells>(
     ensures spare { vec_len beside.new.spare ≡ vec_len beside.old.spare }
     ensures cells { C.cells cells.new ≡ C.cells cells.old }
     ensures pushed { C.pushed cells.old ≡ [] → C.pushed cells.new ≡ [] }
-    ensures released { (t : ℕ) → ReleasesAt (V.plain verified.now.code) cursor.now.function cursor.now.at t →
+    ensures released { (t : ℕ) → ReleasesAt (plain verified.now.code) cursor.now.function cursor.now.at t →
         IsSmall (C.cells cells.old) → C.pushed cells.old ≡ [] → (x : Placed) (s : Store) →
         tree_of verified.now.code.types (store_of (C.cells cells.old) (C.released cells.old)) t word ≡ Some x →
         changed_by (map (λ p. Release p) (places x)) (store_of (C.cells cells.old) (C.released cells.old)) ≡ Some s →
         store_of (C.cells cells.new) (C.released cells.new) ≡ s }
     ensures counted { CountsReleased (C.cells cells.old) (C.released cells.old) beside.old.freed (C.cells cells.new)
         (C.released cells.new) beside.new.freed }
-    ensures reported { (t : ℕ) → ReleasesAt (V.plain verified.now.code) cursor.now.function cursor.now.at t →
+    ensures reported { (t : ℕ) → ReleasesAt (plain verified.now.code) cursor.now.function cursor.now.at t →
         IsSmall (C.cells cells.old) → C.pushed cells.old ≡ [] → (x : Placed) (s : Store) →
         tree_of verified.now.code.types (store_of (C.cells cells.old) (C.released cells.old)) t word ≡ Some x →
         changed_by (map (λ p. Release p) (places x)) (store_of (C.cells cells.old) (C.released cells.old)) ≡ Some s →

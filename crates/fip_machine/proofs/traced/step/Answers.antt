@@ -3,7 +3,7 @@ use Rattle.std.proofs.Common.{◌≡◌, ◌∙◌, ℕ, suc, [], None, sym, ap,
 use Rattle.std.proofs.lemmas.List.{append-nil}
 use Rattle.cell_store.specs.Made.{Stored}
 use Rattle.cell_trace.specs.Taped.{IsTape, WasReported}
-use Rattle.machine_cells.specs.machine_semantics.Codes.{plain}
+use Rattle.cell_code.specs.Plain.{plain}
 use Rattle.machine_cells.specs.machine_semantics.Steps.{next}
 use Rattle.machine_step.specs.code_verify.Checked.{Checked}
 use Rattle.machine_cells.specs.Small.{IsSmall}

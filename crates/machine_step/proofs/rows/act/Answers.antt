@@ -6,7 +6,7 @@ use Rattle.std.proofs.lemmas.Int.{to_z-of_z}
 use mir.Val.{SFits, of_z}
 use Rattle.fip_language.specs.Matching.{same_int}
 use Rattle.machine_frames.specs.machine_semantics.Words.{int_of}
-use Rattle.machine_frames.specs.machine_semantics.Codes.{plain}
+use Rattle.cell_code.specs.Plain.{plain}
 use Rattle.machine_frames.specs.machine_semantics.Steps.{act}
 use Rattle.machine_cells.specs.Small.{store_of}
 use Rattle.machine_cells.specs.Counting.{CountsReleased, held_or_freed}

@@ -1,5 +1,5 @@
 use Rattle.std.proofs.Common.{◌≡◌, ◌∙◌, ◌++◌, map, Option, Some, refl, sym, ap, subst, length, take}
-use Rattle.machine_frames.specs.machine_semantics.Codes.{plain}
+use Rattle.cell_code.specs.Plain.{plain}
 use Rattle.machine_frames.specs.machine_semantics.States.{State}
 use Rattle.cell_code.specs.declared.code.Instr.{Instr}
 use Rattle.machine_frames.specs.machine_semantics.Steps.{act, act_at, changes_at, instr_of, next}

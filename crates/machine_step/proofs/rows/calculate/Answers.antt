@@ -13,7 +13,7 @@ use Rattle.machine_frames.specs.machine_semantics.States.{State}
 use Rattle.machine_cells.specs.Small.{store_of}
 use Rattle.machine_step.specs.View.{words_of, state_of}
 use Rattle.machine_step.proofs.RowNexts.{value_next, trap_next}
-use Rattle.machine_frames.specs.machine_semantics.Codes.{plain}
+use Rattle.cell_code.specs.Plain.{plain}
 use Rattle.machine_step.proofs.Goings.{alone, with_more, written_there}
 use Rattle.machine_step.proofs.Helps.{signed_is, no_loop, reports_int, reports_int_not, reports_flag, reports_flag_not, reports_trap, reports_trap_not}
 use Rattle.machine_step.proofs.rows.calculate.Goals as goal

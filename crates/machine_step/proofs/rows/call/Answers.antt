@@ -5,7 +5,7 @@ use Rattle.machine_frames.specs.Keeping.{Keeps}
 use Rattle.machine_step.specs.Placed.{Waiting}
 use Rattle.machine_step.proofs.Fitting.{two_more}
 use Rattle.machine_step.proofs.Stacked.{keeps_both, keeps_less, waiting_call}
-use Rattle.machine_frames.specs.machine_semantics.Codes.{plain_function, plain, function_at}
+use Rattle.cell_code.specs.Plain.{plain_function, plain, function_at}
 use Rattle.machine_frames.specs.machine_semantics.Rows.{read_all}
 use Rattle.machine_frames.specs.machine_semantics.Steps.{first_words}
 use Rattle.std.specs.Prelude.{slice_get}
@@ -30,13 +30,13 @@ returns-clause-waiting c =
     let above = end + 2 in
     let one = slice_set ws end cursor.function in
     let two = slice_set one (end + 1) cursor.at in
-    let keeps = keeps_both above two c.pass.new.words c.clear.new.words c.pass.ensures.keeps (keeps_less (above + length c.args.arguments.now) above c.pass.new.words c.clear.new.words (omega arith) c.clear.ensures.keeps) in
+    let keeps = keeps_both above two c.pass.new.words c.clear_rest.new.words c.pass.ensures.keeps (keeps_less (above + length c.args.arguments.now) above c.pass.new.words c.clear_rest.new.words (omega arith) c.clear_rest.ensures.keeps) in
     let room = two_more v b (length ws) cursor c.requires.placed c.requires.roomy in
     let long = length-set ws end cursor.function in
-    let first : get_or c.clear.new.words end 0 ≡ cursor.function = keeps end (omega arith) ∙ get_or-set_other one (end + 1) end cursor.at 0 (λ e. omega (arith, e)) ∙ get_or-set_same ws end cursor.function 0 (omega (arith, room)) in
-    let second : get_or c.clear.new.words (end + 1) 0 ≡ cursor.at = keeps (end + 1) (omega arith) ∙ get_or-set_same one (end + 1) cursor.at 0 (omega (arith, room, long)) in
-    let below : Keeps cursor.base ws c.clear.new.words = λ i l. keeps i (omega (arith, l)) ∙ get_or-set_other one (end + 1) i cursor.at 0 (λ e. omega (arith, e, l)) ∙ get_or-set_other ws end i cursor.function 0 (λ e. omega (arith, e, l)) in
-    subst (Waiting v b c.clear.new.words c.enter.new.cursor.frames) (sym c.enter.ensures.base) (subst (λ n. Waiting v b c.clear.new.words n above) (let e : suc cursor.frames ≡ c.enter.new.cursor.frames = let f = c.enter.ensures.frames in omega (arith, f) in e) (waiting_call v b (length ws) cursor ws c.clear.new.words c.requires.placed c.requires.next c.requires.waiting below first second))
+    let first : get_or c.clear_rest.new.words end 0 ≡ cursor.function = keeps end (omega arith) ∙ get_or-set_other one (end + 1) end cursor.at 0 (λ e. omega (arith, e)) ∙ get_or-set_same ws end cursor.function 0 (omega (arith, room)) in
+    let second : get_or c.clear_rest.new.words (end + 1) 0 ≡ cursor.at = keeps (end + 1) (omega arith) ∙ get_or-set_same one (end + 1) cursor.at 0 (omega (arith, room, long)) in
+    let below : Keeps cursor.base ws c.clear_rest.new.words = λ i l. keeps i (omega (arith, l)) ∙ get_or-set_other one (end + 1) i cursor.at 0 (λ e. omega (arith, e, l)) ∙ get_or-set_other ws end i cursor.function 0 (λ e. omega (arith, e, l)) in
+    subst (Waiting v b c.clear_rest.new.words c.enter.new.cursor.frames) (sym c.enter.ensures.base) (subst (λ n. Waiting v b c.clear_rest.new.words n above) (let e : suc cursor.frames ≡ c.enter.new.cursor.frames = let f = c.enter.ensures.frames in omega (arith, f) in e) (waiting_call v b (length ws) cursor ws c.clear_rest.new.words c.requires.placed c.requires.next c.requires.waiting below first second))
 
 pub returns-then-cursor-bounds-clause-next : goal.returns-then-cursor-bounds-clause-next
 returns-then-cursor-bounds-clause-next c ks s given ds lent =
@@ -55,7 +55,7 @@ returns-clause-next c ks s given ds lent =
     let v = c.args.verified.now in
     let b = c.args.bounds in
     let ws = c.args.words.now in
-    let us = c.clear.new.words in
+    let us = c.clear_rest.new.words in
     let cursor = c.args.cursor.now in
     let after = c.enter.new.cursor in
     let old = state_of v b lent s ws cursor in
@@ -68,8 +68,8 @@ returns-clause-next c ks s given ds lent =
     let room = two_more v b (length ws) cursor c.requires.placed c.requires.roomy in
     let long = length-set ws end cursor.function in
     let long_two = length-set one (end + 1) cursor.at in
-    let total = c.clear.auto.words ∙ c.pass.auto.words in
-    let keeps = keeps_both above two c.pass.new.words us c.pass.ensures.keeps (keeps_less (above + length ss) above c.pass.new.words us (omega arith) c.clear.ensures.keeps) in
+    let total = c.clear_rest.auto.words ∙ c.pass.auto.words in
+    let keeps = keeps_both above two c.pass.new.words us c.pass.ensures.keeps (keeps_less (above + length ss) above c.pass.new.words us (omega arith) c.clear_rest.ensures.keeps) in
     let first : get_or us end 0 ≡ cursor.function = keeps end (omega arith) ∙ get_or-set_other one (end + 1) end cursor.at 0 (λ e. omega (arith, e)) ∙ get_or-set_same ws end cursor.function 0 (omega (arith, room)) in
     let second : get_or us (end + 1) 0 ≡ cursor.at = keeps (end + 1) (omega arith) ∙ get_or-set_same one (end + 1) cursor.at 0 (omega (arith, room, long)) in
     let own : Keeps end ws two = λ i l. get_or-set_other one (end + 1) i cursor.at 0 (λ e. omega (arith, e, l)) ∙ get_or-set_other ws end i cursor.function 0 (λ e. omega (arith, e, l)) in
@@ -87,9 +87,16 @@ returns-clause-next c ks s given ds lent =
     let few : length ss ≤ g.registers = subst (λ (h : Function). length ss ≤ h.registers) (same_Some can.0 g (sym can.1 ∙ c.function_at.ensures.is)) can.2 in
     let free = placed.room in
     let start = c.enter.ensures.base in
-    let frame = first_frame_of base above g.registers two c.pass.new.words us ss c.pass.ensures.given c.clear.ensures few (omega (arith, free, start, registers, total)) in
+    let frame = first_frame_of base above g.registers two c.pass.new.words us ss c.pass.ensures.given c.clear_rest.ensures few (omega (arith, free, start, registers, total)) in
     let words : words_of us after ≡ first_words g.registers vs = (λ i. frame_at (start i) (registers i) us) ∙ frame ∙ ap (first_words g.registers) read in
     let left = c.if-cursor-bounds.false in
     let some : b.frames - cursor.frames ≡ suc (b.frames - cursor.frames - 1) = omega (arith, left) in
     let here : registers_of v.code.functions.items cursor.function ≡ cursor.registers = registers_is v.code.functions.items cursor.function c.requires.placed.is.0 c.requires.placed.is.1 ∙ c.requires.placed.is.2 in
     called_is old c.args.function (plain_function g) (function_at (plain v.code) c.args.function) (read_all (words_of ws cursor) ss) vs (b.frames - cursor.frames - 1) S.Entered (state_of v b lent s us after) given (plain_at v.code.functions.items c.args.function g c.function_at.ensures.is) (frame_read base cursor.registers ws ss c.requires.arguments (omega (arith, room))) some refl (above_is v b lent s ws us cursor after c.args.function (b.frames - cursor.frames - 1) (plain_function g) vs here some reach first second below running c.enter.ensures.function c.enter.ensures.at start c.enter.ensures.frames words)
+
+-- a function has a register for each argument
+pub clear_rest-requires-clause-given : goal.clear_rest-requires-clause-given
+clear_rest-requires-clause-given c =
+    let can = c.requires.callee in
+    let g = c.function_at.result.now in
+    subst (λ (h : Function). length c.args.arguments.now ≤ h.registers) (same_Some can.0 g (sym can.1 ∙ c.function_at.ensures.is)) can.2

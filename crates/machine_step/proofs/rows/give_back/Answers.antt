@@ -5,7 +5,8 @@ use Rattle.cell_code.specs.Runnable.{Body, IsSafe}
 use Rattle.cell_code.proofs.Following.{safe_here}
 use Rattle.machine_step.proofs.Stacked.{waiting_keeps}
 use Rattle.std.specs.Prelude.{slice_get}
-use Rattle.machine_frames.specs.machine_semantics.Codes.{plain, instr_in}
+use Rattle.cell_code.specs.Plain.{plain}
+use Rattle.machine_frames.specs.machine_semantics.Codes.{instr_in}
 use Rattle.machine_frames.specs.machine_semantics.Rows.{read_all}
 use Rattle.machine_frames.specs.View.{registers_of, frame_at, waiting_in}
 use Rattle.machine_frames.specs.Words.{words_from, put_words}

@@ -2,7 +2,7 @@ use Rattle.std.proofs.Common.{sym, subst}
 use Rattle.machine_step.specs.View.{state_of}
 use Rattle.machine_step.specs.Coming.{Comes}
 use Rattle.cell_code.specs.declared.code.Instr.TheVariants as I
-use Rattle.machine_frames.specs.machine_semantics.Codes.{plain}
+use Rattle.cell_code.specs.Plain.{plain}
 use Rattle.machine_frames.specs.machine_semantics.Steps.{act}
 use Rattle.machine_step.proofs.rows.tail.Goals as goal
 

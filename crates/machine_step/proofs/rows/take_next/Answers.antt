@@ -3,7 +3,7 @@ use Rattle.std.proofs.Common.{◌≡◌, ◌∙◌, ◌+◌, ◌/◌, ◌<◌, L
 use Rattle.cell_code.specs.Runnable.{AreBelow, AreOthers, Row, IsSafe}
 use Rattle.cell_code.specs.declared.code.Instr.TheVariants as I
 use Rattle.cell_store.specs.Cells.{cell_at, size_in}
-use Rattle.machine_frames.specs.machine_semantics.Codes.{plain}
+use Rattle.cell_code.specs.Plain.{plain}
 use Rattle.machine_cells.specs.Small.{store_of}
 use Rattle.machine_step.specs.Placed.{body_at}
 use Rattle.machine_step.specs.View.{words_of, state_of}

@@ -7,7 +7,7 @@ use Rattle.cell_store.specs.Cells.{cell_at}
 use Rattle.machine_cells.specs.Small.{store_of}
 use Rattle.machine_cells.proofs.Pendings.{same_cell, is_there}
 use Rattle.machine_step.specs.declared.rows.Stepped.TheVariants as S
-use Rattle.machine_frames.specs.machine_semantics.Codes.{plain}
+use Rattle.cell_code.specs.Plain.{plain}
 use Rattle.machine_frames.specs.machine_semantics.Cells.{Store}
 use Rattle.machine_frames.specs.machine_semantics.States.{State}
 use Rattle.machine_frames.proofs.Viewed.{frame_get}

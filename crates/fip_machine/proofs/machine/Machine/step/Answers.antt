@@ -1,5 +1,5 @@
 use Rattle.std.proofs.Common.{◌≡◌, [], None, subst}
-use Rattle.machine_cells.specs.machine_semantics.Codes.{plain}
+use Rattle.cell_code.specs.Plain.{plain}
 use Rattle.machine_cells.specs.machine_semantics.Steps.{next}
 use Rattle.machine_cells.specs.Small.{IsSmall, store_of}
 use Rattle.machine_step.specs.Coming.{Comes, KnowsAt}

@@ -2,7 +2,8 @@ use Rattle.std.proofs.Common.{◌≡◌, ◌∙◌, List, Some, refl, sym, ap, s
 use Rattle.std.specs.Prelude.{slice_get}
 use Rattle.std.proofs.lemmas.Option.{slice_get_read}
 use Rattle.cell_code.specs.declared.code.Instr.{Instr}
-use Rattle.machine_cells.specs.machine_semantics.Codes.{plain, instr_at, instr_in}
+use Rattle.cell_code.specs.Plain.{plain}
+use Rattle.machine_cells.specs.machine_semantics.Codes.{instr_at, instr_in}
 use Rattle.machine_step.proofs.Calls.{plain_at}
 use Rattle.fip_machine.specs.Tasks.{Stand}
 use Rattle.fip_machine.specs.Along.{is_call_in, calls_next}

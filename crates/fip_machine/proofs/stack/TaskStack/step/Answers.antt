@@ -1,7 +1,7 @@
 use Rattle.std.proofs.Common.{◌≡◌, ◌+◌, ◌≤◌, ◌∙◌, ◌++◌, ℕ, List, rules, refl, sym, ap, subst, arith, length, take}
 use Rattle.std.specs.Vec.{with_items}
 use Rattle.std.proofs.lemmas.List.{with_items_is}
-use Rattle.machine_cells.specs.machine_semantics.Codes.{plain}
+use Rattle.cell_code.specs.Plain.{plain}
 use Rattle.machine_cells.specs.machine_semantics.States.{State}
 use Rattle.machine_cells.specs.machine_semantics.Steps.{next}
 use Rattle.machine_cells.specs.Small.{store_of}

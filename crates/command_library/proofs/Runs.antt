@@ -23,7 +23,7 @@ use Rattle.fip_machine.specs.declared.machine.Ended.{Ended}
 use Rattle.fip_machine.specs.declared.machine.Ended.TheVariants as M
 use Rattle.fip_machine.specs.Machines.{Seen}
 use Rattle.fip_machine.specs.Tasks.{state_with}
-use Rattle.command_tasks.specs.command_run.code_rules.Codes.{PlainFunction, plain, plain_function, function_at}
+use Rattle.fip_machine.specs.cell_code.Plain.{PlainFunction, plain_function, plain, function_at}
 use Rattle.command_tasks.specs.command_run.session_semantics.Talk.{frames_of}
 use Rattle.command_tasks.specs.command_run.command_source.Entries.{Chosen}
 use Rattle.command_tasks.specs.command_run.command_source.ProgramCode.{IsEntryOf}

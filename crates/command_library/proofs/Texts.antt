@@ -1,6 +1,8 @@
 -- A name of the library has one text.
-use Rattle.std.proofs.Common.{◌≡◌, ◌∙◌, ◌==◌, ℕ, List, refl, sym, ap, slice_index, if◌then◌else◌}
-use Rattle.std.specs.Prelude.{codes}
+use Rattle.std.proofs.Common.{◌≡◌, ◌∙◌, ◌==◌, ℕ, List, refl, sym, ap, inl, inr, slice_index, if◌then◌else◌}
+use Rattle.std.specs.Prelude.{Option, None, Some, IsSome, codes}
+use Rattle.std.proofs.lemmas.Option.{none-some}
+use Rattle.library_sources.specs.Names.{IsTextName}
 use Rattle.library_sources.specs.Texts.{IsText, OfList, OfTree, OfRedBlackTree, OfFingerTree}
 use Rattle.library_sources.specs.declared.list.TheConstants as List'
 use Rattle.library_sources.specs.declared.tree.TheConstants as Tree
@@ -28,3 +30,10 @@ text_once name other t u same h k = text_is name t h ∙ ap (λ n. text_by (slic
 -- that of `gen`
 pub tree_text_is : (text : List ℕ) → IsText (codes "rbtree") text → text ≡ tree_source
 tree_text_is text h = text_is (codes "rbtree") text h
+
+pub tree_named : IsTextName (codes "rbtree")
+tree_named = inr (inr (inl refl))
+
+pub no_text : {A : Type 0} (o : Option A) → o ≡ None → IsSome o → ⊥
+no_text None e h = cc
+no_text (Some x) e h = none-some x (sym e)

@@ -20,19 +20,17 @@ use cell_store::Sealed;
 use command_outcome::{Failure, tree_lines};
 use command_tasks::runner::source::{Ready, exec_entry};
 use command_tasks::runner::{Left, failure_of, leave, started, types_of};
-use command_words::Room;
 use fip_base::plain::NoMemory;
 use fip_language::limits::{MOST_FILE_BYTES, MOST_STORE_WORDS};
 use fip_machine::{Gauge, Machine};
+use fip_room::Room;
 use library_sources::text;
 use std::alloc::Global;
 
 // The room of a run that makes a tree.
 const CALLS: u64 = 1_000_000_000;
 
-const FRAMES: u64 = 10_000;
-
-const WORDS: u64 = MOST_STORE_WORDS as u64;
+const FRAMES: usize = 10_000;
 
 // The lines of a tree of so many keys, by the words of those of its nodes.
 fn lines_of(alloc: Global, count: u64, keys: &[u64]) -> Result<Vec<u8>, NoMemory>
@@ -96,7 +94,7 @@ fn make(
     let room = Room {
         calls: CALLS,
         frames: FRAMES,
-        words: WORDS,
+        words: MOST_STORE_WORDS,
     };
     let mut machine = match started(alloc, ready, input.as_slice(), room) {
         Ok(machine) => machine,
@@ -140,6 +138,6 @@ pub fn generate(
             Err(failure) => Err(failure),
         },
         // The library has this text.
-        None => Err(Failure::NoMemory),
+        None => unreachable!(),
     }
 }

@@ -1,7 +1,7 @@
 -- From what was loaded to a machine at the start of its function.
 use Rattle.std.proofs.Common.{◌≡◌, ◌∙◌, ◌≤◌, ℕ, List, [], length, Some, slice_get, option_map, sym, ap, ap₂, subst, arith}
 use Rattle.std.proofs.lemmas.Option.{same_Some, slice_get-map}
-use Rattle.std.specs.Prelude.{min}
+use Rattle.fip_language.specs.declared.limits.TheConstants.{MOST_FRAMES}
 use Rattle.fip_language.specs.SoundTable.{IsSoundTable}
 use Rattle.fip_language.specs.Store.{values_of}
 use Rattle.fip_language.specs.Table.{Table}
@@ -12,7 +12,7 @@ use Rattle.cell_store.specs.Made.{Loading}
 use Rattle.command_words.specs.Words.{Room}
 use Rattle.command_outcome.specs.declared.failure.Failure.{Failure}
 use Rattle.command_eval.specs.machine_correctness.machine_semantics.Cells.{Store}
-use Rattle.command_eval.specs.machine_correctness.machine_semantics.Codes as R
+use Rattle.fip_machine.specs.cell_code.Plain.{PlainFunction, plain_function, plain, function_at}
 use Rattle.command_eval.specs.machine_correctness.machine_semantics.Runs.{loaded, loaded_in, lent_words}
 use Rattle.command_eval.specs.machine_correctness.machine_semantics.States.{State}
 use Rattle.command_eval.specs.machine_correctness.machine_semantics.Steps.{first_frame}
@@ -22,11 +22,8 @@ use Rattle.fip_machine.specs.Machines.{Seen}
 use Rattle.fip_machine.specs.Tasks.{state_with, IsFresh}
 use Rattle.fip_machine.specs.machine_cells.Small.{IsSmall, store_of}
 use Rattle.command_eval.specs.machine_correctness.code_rules.Breaks.{IsSound}
-use Rattle.command_eval.specs.machine_correctness.code_rules.Codes.{PlainFunction, plain, plain_function, function_at}
 use Rattle.command_eval.specs.machine_correctness.code_rules.StackNumbers.{HasStack}
 use Rattle.value_text.specs.Loaded.{types_of}
-use Rattle.command_eval.specs.machine_correctness.run_loading.Loading.{first_store, first_words}
-use Rattle.command_eval.proofs.machine_correctness.Starting.{read}
 use Rattle.command_eval.proofs.machine_correctness.Texts.{text_begins}
 use Rattle.command_eval.specs.command_source.Entries.{Chosen}
 use Rattle.command_run.specs.Starting.{IsInNewStore, HasFrames, KeepsFromLoading, IsStarted, KeepsFromStart}
@@ -48,10 +45,8 @@ moved P tb tb' ps ps' ks ks' a b d h = subst (λ t. P t ps' ks') a (subst (λ qs
 
 -- ---- its frames
 
-pub bounded : (r : Chosen) (given frames : ℕ) (s : Stack) → IsSound (plain r.checked.code) → HasStack (plain r.checked.code) r.entry (Some s) → frames ≡ min s.frames 1000000 → HasFrames r given frames
-bounded r given frames s sound h is =
-    let few = few_frames (plain r.checked.code) r.entry s sound h.1 in
-    record { held = Some s; stack = h; are = omega (arith, few, is) }
+pub bounded : (r : Chosen) (s : Stack) → IsSound (plain r.checked.code) → HasStack (plain r.checked.code) r.entry (Some s) → s.frames ≤ MOST_FRAMES
+bounded r s sound h = (let few = few_frames (plain r.checked.code) r.entry s sound h.1 in omega (arith, few))
 
 -- ---- the state
 
@@ -59,18 +54,18 @@ module _ (r : Chosen) (g : Function) (frames : ℕ) (s : Store) (ws : List ℕ) 
   abbrev first : State
   first = record {
     store = s;
-    running = first_frame r.entry (R.plain_function g) ws;
+    running = first_frame r.entry (plain_function g) ws;
     waiting = [];
     free = frames;
-    lent = lent_words r.checked.code.types (R.plain_function g).params ws;
+    lent = lent_words r.checked.code.types (plain_function g).params ws;
   }
 
-  loads : slice_get r.checked.code.functions.items r.entry ≡ Some g → loaded (R.plain r.checked.code) r.entry s ws frames ≡ Some first
-  loads at = ap (λ o. loaded_in r.checked.code.types r.entry o s ws frames) (slice_get-map R.plain_function r.checked.code.functions.items r.entry ∙ ap (option_map R.plain_function) at)
+  loads : slice_get r.checked.code.functions.items r.entry ≡ Some g → loaded (plain r.checked.code) r.entry s ws frames ≡ Some first
+  loads at = ap (λ o. loaded_in r.checked.code.types r.entry o s ws frames) (slice_get-map plain_function r.checked.code.functions.items r.entry ∙ ap (option_map plain_function) at)
 
 -- what a machine says of its first state
 abbrev pub Stands : Checked → ℕ → Seen → List ℕ → ℕ → Type 0
-Stands v n m ws frames = (h : Function) → slice_get v.code.functions.items n ≡ Some h → length ws ≤ h.registers → (s : State) → loaded (R.plain v.code) n m.store ws frames ≡ Some s → state_with m.stack s.lent m.store ≡ s
+Stands v n m ws frames = (h : Function) → slice_get v.code.functions.items n ≡ Some h → length ws ≤ h.registers → (s : State) → loaded (plain v.code) n m.store ws frames ≡ Some s → state_with m.stack s.lent m.store ≡ s
 
 pub started : (r : Chosen) (g : Function) (input : List ℕ) (room : Room) (frames : ℕ) (new : Loading) (ws : List ℕ) (m : Seen) (v : Checked) (n : ℕ) → v ≡ r.checked → n ≡ r.entry → slice_get r.checked.code.functions.items r.entry ≡ Some g → IsSound (plain r.checked.code) → IsSoundTable r.checked.code.types → IsInNewStore r.checked.code.types (types_of g.params) g.credits.items input room.words new ws → HasFrames r room.frames frames → m.stack.code ≡ v → IsFresh m.stack → m.store ≡ store_of new.cells new.released → IsSmall m.store.cells → m.pushed ≡ [] → Stands v n m ws frames → IsStarted r input room m
 started r g input room frames new ws m v n same number at sound table is has code fresh store small pushed stands =
@@ -81,7 +76,7 @@ started r g input room frames new ws m v n same number at sound table is has cod
     let place = first_load r.checked.code.types (types_of g.params) g.credits.items input room.words new ws table can.known is in
     let e = loads r g frames old_store ws at in
     let s : State = first r g frames old_store ws in
-    let stood : state_with m.stack s.lent m.store ≡ s = subst (λ n. Stands r.checked n m ws frames) number (subst (λ v. Stands v n m ws frames) same stands) g at (words_fit r.checked.code.types f input ws is.old new can l) s (subst (λ (q : Store). loaded (R.plain r.checked.code) r.entry q ws frames ≡ Some s) (sym store) e) in
+    let stood : state_with m.stack s.lent m.store ≡ s = subst (λ n. Stands r.checked n m ws frames) number (subst (λ v. Stands v n m ws frames) same stands) g at (words_fit r.checked.code.types f input ws is.old new can l) s (subst (λ (q : Store). loaded (plain r.checked.code) r.entry q ws frames ≡ Some s) (sym store) e) in
     record {
       function = f;
       there = there r.checked r.entry g at;
@@ -91,8 +86,7 @@ started r g input room frames new ws m v n same number at sound table is has cod
       frames = frames;
       has_frames = has;
       state = s;
-      loads = ap (λ (q : R.PlainCode). loaded q r.entry (first_store (values_of l.trees) g.credits.items) (first_words (values_of l.trees) g.credits.items) frames) (read r.checked.code)
-          ∙ ap₂ (λ (q : Store) us. loaded (R.plain r.checked.code) r.entry q us frames) (sym place.0) (sym place.1) ∙ e;
+      loads = ap₂ (λ (q : Store) us. loaded (plain r.checked.code) r.entry q us frames) (sym place.0) (sym place.1) ∙ e;
       begins = text_begins r.checked.code r.entry f input is.old new ws frames s (there r.checked r.entry g at) is.empty is.store l e;
       stands = stood;
       code = code ∙ same;

@@ -8,7 +8,7 @@ use Rattle.command_eval.specs.machine_correctness.call_groups.Stacks.{charge, So
 use Rattle.command_eval.proofs.machine_correctness.separation_kinds.Basics.{below, below_is, less_or_not, equal, or_not, unequal}
 use Rattle.command_eval.specs.machine_correctness.code_rules.declared.rule.SoundRule.TheVariants.{S0}
 use Rattle.command_eval.specs.machine_correctness.code_rules.Breaks.{IsSound}
-use Rattle.command_eval.specs.machine_correctness.code_rules.Codes.{PlainCode, PlainFunction, function_at}
+use Rattle.code_verify.specs.cell_code.Plain.{PlainFunction, PlainCode, function_at}
 use Rattle.command_eval.specs.machine_correctness.code_rules.StackNumbers.{FipCalls, IsStack}
 use Rattle.command_eval.specs.machine_correctness.code_rules.Tables.{AreSoundTables}
 

@@ -6,7 +6,7 @@ use Rattle.fip_language.specs.Meaning.{Answer, Gives, Trap, Out, Deep, Stuck}
 use Rattle.fip_language.specs.Table.{Table}
 use Rattle.fip_language.specs.Values.{Values}
 use Rattle.fip_base.specs.declared.plain.Stack.{Stack}
-use Rattle.command_eval.specs.machine_correctness.machine_semantics.Codes as R
+use Rattle.code_verify.specs.cell_code.Plain.{PlainFunction, PlainCode, plain, results}
 use Rattle.command_eval.specs.machine_correctness.machine_semantics.Gauges.{seen}
 use Rattle.command_eval.specs.machine_correctness.machine_semantics.Runs as C
 use Rattle.command_eval.specs.machine_correctness.machine_semantics.Runs.{End, Run, Going, Over, Ends, begun, after}
@@ -14,13 +14,12 @@ use Rattle.command_eval.specs.machine_correctness.machine_semantics.States.{Stat
 use Rattle.command_eval.specs.machine_correctness.machine_semantics.Steps.{Kinds}
 use Rattle.command_eval.proofs.machine_correctness.separation_bounds.Ending.{ends_once}
 use Rattle.command_eval.proofs.machine_correctness.separation_bounds.FipRuns.{never_deep}
-use Rattle.command_eval.specs.machine_correctness.separation.Codes.{run_code, AreKinds}
+use Rattle.command_eval.specs.machine_correctness.separation.Codes.{AreKinds}
 use Rattle.fip_machine.specs.code_verify.Checked.{Checked}
 use Rattle.fip_machine.specs.declared.gauge.Gauge.{Gauge}
 use Rattle.fip_machine.specs.declared.machine.Ended.{Ended}
 use Rattle.fip_machine.specs.Ending.{RunsTo}
 use Rattle.fip_machine.specs.GaugeView.{Reports, ReportsRun}
-use Rattle.command_eval.specs.machine_correctness.code_rules.Codes.{PlainCode, PlainFunction, plain, results}
 use Rattle.command_eval.specs.machine_correctness.code_rules.StackNumbers.{HasStack}
 use Rattle.command_eval.specs.machine_correctness.tree_refinement.Agreement.{AreWordsOf}
 use Rattle.command_eval.specs.machine_correctness.tree_refinement.Runs.{IsSameEnd}
@@ -30,7 +29,7 @@ use Rattle.command_eval.specs.machine_correctness.Ended.{EndsJustAs, ReportsJust
 use Rattle.command_eval.proofs.machine_correctness.VerifiedEnds.{runs_just, reports_just_run}
 use Rattle.command_eval.specs.machine_correctness.Starts.{IsSoundCode, Begins}
 use Rattle.command_eval.proofs.machine_correctness.EvaluatedEnds.{ended}
-use Rattle.command_eval.proofs.machine_correctness.Starting.{read, starts, free_is}
+use Rattle.command_eval.proofs.machine_correctness.Starting.{starts, free_is}
 use Rattle.command_run.specs.CodeRun as D
 use Rattle.command_run.specs.CodeRun.{all_seen}
 
@@ -70,16 +69,16 @@ pub record Came (v : Checked) (n : ℕ) (vs : Values) (calls frames : ℕ) (s : 
   pub as' : EndsJustAs run.end run.last o last given
   pub reports : Reports g (all_seen run)
 
-pub came : (v : Checked) (before waits : Kinds) (n : ℕ) (f : PlainFunction) (vs : Values) (frames : ℕ) (s : State) (calls : ℕ) (o : Ended) (last : State) (given : List ℕ) (g : Gauge) → IsSoundCode v.code → AreKinds (plain v.code) before waits → Begins v.code n f vs frames s → RunsTo before (R.plain v.code) s calls o last given → ReportsRun before (R.plain v.code) s calls g → Came v n vs calls frames s o last given g
+pub came : (v : Checked) (before waits : Kinds) (n : ℕ) (f : PlainFunction) (vs : Values) (frames : ℕ) (s : State) (calls : ℕ) (o : Ended) (last : State) (given : List ℕ) (g : Gauge) → IsSoundCode v.code → AreKinds (plain v.code) before waits → Begins v.code n f vs frames s → RunsTo before (plain v.code) s calls o last given → ReportsRun before (plain v.code) s calls g → Came v n vs calls frames s o last given g
 came v before waits n f vs frames s calls o last given g sound kinds b runs reports =
     let c = plain v.code in
     let t = starts v.code before waits n f vs frames s sound kinds b in
     let just = runs_just v before waits n [] s calls o last given t.0 runs in
-    let x = ended (after before (R.plain v.code) just.0 (begun s calls)) o last given just.1 in
+    let x = ended (after before (plain v.code) just.0 (begun s calls)) o last given just.1 in
     let shown = reports_just_run v before waits n [] s calls g t.0 reports in
-    let y = reported_over (after before (R.plain v.code) shown.0 (begun s calls)) g (seen before (R.plain v.code) shown.0 (begun s calls)) shown.1 in
-    let ends : Ends before (run_code c) s calls x.end x.last x.left x.steps = record { enough = just.0; is = ap (λ (q : R.PlainCode). after before q just.0 (begun s calls)) (read v.code) ∙ x.is } in
-    let same : Ends before (run_code c) s calls y.end y.last y.left y.steps = record { enough = shown.0; is = ap (λ (q : R.PlainCode). after before q shown.0 (begun s calls)) (read v.code) ∙ y.is } in
+    let y = reported_over (after before (plain v.code) shown.0 (begun s calls)) g (seen before (plain v.code) shown.0 (begun s calls)) shown.1 in
+    let ends : Ends before c s calls x.end x.last x.left x.steps = record { enough = just.0; is = x.is } in
+    let same : Ends before c s calls y.end y.last y.left y.steps = record { enough = shown.0; is = y.is } in
     let once = ends_once c before waits before waits n [] s calls y.end x.end y.last x.last y.left x.left y.steps x.steps t.0 kinds same ends in
     record {
       run = record {
@@ -97,7 +96,7 @@ came v before waits n f vs frames s calls o last given g sound kinds b runs repo
       };
       begins = refl;
       as' = same_over y.end x.end y.last x.last y.left x.left y.steps x.steps o last given once x.as';
-      reports = subst (λ (q : R.PlainCode). Reports g (seen before q shown.0 (begun s calls))) (sym (read v.code)) y.reports;
+      reports = y.reports;
     }
 
 -- ---- its end

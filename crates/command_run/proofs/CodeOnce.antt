@@ -16,17 +16,15 @@ use Rattle.fip_language.specs.ValueText.{SpellsValues}
 use Rattle.command_words.specs.Words.{Room}
 use Rattle.command_outcome.specs.declared.failure.Failure.{Failure}
 use Rattle.command_outcome.specs.declared.failure.Failure.TheVariants as F
-use Rattle.command_eval.specs.machine_correctness.code_file.Plain.{PlainCode}
+use Rattle.code_verify.specs.cell_code.Plain.{PlainFunction, PlainCode, function_at, results_of, results}
 use Rattle.command_eval.proofs.machine_correctness.code_file.Whole.{one_code}
 use Rattle.command_eval.specs.machine_correctness.machine_semantics.Cells.{Store}
 use Rattle.command_eval.specs.machine_correctness.machine_semantics.Gauges.{seen}
 use Rattle.command_eval.specs.machine_correctness.machine_semantics.Runs as R
 use Rattle.command_eval.specs.machine_correctness.machine_semantics.States.{State}
-use Rattle.command_eval.specs.machine_correctness.code_rules.Codes as S
 use Rattle.command_eval.specs.machine_correctness.code_rules.StackNumbers.{HasStack}
 use Rattle.command_eval.specs.machine_correctness.code_rules.Tables.{AreSoundTables}
 use Rattle.command_eval.proofs.machine_correctness.code_rules.Numbers.{has_once}
-use Rattle.command_eval.specs.machine_correctness.separation.Codes.{run_code}
 use Rattle.command_eval.proofs.machine_correctness.separation.Sound.{formed, has_form}
 use Rattle.command_eval.specs.machine_correctness.tree_refinement.Agreement.{AreWordsOf}
 use Rattle.command_eval.proofs.machine_correctness.tree_refinement.Values.{same_parts}
@@ -38,7 +36,7 @@ use Rattle.session_semantics.specs.Talk.{frames_of}
 use Rattle.value_text.specs.Loaded.{types_of}
 use Rattle.value_text.proofs.Exact.{accepts_text}
 use Rattle.value_text.proofs.Tables.{is_table, types_alive}
-use Rattle.command_eval.specs.command_source.Codes.{sound_view, IsSoundFile}
+use Rattle.command_eval.specs.command_source.Codes.{IsSoundFile}
 use Rattle.command_run.specs.CodeRun as C
 use Rattle.command_run.specs.CodeRun.{Chosen, RunsCode, Misspelt, Small, Ran, ReportsCode, all_seen, words_for}
 use Rattle.command_run.specs.GaugeText.{gauge_by_states, if_asked}
@@ -52,15 +50,15 @@ use Rattle.command_run.proofs.RunTables.{tables, sound_table, params_known, valu
 pub record What : Type 0 where
   pub code : PlainCode
   pub number : ℕ
-  pub function : S.PlainFunction
+  pub function : PlainFunction
   pub held : Option Stack
 
 pub record IsWhat (bytes name : List ℕ) (w : What) : Type 0 where
   pub file : IsSoundFile bytes w.code
-  pub there : S.function_at (sound_view w.code) w.number ≡ Some w.function
+  pub there : function_at w.code w.number ≡ Some w.function
   pub named : (w.function).name ≡ name
   pub some : name ≡ [] → ⊥
-  pub stack : HasStack (sound_view w.code) w.number w.held
+  pub stack : HasStack w.code w.number w.held
 
 abbrev pub what : {bytes name : List ℕ} → Chosen bytes name → What
 what c = record { code = c.code; number = c.number; function = c.function; held = c.held }
@@ -75,13 +73,13 @@ long (b ∷ name) h = omega arith
 pub same_what : (bytes name : List ℕ) (w x : What) → IsWhat bytes name w → IsWhat bytes name x → w ≡ x
 same_what bytes name w x h k =
     let code : w.code ≡ x.code = (one_code bytes (h.file).spelt.0 (k.file).spelt.0 w.code x.code (h.file).spelt.1 (k.file).spelt.1).1 in
-    let there : S.function_at (sound_view w.code) x.number ≡ Some x.function = ap (λ (c : PlainCode). S.function_at (sound_view c) x.number) code ∙ k.there in
-    let number : w.number ≡ x.number = same_unless w.number x.number (λ off. tables (sound_view w.code) (h.file).sound (λ t.
+    let there : function_at w.code x.number ≡ Some x.function = ap (λ (c : PlainCode). function_at c x.number) code ∙ k.there in
+    let number : w.number ≡ x.number = same_unless w.number x.number (λ off. tables w.code (h.file).sound (λ t.
     off (t.names w.number x.number w.function x.function h.there there (subst (λ n. 0 < length n) (sym h.named) (long name h.some)) (h.named ∙ sym k.named)))) in
-    let function : w.function ≡ x.function = same_Some w.function x.function (sym h.there ∙ ap (λ n. S.function_at (sound_view w.code) n) number ∙ there) in
-    let stack : HasStack (sound_view w.code) w.number x.held =
-    subst (λ n. HasStack (sound_view w.code) n x.held) (sym number) (subst (λ (c : PlainCode). HasStack (sound_view c) x.number x.held) (sym code) k.stack) in
-    let held : w.held ≡ x.held = has_once (sound_view w.code) w.number w.held x.held h.stack stack in
+    let function : w.function ≡ x.function = same_Some w.function x.function (sym h.there ∙ ap (λ n. function_at w.code n) number ∙ there) in
+    let stack : HasStack w.code w.number x.held =
+    subst (λ n. HasStack w.code n x.held) (sym number) (subst (λ (c : PlainCode). HasStack c x.number x.held) (sym code) k.stack) in
+    let held : w.held ≡ x.held = has_once w.code w.number w.held x.held h.stack stack in
     (λ k. record { code = code k; number = number k; function = function k; held = held k })
 
 -- ---- what is reported
@@ -104,17 +102,17 @@ reports_alike tb types calls frames following beside s u e d x y h same k l = ab
 
 -- ---- two runs on the same values
 
-module _ (c : S.PlainCode) (n : ℕ) (vs : Values) (calls frames : ℕ) (r q : C.Run c n vs calls frames) where
+module _ (c : PlainCode) (n : ℕ) (vs : Values) (calls frames : ℕ) (r q : C.Run c n vs calls frames) where
   free_same : (r.first).free ≡ (q.first).free
   free_same = r.free ∙ sym q.free
 
-  alike : IsAlike c.types (S.results c n) (r.last).store r.end (q.last).store q.end
+  alike : IsAlike c.types (results c n) (r.last).store r.end (q.last).store q.end
   alike = (ends_alike c r.before r.waits q.before q.waits n [] [] r.first q.first vs calls r.end q.end r.last q.last r.left q.left r.steps q.steps r.starts r.arguments q.starts q.arguments free_same r.ends q.ends).0
 
   lows_same : (ws us : List ℕ) (size : ℕ) → r.end ≡ R.Value ws → q.end ≡ R.Value us → 1 ≤ size → lowest size (all_seen r) ≡ lowest size (all_seen q)
   lows_same ws us size first second some =
-      subst (λ e. (x : R.Ends r.before (run_code c) r.first calls e r.last r.left r.steps) → lowest size (seen r.before (run_code c) x.enough (R.begun r.first calls)) ≡ lowest size (all_seen q)) (sym first)
-      (λ x. subst (λ d. (y : R.Ends q.before (run_code c) q.first calls d q.last q.left q.steps) → lowest size (seen r.before (run_code c) x.enough (R.begun r.first calls)) ≡ lowest size (seen q.before (run_code c) y.enough (R.begun q.first calls))) (sym second)
+      subst (λ e. (x : R.Ends r.before c r.first calls e r.last r.left r.steps) → lowest size (seen r.before c x.enough (R.begun r.first calls)) ≡ lowest size (all_seen q)) (sym first)
+      (λ x. subst (λ d. (y : R.Ends q.before c q.first calls d q.last q.left q.steps) → lowest size (seen r.before c x.enough (R.begun r.first calls)) ≡ lowest size (seen q.before c y.enough (R.begun q.first calls))) (sym second)
       (λ y. lowest_alike c r.before r.waits q.before q.waits n r.first q.first vs calls ws us r.last q.last r.left q.left r.steps q.steps size r.starts r.arguments q.starts q.arguments free_same x y some) q.ends) r.ends
 
   -- they tell the same gauge, where they give values
@@ -126,7 +124,7 @@ module _ (c : S.PlainCode) (n : ℕ) (vs : Values) (calls frames : ℕ) (r q : C
       (words_alike c r.before r.waits q.before q.waits n [] [] r.first q.first vs calls r.end q.end r.last q.last r.left q.left r.steps q.steps r.starts r.arguments q.starts q.arguments free_same r.ends q.ends)
 
   -- and they are reported the same
-  pub runs_once : (types : List ℕ) (held : Option Stack) (gauge : Bool) (x y : Result (List ℕ) Failure) → S.results c n ≡ types → ReportsCode c.types types calls frames (if_asked gauge (gauge_by_states (all_seen r) held)) r.last r.end x → ReportsCode c.types types calls frames (if_asked gauge (gauge_by_states (all_seen q) held)) q.last q.end y → x ≡ y
+  pub runs_once : (types : List ℕ) (held : Option Stack) (gauge : Bool) (x y : Result (List ℕ) Failure) → results c n ≡ types → ReportsCode c.types types calls frames (if_asked gauge (gauge_by_states (all_seen r) held)) r.last r.end x → ReportsCode c.types types calls frames (if_asked gauge (gauge_by_states (all_seen q) held)) q.last q.end y → x ≡ y
   runs_once types held gauge x y is h k =
       reports_alike c.types types calls frames (if_asked gauge (gauge_by_states (all_seen r) held)) (if_asked gauge (gauge_by_states (all_seen q) held)) r.last q.last r.end q.end x y
       (subst (λ ts. IsAlike c.types ts (r.last).store r.end (q.last).store q.end) is alike)
@@ -141,7 +139,7 @@ abbrev pub words_of : What → Values → ℕ
 words_of w vs = words_for vs (w.function).credits
 
 abbrev RunBy : What → Values → Room → Type 0
-RunBy w vs room = C.Run (sound_view w.code) w.number vs room.calls (frames_of room.frames w.held)
+RunBy w vs room = C.Run w.code w.number vs room.calls (frames_of room.frames w.held)
 
 -- the run on these values is reported so
 record IsDone (w : What) (room : Room) (gauge : Bool) (vs : Values) (e : Result (List ℕ) Failure) : Type 0 where
@@ -159,8 +157,8 @@ came bytes name input room gauge _ (Small c vs spelt less) = (what c, what_is c,
 came bytes name input room gauge e (Ran c vs r _ spelt fits reported) = (what c, what_is c, Done vs spelt fits (record { run = r; reported = reported }))
 
 module _ (bytes name : List ℕ) (w : What) (is : IsWhat bytes name w) where
-  abbrev code : S.PlainCode
-  code = sound_view w.code
+  abbrev code : PlainCode
+  code = w.code
 
   abbrev types : List ℕ
   types = types_of (w.function).params
@@ -193,7 +191,7 @@ module _ (bytes name : List ℕ) (w : What) (is : IsWhat bytes name w) where
       absurd (omega (arith, less, fits, same))
   came_once input room gauge d e (Done vs spelt fits done) (Done us also more other) =
       let there : IsDone w room gauge vs e = subst (λ vs. IsDone w room gauge vs e) (sym (values_once input vs us spelt also)) other in
-      runs_once code w.number vs room.calls (frames_of room.frames w.held) done.run there.run (w.function).results w.held gauge d e (ap S.results_of is.there) done.reported there.reported
+      runs_once code w.number vs room.calls (frames_of room.frames w.held) done.run there.run (w.function).results w.held gauge d e (ap results_of is.there) done.reported there.reported
 
 pub code_run_once : (bytes name input : List ℕ) (room : Room) (gauge : Bool) (d e : Result (List ℕ) Failure) → RunsCode bytes name input room gauge d → RunsCode bytes name input room gauge e → d ≡ e
 code_run_once bytes name input room gauge d e h k =

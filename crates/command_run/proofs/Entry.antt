@@ -15,18 +15,16 @@ use Rattle.fip_machine.specs.cell_code.declared.code.Function.{Function}
 use Rattle.command_eval.specs.machine_correctness.cell_lower.Limits.{is_ruled, registers}
 use Rattle.command_eval.specs.machine_correctness.cell_lower.Shape.{Header, header, header_of, and_if, headers_from, headers}
 use Rattle.command_eval.specs.machine_correctness.separation.Codes.{HasLiterals}
-use Rattle.command_eval.specs.machine_correctness.lowering_relation.LoweredFunctions.{AreLowered}
 use Rattle.command_eval.specs.machine_correctness.code_rules.Breaks.{IsSound}
-use Rattle.command_eval.specs.machine_correctness.code_rules.Codes as S
-use Rattle.command_eval.specs.machine_correctness.code_rules.Codes.{PlainFunction, plain, function_at}
+use Rattle.fip_machine.specs.cell_code.CodeKinds.{code_kind}
+use Rattle.fip_machine.specs.cell_code.Plain.{plain_function, plain}
 use Rattle.command_eval.specs.machine_correctness.source_report.Report.{IsTyped}
 use Rattle.command_eval.proofs.machine_correctness.source_report.Once.{accepted_once}
 use Rattle.command_eval.specs.command_source.Entries.{Chosen}
 use Rattle.command_eval.specs.command_source.ProgramCode.{IsEntryOf}
 use Rattle.command_eval.specs.command_source.Roots.{root_named}
 use Rattle.command_eval.specs.command_source.Wanted.{Compiled, IsCompiled, IsReady}
-use Rattle.command_eval.proofs.command_source.CodeFiles.{view_same}
-use Rattle.command_eval.proofs.command_source.Compiling.{headers_same, instrs_same}
+use Rattle.command_eval.proofs.machine_correctness.Entries.{headers_of}
 use Rattle.command_eval.specs.EvalAnswer.{Entry}
 use Rattle.command_eval.proofs.Meant.{typed_of}
 use Rattle.command_eval.proofs.SoundTypes.{typed_sound}
@@ -89,7 +87,7 @@ function_with (g ∷ fs) (suc m) h e = function_with fs m h e
 
 pub record IsEntry {source name : List ℕ} (r : Chosen) (entry : Entry source name) (g : Function) : Type 0 where
   pub at : slice_get r.checked.code.functions.items r.entry ≡ Some g
-  pub kind : g.kind ≡ (entry.root).kind
+  pub kind : g.kind ≡ code_kind (entry.root).kind
   pub params : g.params ≡ (entry.root).params
   pub credits : g.credits.items ≡ (entry.root).credits
   pub results : g.results ≡ (entry.root).results
@@ -107,13 +105,13 @@ module _ (source name : List ℕ) (r : Chosen) (ready : IsReady source (Compiled
   types = typed_of source program (h.code).accepted
 
   pub sound : IsSound (plain code)
-  sound = subst IsSound (view_same code) (h.code).sound
+  sound = (h.code).sound
 
   pub table_sound : IsSoundTable code.types
   table_sound = subst IsSoundTable (sym ((h.code).lowered).types) (typed_sound source program types)
 
   pub headed : map header code.functions.items ≡ headers ((h.code).lowered).members program.instances
-  headed = sym (headers_same code.functions.items) ∙ ((h.code).lowered).functions
+  headed = sym (headers_of code.functions.items) ∙ ((h.code).lowered).functions
 
   compiled : IsCompiled (root_named name program.instances)
   compiled = subst (λ (p : Program). IsCompiled (root_named name p.instances)) (accepted_once source ready.program program ready.accepted (h.code).accepted) ready.has
@@ -135,9 +133,9 @@ module _ (source name : List ℕ) (r : Chosen) (ready : IsReady source (Compiled
       let y = function_with code.functions.items x.0 (header_of x.1 d) (ap (λ hs. slice_get hs x.0) headed ∙ x.2) in
       let called : (y.0).name ≡ name = ap (λ (q : Header). q.name) y.2 ∙ (ap (λ b. if b then d.name else []) root.root ∙ root.named) in
       let some : 0 < length (y.0).name = subst (λ s. 0 < length s) (sym called) (h.named).some in
-      let one : x.0 ≡ r.entry = one_of_name (plain code) x.0 r.entry (S.plain_function y.0) (S.plain_function function) sound
-      (slice_get-map S.plain_function code.functions.items x.0 ∙ ap (option_map S.plain_function) y.1)
-      (slice_get-map S.plain_function code.functions.items r.entry ∙ ap (option_map S.plain_function) (h.named).there)
+      let one : x.0 ≡ r.entry = one_of_name (plain code) x.0 r.entry (plain_function y.0) (plain_function function) sound
+      (slice_get-map plain_function code.functions.items x.0 ∙ ap (option_map plain_function) y.1)
+      (slice_get-map plain_function code.functions.items r.entry ∙ ap (option_map plain_function) (h.named).there)
       some (called ∙ sym (h.named).named) in
       let same : y.0 ≡ function = same_Some y.0 function (sym y.1 ∙ (ap (slice_get code.functions.items) one ∙ (h.named).there)) in
       let is : header function ≡ header_of x.1 d = ap header (sym same) ∙ y.2 in
@@ -159,7 +157,7 @@ module _ (source name : List ℕ) (r : Chosen) (ready : IsReady source (Compiled
     accepted = (h.code).accepted;
     types = ((h.code).lowered).types;
     functions = headed;
-    lowered = subst (AreLowered program) (instrs_same code.functions.items) ((h.code).lowered).lowered;
+    lowered = ((h.code).lowered).lowered;
     is_sound = record { sound = sound; literals = literals };
   }
 

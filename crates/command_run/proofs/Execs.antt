@@ -5,6 +5,7 @@ use Rattle.std.specs.declared.vec.Vec.{Vec}
 use Rattle.std.specs.declared.alloc.Global.{Global}
 use Rattle.std.proofs.lemmas.Option.{same_Some, slice_get-map}
 use Rattle.fip_language.specs.declared.FunKind.{FunKind}
+use Rattle.fip_machine.specs.cell_code.declared.code.CodeKind.{CodeKind}
 use Rattle.fip_language.specs.declared.FunKind.TheVariants.{Fip}
 use Rattle.fip_language.specs.Core.{Core}
 use Rattle.fip_language.specs.Gauge.{Seen as a_seen}
@@ -15,11 +16,10 @@ use Rattle.fip_language.specs.Table.{Table}
 use Rattle.fip_language.specs.Values.{Values}
 use Rattle.fip_language.specs.ValueText.{SpellsValues}
 use Rattle.fip_base.specs.declared.plain.Stack.{Stack}
-use Rattle.command_eval.specs.machine_correctness.code_file.Plain.{plain_code}
+use Rattle.code_verify.specs.cell_code.Plain.{PlainFunction, PlainCode, plain_function, plain, function_at}
 use Rattle.command_words.specs.Words.{Room}
 use Rattle.command_outcome.specs.declared.failure.Failure.{Failure}
 use Rattle.command_outcome.specs.declared.failure.Failure.TheVariants as F
-use Rattle.command_eval.specs.machine_correctness.machine_semantics.Codes as R
 use Rattle.command_eval.specs.machine_correctness.machine_semantics.States.{State}
 use Rattle.command_eval.specs.machine_correctness.machine_semantics.Steps.{Kinds}
 use Rattle.command_eval.specs.machine_correctness.separation.Codes.{HasLiterals, AreKinds}
@@ -29,18 +29,16 @@ use Rattle.fip_machine.specs.Ending.{RunsTo}
 use Rattle.fip_machine.specs.GaugeView.{Reports, ReportsRun}
 use Rattle.fip_machine.specs.Machines.{Seen}
 use Rattle.fip_machine.specs.Tasks.{state_with}
-use Rattle.command_eval.specs.machine_correctness.code_rules.Codes.{PlainCode, PlainFunction, plain, plain_function, function_at, is_fip}
+use Rattle.command_eval.specs.machine_correctness.code_rules.Codes.{is_fip, code_kind}
 use Rattle.command_eval.specs.machine_correctness.code_rules.StackNumbers.{HasStack}
 use Rattle.command_eval.proofs.machine_correctness.code_rules.Numbers.{has_once}
 use Rattle.command_eval.specs.machine_correctness.tail_groups.Members.{AreMembers}
 use Rattle.command_eval.specs.machine_correctness.lowering_relation.LoweredBodies.{function_of}
 use Rattle.command_eval.proofs.machine_correctness.compiler_correctness.SoundTypes.{typed_sound}
 use Rattle.session_semantics.specs.Talk.{frames_of}
-use Rattle.command_eval.specs.command_source.Codes.{sound_view}
 use Rattle.command_eval.specs.command_source.Entries.{Chosen}
 use Rattle.command_eval.specs.command_source.ProgramCode.{IsEntryOf}
 use Rattle.command_eval.specs.command_source.Wanted.{Compiled, IsReady}
-use Rattle.command_eval.proofs.command_source.CodeFiles.{view_same}
 use Rattle.command_eval.specs.type_safety.Soundness.{parameter_types}
 use Rattle.value_text.specs.Loaded.{types_of}
 use Rattle.command_eval.specs.EvalAnswer.{Entry, OrNoMemory}
@@ -94,7 +92,7 @@ module _ (source : List ℕ) (core : Core) (r : Chosen) (is : IsCodeOf source co
     abbrev answer : Answer
     answer = (meaning core f.name NoClosed vs room.calls frames).answer
 
-    meant_flat : (before waits : Kinds) (g : Gauge) (ss : List a_seen) → AreKinds (plain r.checked.code) before waits → ReportsRun before (R.plain r.checked.code) s room.calls g → Reports g ss → is_fip f.kind ≡ true → (o : Option Stack) → HasStack (plain r.checked.code) r.entry o → RunsInPlace vs f.credits ss o
+    meant_flat : (before waits : Kinds) (g : Gauge) (ss : List a_seen) → AreKinds (plain r.checked.code) before waits → ReportsRun before (plain r.checked.code) s room.calls g → Reports g ss → is_fip f.kind ≡ true → (o : Option Stack) → HasStack (plain r.checked.code) r.entry o → RunsInPlace vs f.credits ss o
     meant_flat before waits g ss kinds reports t fip None h = absurd (h (f, b.is, fip))
     meant_flat before waits g ss kinds reports t fip (Some k) h =
         flat_states g vs f.credits ss k t (gauge_flat r.checked before waits r.entry f vs frames s room.calls k g is.is_sound kinds b fip h.1 reports)
@@ -111,7 +109,7 @@ module _ (source : List ℕ) (core : Core) (r : Chosen) (is : IsCodeOf source co
       fip_of : HasStack (plain r.checked.code) r.entry (Some k) → is_fip f.kind ≡ true
       fip_of h = subst (λ (q : PlainFunction). is_fip q.kind ≡ true) (same_Some h.0.0 f (sym h.0.1 ∙ b.is)) h.0.2
 
-  meant_so : (held : Option Stack) (stack : HasStack (plain r.checked.code) r.entry held) (b : Begins r.checked.code r.entry f vs (frames_of room.frames held) s) (before waits : Kinds) (o : Ended) (last : State) (given : List ℕ) (g : Gauge) (e : Result (List ℕ) Failure) → AreKinds (plain r.checked.code) before waits → RunsTo before (R.plain r.checked.code) s room.calls o last given → ReportsRun before (R.plain r.checked.code) s room.calls g → Came r.checked r.entry vs room.calls (frames_of room.frames held) s o last given g → ReportsEnded r.checked.code.types f.results room (if_asked gauge (gauge_lines g held)) last.store given o e → MeantSo core f.name r.checked.code.types (plain r.checked.code) r.entry f vs room held gauge e
+  meant_so : (held : Option Stack) (stack : HasStack (plain r.checked.code) r.entry held) (b : Begins r.checked.code r.entry f vs (frames_of room.frames held) s) (before waits : Kinds) (o : Ended) (last : State) (given : List ℕ) (g : Gauge) (e : Result (List ℕ) Failure) → AreKinds (plain r.checked.code) before waits → RunsTo before (plain r.checked.code) s room.calls o last given → ReportsRun before (plain r.checked.code) s room.calls g → Came r.checked r.entry vs room.calls (frames_of room.frames held) s o last given g → ReportsEnded r.checked.code.types f.results room (if_asked gauge (gauge_lines g held)) last.store given o e → MeantSo core f.name r.checked.code.types (plain r.checked.code) r.entry f vs room held gauge e
   meant_so held stack b before waits o last given g e kinds runs reports came reported =
       let tb : Table = r.checked.code.types in
       let q = came.run in
@@ -132,8 +130,8 @@ module _ (source : List ℕ) (core : Core) (r : Chosen) (is : IsCodeOf source co
 
 -- ---- of the source
 
-fip_kind : (k : FunKind) → k ≡ Fip → is_fip k ≡ true
-fip_kind k e = ap is_fip e
+fip_kind : (c : CodeKind) (k : FunKind) → c ≡ code_kind k → k ≡ Fip → is_fip c ≡ true
+fip_kind c k of' e = ap is_fip (of' ∙ ap code_kind e)
 
 module _ (source name input : List ℕ) (r : Chosen) (ready : IsReady source (Compiled name)) (h : IsEntryOf source name r) (literals : HasLiterals (plain r.checked.code)) (room : Room) (gauge : Bool) where
   abbrev entry : Entry source name
@@ -154,9 +152,9 @@ module _ (source name input : List ℕ) (r : Chosen) (ready : IsReady source (Co
   params_same : types_of f.params ≡ parameter_types entry.root
   params_same = ap types_of header.params
 
-  abbrev coded : (held : Option Stack) → function_at (sound_view (plain_code r.checked.code)) r.entry ≡ Some f → HasStack (sound_view (plain_code r.checked.code)) r.entry held → Coded source name
+  abbrev coded : (held : Option Stack) → function_at (plain r.checked.code) r.entry ≡ Some f → HasStack (plain r.checked.code) r.entry held → Coded source name
   coded held there stack = record {
-    code = plain_code r.checked.code;
+    code = plain r.checked.code;
     of' = h.code;
     number = r.entry;
     function = f;
@@ -168,16 +166,16 @@ module _ (source name input : List ℕ) (r : Chosen) (ready : IsReady source (Co
   }
 
   -- what the run holds of the stack is what is reported of the root
-  bound_is : (held : Option Stack) → HasStack (sound_view (plain_code r.checked.code)) r.entry held → IsBoundOf entry held
+  bound_is : (held : Option Stack) → HasStack (plain r.checked.code) r.entry held → IsBoundOf entry held
   bound_is held stack ms found i m at there =
       let root = N.root_at name entry.program.instances entry.root entry.named in
       let x = named entry.program h.code.lowered.members (plain r.checked.code) r.entry f types_same (headers_of r.checked.code.functions.items ∙ N.headed source name r ready h) there_is header.some in
       let one : x.place ≡ i = (typed_sound source entry.program (N.types source name r ready h)).roots x.place i x.instance entry.root x.there at x.root root.root (sym x.name ∙ header.named ∙ sym root.named) in
       let number : function_of entry.program.instances i ≡ Some r.entry = subst (λ j. function_of entry.program.instances j ≡ Some r.entry) one x.of'.function in
-      has_once (sound_view (plain_code r.checked.code)) r.entry held m.stack stack (h.code.lowered.stacks ms found i r.entry m number there)
+      has_once (plain r.checked.code) r.entry held m.stack stack (h.code.lowered.stacks ms found i r.entry m number there)
 
   -- what is reported by the function's header is reported by the root's
-  on_root : (vs : Values) (held : Option Stack) (e : Result (List ℕ) Failure) → MeantSo entry.core f.name r.checked.code.types (sound_view (plain_code r.checked.code)) r.entry f vs room held gauge e → RunsOn entry vs room gauge e
+  on_root : (vs : Values) (held : Option Stack) (e : Result (List ℕ) Failure) → MeantSo entry.core f.name r.checked.code.types (plain r.checked.code) r.entry f vs room held gauge e → RunsOn entry vs room gauge e
   on_root vs held e x =
       let frames : ℕ = frames_of room.frames held in
       let following : Values → List ℕ = λ _. if_asked gauge (gauge_by_states (all_seen x.run) held) in
@@ -196,8 +194,8 @@ module _ (source name input : List ℕ) (r : Chosen) (ready : IsReady source (Co
             (subst (λ n. IsMeasured vs us f.params f.credits (run entry.core n).peak (all_seen x.run)) header.named
             (x.measured us rest (subst (λ n. (run entry.core n).answer ≡ Gives us rest) (sym header.named) gives))));
         bound = bound_is held x.stack;
-        in_place = λ fip. subst (λ ks. RunsInPlace vs ks (all_seen x.run) held) header.credits (x.in_place (fip_kind f.kind (header.kind ∙ fip)));
-        never_deep = λ fip. subst (λ n. answer n ≢ Deep) header.named (x.never_deep (fip_kind f.kind (header.kind ∙ fip)));
+        in_place = λ fip. subst (λ ks. RunsInPlace vs ks (all_seen x.run) held) header.credits (x.in_place (fip_kind f.kind (entry.root).kind header.kind fip));
+        never_deep = λ fip. subst (λ n. answer n ≢ Deep) header.named (x.never_deep (fip_kind f.kind (entry.root).kind header.kind fip));
       }
 
   spells : (vs : Values) → SpellsValues r.checked.code.types (types_of f.params) input vs → SpellsValues entry.program.types (parameter_types entry.root) input vs
@@ -217,7 +215,7 @@ module _ (source name input : List ℕ) (r : Chosen) (ready : IsReady source (Co
       let came : Came r.checked r.entry st.values room.calls (frames_of room.frames held) st.state o last new.stack.given g = subst (λ n. Came r.checked r.entry st.values room.calls n st.state o last new.stack.given g) st.has_frames.are ran.came in
       let said : ReportsEnded r.checked.code.types f.results room (if_asked gauge (gauge_lines g held)) new.store new.stack.given o e = subst (λ (q : PlainFunction). ReportsEnded r.checked.code.types q.results room (if_asked gauge (gauge_lines g held)) new.store new.stack.given o e) own reported in
       let so = meant_so source entry.core r (N.code_of source name r ready h literals) (N.members_found source name r ready h literals) f st.values room gauge st.state header.some held st.has_frames.stack begins ran.before ran.waits o last new.stack.given g e ran.kinds ran.runs ran.reports came said in
-      let x = subst (λ c. MeantSo entry.core f.name r.checked.code.types c r.entry f st.values room held gauge e) (sym (view_same r.checked.code)) so in
+      let x = so in
       Ran entry st.values e (spells st.values spelt) (subst (λ ks. words_for st.values ks ≤ room.words) header.credits fits) (on_root st.values held e x)
 
   -- what keeps it from its start

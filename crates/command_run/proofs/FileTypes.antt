@@ -7,9 +7,8 @@ use Rattle.fip_language.specs.SoundTable.{AreTypes, IsSoundTable}
 use Rattle.fip_language.specs.Table.{Shape, Table, shapes}
 use Rattle.fip_machine.specs.cell_code.declared.code.Code.{Code}
 use Rattle.command_eval.specs.machine_correctness.code_file.CodeText.{IsFileOf, code_text, functions_text, table_text, type_text, shape_text, types_text, version_number}
-use Rattle.command_eval.specs.machine_correctness.code_file.Plain.{PlainCode, plain_code}
+use Rattle.fip_machine.specs.cell_code.Plain.{PlainCode, plain}
 use Rattle.command_eval.specs.machine_correctness.code_file.Spelling.{◌+++◌, each, four, two, name_text, upper_name_text}
-use Rattle.command_eval.specs.machine_correctness.code_rules.Codes.{plain}
 use Rattle.command_eval.specs.machine_correctness.code_rules.Tables.{AreSoundTables, IsSoundType}
 use Rattle.command_eval.specs.command_source.Codes.{IsSoundFile}
 
@@ -83,17 +82,17 @@ pub types_there : (tb : Table) (ts : List ℕ) → ((i t : ℕ) → slice_get ts
 types_there tb [] h = tt
 types_there tb (t ∷ ts) h = (h 0 t refl, types_there tb ts (λ i u e. h (suc i) u e))
 
-pub spelt_table : (bytes : List ℕ) (code : Code) → IsFileOf bytes (plain_code code) → AreSoundTables (plain code) → IsSoundTable code.types
+pub spelt_table : (bytes : List ℕ) (code : Code) → IsFileOf bytes (plain code) → AreSoundTables (plain code) → IsSoundTable code.types
 spelt_table bytes code spelt tables =
     let sound : (t : ℕ) → t < length code.types → IsSoundType code.types (suc t) = λ t less. tables.types (suc t) (omega arith) (omega (arith, less)) in
     let of_row : (t c : ℕ) (x : Shape) → slice_get (shapes code.types t) c ≡ Some x → IsSoundType code.types (suc t) = λ t c x at. sound t (slice_get_within code.types t (shapes code.types t) (row_there code.types t c x at)) in
     record {
-      names = λ t c x at. upper_in_file bytes (plain_code code) t c x spelt at;
+      names = λ t c x at. upper_in_file bytes (plain code) t c x spelt at;
       unlike = λ t c d x y a b same. (of_row t c x a).apart c d x y a b same;
       known = λ t c x at. types_there code.types x.fields ((of_row t c x at).shapes c x at).typed;
       narrow = λ t c x at. ((of_row t c x at).shapes c x at).few;
       inhabited = λ t less. (sound t less).value;
     }
 
-pub file_table : (bytes : List ℕ) (code : Code) → IsSoundFile bytes (plain_code code) → AreSoundTables (plain code) → IsSoundTable code.types
+pub file_table : (bytes : List ℕ) (code : Code) → IsSoundFile bytes (plain code) → AreSoundTables (plain code) → IsSoundTable code.types
 file_table bytes code file tables = spelt_table bytes code file.spelt tables

@@ -13,8 +13,7 @@ use Rattle.fip_machine.specs.declared.machine.Ended.{Ended}
 use Rattle.fip_machine.specs.Machines.{Seen}
 use Rattle.fip_machine.specs.Tasks.{state_with}
 use Rattle.fip_machine.specs.machine_cells.Small.{store_of}
-use Rattle.command_eval.specs.machine_correctness.code_rules.Codes.{PlainCode, plain}
-use Rattle.command_eval.specs.machine_correctness.separation.Codes.{run_code}
+use Rattle.code_verify.specs.cell_code.Plain.{PlainCode, plain}
 use Rattle.command_eval.specs.machine_correctness.run_loading.Loading.{first_store, first_words}
 use Rattle.session_semantics.specs.Talk.{frames_of}
 use Rattle.command_eval.specs.command_source.Entries.{Chosen}
@@ -27,7 +26,7 @@ use Rattle.command_run.proofs.Came.{Came, ends_last}
 use Rattle.command_run.proofs.Ran.{Ran}
 
 -- a run that begins where its arguments are loaded
-abbrev pub loaded_run : (c : PlainCode) (n : ℕ) (vs : Values) (credits : List ℕ) (calls frames : ℕ) (s : State) (run : D.Run c n vs calls frames) → run.first ≡ s → loaded (run_code c) n (first_store vs credits) (first_words vs credits) frames ≡ Some s → LoadedRun c n vs credits calls frames
+abbrev pub loaded_run : (c : PlainCode) (n : ℕ) (vs : Values) (credits : List ℕ) (calls frames : ℕ) (s : State) (run : D.Run c n vs calls frames) → run.first ≡ s → loaded c n (first_store vs credits) (first_words vs credits) frames ≡ Some s → LoadedRun c n vs credits calls frames
 loaded_run c n vs credits calls frames s run at loads = record {
   before = run.before;
   waits = run.waits;
@@ -52,7 +51,7 @@ input_run r input room m st run at = record {
   held = st.has_frames.held;
   stack = st.has_frames.stack;
   run = loaded_run (plain r.checked.code) r.entry st.values st.function.credits room.calls (frames_of room.frames st.has_frames.held) st.state run at
-      (subst (λ n. loaded (run_code (plain r.checked.code)) r.entry (first_store st.values st.function.credits) (first_words st.values st.function.credits) n ≡ Some st.state) st.has_frames.are st.loads);
+      (subst (λ n. loaded (plain r.checked.code) r.entry (first_store st.values st.function.credits) (first_words st.values st.function.credits) n ≡ Some st.state) st.has_frames.are st.loads);
 }
 
 pub last_store : (r : Chosen) (input : List ℕ) (room : Room) (m : Seen) (st : IsStarted r input room m) (o : Ended) (new : Seen) (g : Gauge) (s : Stored) → Ran r input room m st o new g → store_of s.cells s.released ≡ new.store → IsLastStore r input room s

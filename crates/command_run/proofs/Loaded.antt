@@ -17,7 +17,7 @@ use Rattle.cell_store.specs.Made.{Loading}
 use Rattle.command_eval.specs.machine_correctness.machine_semantics.Cells.{IsSized, IsStore, one_if_some, one_if_true}
 use Rattle.command_eval.proofs.machine_correctness.separation_kinds.Basics.{both, refuted, below}
 use Rattle.fip_machine.specs.machine_cells.Small.{store_of}
-use Rattle.command_eval.specs.machine_correctness.code_rules.Codes.{PlainCode, PlainFunction}
+use Rattle.code_verify.specs.cell_code.Plain.{PlainFunction, PlainCode}
 use Rattle.command_eval.specs.machine_correctness.code_rules.Headers.{are_params, are_sizes, is_formed, is_size}
 use Rattle.command_eval.specs.machine_correctness.code_rules.Limits.{most_credits, most_fields, most_registers, most_results}
 use Rattle.command_eval.specs.machine_correctness.code_rules.Types.{is_type}

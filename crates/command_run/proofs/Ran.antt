@@ -1,11 +1,11 @@
 -- From a machine at the start of its function, and what it says of its run, to a run of the code to its end.
 use Rattle.std.proofs.Common.{◌≡◌, ◌∙◌, ℕ, List, [], None, sym, ap, subst}
 use Rattle.command_words.specs.Words.{Room}
-use Rattle.command_eval.specs.machine_correctness.machine_semantics.Codes as R
+use Rattle.code_verify.specs.cell_code.Plain.{plain}
 use Rattle.command_eval.specs.machine_correctness.machine_semantics.States.{Typed, State}
 use Rattle.command_eval.specs.machine_correctness.machine_semantics.Steps.{Kinds}
 use Rattle.command_eval.specs.machine_correctness.machine_semantics.Runs.{Unsound, Over, begun, after}
-use Rattle.command_eval.specs.machine_correctness.separation.Codes.{run_code, AreKinds}
+use Rattle.command_eval.specs.machine_correctness.separation.Codes.{AreKinds}
 use Rattle.command_eval.proofs.machine_correctness.separation.KindsFound.{kinds_found}
 use Rattle.fip_machine.specs.code_verify.Checked.{Checked}
 use Rattle.fip_machine.specs.declared.gauge.Gauge.{Gauge}
@@ -15,11 +15,9 @@ use Rattle.fip_machine.specs.GaugeView.{ReportsRun}
 use Rattle.fip_machine.specs.Machines.{Seen}
 use Rattle.fip_machine.specs.Tasks.{state_with, IsFresh}
 use Rattle.fip_machine.specs.machine_cells.Small.{IsSmall}
-use Rattle.command_eval.specs.machine_correctness.code_rules.Codes.{plain}
 use Rattle.command_eval.specs.machine_correctness.Starts.{IsSoundCode}
 use Rattle.command_eval.proofs.machine_correctness.EvaluatedEnds.{knows}
 use Rattle.command_eval.proofs.machine_correctness.Starting.{starts}
-use Rattle.command_eval.proofs.machine_correctness.separation.CodesRun.{code_runs}
 use Rattle.command_eval.proofs.machine_correctness.separation.Running.{run_sound}
 use Rattle.command_eval.specs.command_source.Entries.{Chosen}
 use Rattle.command_run.specs.Starting.{IsStarted}
@@ -32,7 +30,7 @@ safe r input room m st sound =
     let found = kinds_found (plain r.checked.code) in
     let begin = (starts r.checked.code found.0 found.1 r.entry st.function st.values st.frames st.state sound found.2 st.begins).0 in
     let known : KnowsRun r.checked found.0 st.state room.calls = knows r.checked found.0 found.1 r.entry st.function st.values st.frames st.state room.calls sound found.2 st.begins in
-    let code : run_code (plain r.checked.code) ≡ R.plain m.stack.code.code = code_runs r.checked.code ∙ ap (λ (v : Checked). R.plain v.code) (sym st.code) in
+    let code : plain r.checked.code ≡ plain m.stack.code.code = ap (λ (v : Checked). plain v.code) (sym st.code) in
     record {
       going = (st.fresh).going;
       small = st.small;
@@ -45,17 +43,17 @@ safe r input room m st sound =
 
 -- what a machine says of its run, and of what a gauge saw of it
 abbrev pub SaysRun : Seen → Seen → ℕ → Ended → Type 0
-SaysRun m new calls o = (kinds : Kinds) (lent : List Typed) → KnowsRun m.stack.code kinds (state_with m.stack lent m.store) calls → m.stack.ended ≡ None → IsSmall m.store.cells → m.pushed ≡ [] → RunsTo kinds (R.plain m.stack.code.code) (state_with m.stack lent m.store) calls o (state_with new.stack lent new.store) new.stack.given
+SaysRun m new calls o = (kinds : Kinds) (lent : List Typed) → KnowsRun m.stack.code kinds (state_with m.stack lent m.store) calls → m.stack.ended ≡ None → IsSmall m.store.cells → m.pushed ≡ [] → RunsTo kinds (plain m.stack.code.code) (state_with m.stack lent m.store) calls o (state_with new.stack lent new.store) new.stack.given
 
 abbrev pub SaysGauge : Seen → ℕ → Gauge → Type 0
-SaysGauge m calls g = (kinds : Kinds) (lent : List Typed) → KnowsRun m.stack.code kinds (state_with m.stack lent m.store) calls → IsFresh m.stack → IsSmall m.store.cells → m.pushed ≡ [] → ReportsRun kinds (R.plain m.stack.code.code) (state_with m.stack lent m.store) calls g
+SaysGauge m calls g = (kinds : Kinds) (lent : List Typed) → KnowsRun m.stack.code kinds (state_with m.stack lent m.store) calls → IsFresh m.stack → IsSmall m.store.cells → m.pushed ≡ [] → ReportsRun kinds (plain m.stack.code.code) (state_with m.stack lent m.store) calls g
 
 pub record Ran (r : Chosen) (input : List ℕ) (room : Room) (m : Seen) (st : IsStarted r input room m) (o : Ended) (new : Seen) (g : Gauge) : Type 0 where
   pub before : Kinds
   pub waits : Kinds
   pub kinds : AreKinds (plain r.checked.code) before waits
-  pub runs : RunsTo before (R.plain r.checked.code) st.state room.calls o (state_with new.stack (st.state).lent new.store) new.stack.given
-  pub reports : ReportsRun before (R.plain r.checked.code) st.state room.calls g
+  pub runs : RunsTo before (plain r.checked.code) st.state room.calls o (state_with new.stack (st.state).lent new.store) new.stack.given
+  pub reports : ReportsRun before (plain r.checked.code) st.state room.calls g
   pub came : Came r.checked r.entry st.values room.calls st.frames st.state o (state_with new.stack (st.state).lent new.store) new.stack.given g
   pub small : IsSmall new.store.cells
 
@@ -72,14 +70,14 @@ module _ (r : Chosen) (input : List ℕ) (room : Room) (m : Seen) (st : IsStarte
   known_there : KnowsRun m.stack.code found.0 (state_with m.stack (st.state).lent m.store) room.calls
   known_there = subst (λ (v : Checked). KnowsRun v found.0 (state_with m.stack (st.state).lent m.store) room.calls) (sym st.code) (subst (λ (s : State). KnowsRun r.checked found.0 s room.calls) (sym st.stands) known)
 
-  runs : RunsTo found.0 (R.plain r.checked.code) st.state room.calls o last new.stack.given
-  runs = subst (λ (v : Checked). RunsTo found.0 (R.plain v.code) st.state room.calls o last new.stack.given) st.code
-      (subst (λ (s : State). RunsTo found.0 (R.plain m.stack.code.code) s room.calls o last new.stack.given) st.stands
+  runs : RunsTo found.0 (plain r.checked.code) st.state room.calls o last new.stack.given
+  runs = subst (λ (v : Checked). RunsTo found.0 (plain v.code) st.state room.calls o last new.stack.given) st.code
+      (subst (λ (s : State). RunsTo found.0 (plain m.stack.code.code) s room.calls o last new.stack.given) st.stands
       (says found.0 (st.state).lent known_there (st.fresh).going st.small st.pushed))
 
-  reports : ReportsRun found.0 (R.plain r.checked.code) st.state room.calls g
-  reports = subst (λ (v : Checked). ReportsRun found.0 (R.plain v.code) st.state room.calls g) st.code
-      (subst (λ (s : State). ReportsRun found.0 (R.plain m.stack.code.code) s room.calls g) st.stands
+  reports : ReportsRun found.0 (plain r.checked.code) st.state room.calls g
+  reports = subst (λ (v : Checked). ReportsRun found.0 (plain v.code) st.state room.calls g) st.code
+      (subst (λ (s : State). ReportsRun found.0 (plain m.stack.code.code) s room.calls g) st.stands
       (shows found.0 (st.state).lent known_there st.fresh st.small st.pushed))
 
   came_to : Came r.checked r.entry st.values room.calls st.frames st.state o last new.stack.given g
@@ -92,7 +90,7 @@ module _ (r : Chosen) (input : List ℕ) (room : Room) (m : Seen) (st : IsStarte
   last_small =
       let q = came_to.run in
       subst (λ (s : State). IsSmall s.store.cells) (sym (ends_last q.end q.last o last new.stack.given came_to.as'))
-      (ends_small q.before (run_code (plain r.checked.code)) q.ends.enough q.first room.calls q.end q.last q.left q.steps q.ends.is first_small)
+      (ends_small q.before (plain r.checked.code) q.ends.enough q.first room.calls q.end q.last q.left q.steps q.ends.is first_small)
 
   pub ran : Ran r input room m st o new g
   ran = record { before = found.0; waits = found.1; kinds = found.2; runs = runs; reports = reports; came = came_to; small = last_small }

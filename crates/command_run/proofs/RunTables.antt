@@ -10,7 +10,7 @@ use Rattle.fip_language.specs.SoundTable.{AreTypes, IsSoundTable}
 use Rattle.fip_language.specs.Table.{Shape, Table, shapes}
 use Rattle.fip_language.specs.Values.{Value, Int, Node, Values, End, More}
 use Rattle.command_eval.specs.machine_correctness.code_rules.Breaks.{IsSound}
-use Rattle.command_eval.specs.machine_correctness.code_rules.Codes.{PlainCode}
+use Rattle.code_verify.specs.cell_code.Plain.{PlainCode}
 use Rattle.command_eval.specs.machine_correctness.code_rules.Headers.{are_params}
 use Rattle.command_eval.specs.machine_correctness.code_rules.Tables.{AreSoundTables}
 use Rattle.command_eval.specs.machine_correctness.code_rules.Types.{is_type}

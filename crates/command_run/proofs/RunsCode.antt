@@ -7,7 +7,8 @@ use Rattle.std.proofs.lemmas.Option.{same_Some, slice_get-map}
 use Rattle.fip_language.specs.Table.{Table}
 use Rattle.fip_language.specs.Values.{Values}
 use Rattle.fip_base.specs.declared.plain.Stack.{Stack}
-use Rattle.command_eval.specs.machine_correctness.code_file.Plain.{plain_code}
+use Rattle.code_verify.specs.cell_code.Plain.{PlainFunction, PlainCode, plain_function, plain, function_at, results_of}
+use Rattle.code_verify.specs.cell_code.Plain.{results}
 use Rattle.command_words.specs.Words.{Room}
 use Rattle.command_outcome.specs.declared.failure.Failure.{Failure}
 use Rattle.command_outcome.specs.declared.failure.Failure.TheVariants as F
@@ -16,12 +17,9 @@ use Rattle.fip_machine.specs.declared.gauge.Gauge.{Gauge}
 use Rattle.fip_machine.specs.declared.machine.Ended.{Ended}
 use Rattle.fip_machine.specs.Machines.{Seen}
 use Rattle.fip_machine.specs.Tasks.{state_with}
-use Rattle.command_eval.specs.machine_correctness.code_rules.Codes.{PlainCode, PlainFunction, plain, plain_function, function_at, results, results_of}
 use Rattle.command_eval.specs.machine_correctness.code_rules.StackNumbers.{HasStack}
 use Rattle.session_semantics.specs.Talk.{frames_of}
-use Rattle.command_eval.specs.command_source.Codes.{sound_view}
 use Rattle.command_eval.specs.command_source.Entries.{Chosen, IsFunctionOf}
-use Rattle.command_eval.proofs.command_source.CodeFiles.{view_same}
 use Rattle.command_eval.specs.machine_correctness.tree_refinement.Agreement.{AreWordsOf}
 use Rattle.value_text.specs.Loaded.{types_of}
 use Rattle.command_eval.specs.EvalAnswer.{OrNoMemory}
@@ -68,9 +66,9 @@ module _ (bytes name input : List ℕ) (r : Chosen) (h : IsFunctionOf bytes name
   some : name ≡ [] → ⊥
   some e = let none = ap length e in let one = h.named.some in absurd (omega (arith, none, one))
 
-  abbrev chosen : (f : PlainFunction) (held : Option Stack) → function_at (sound_view (plain_code r.checked.code)) r.entry ≡ Some f → f.name ≡ name → HasStack (sound_view (plain_code r.checked.code)) r.entry held → D.Chosen bytes name
+  abbrev chosen : (f : PlainFunction) (held : Option Stack) → function_at (plain r.checked.code) r.entry ≡ Some f → f.name ≡ name → HasStack (plain r.checked.code) r.entry held → D.Chosen bytes name
   chosen f held there has stack = record {
-    code = plain_code r.checked.code;
+    code = plain r.checked.code;
     file = h.file;
     number = r.entry;
     function = f;
@@ -87,11 +85,11 @@ module _ (bytes name input : List ℕ) (r : Chosen) (h : IsFunctionOf bytes name
       let f : PlainFunction = st.function in
       let came : Came r.checked r.entry st.values room.calls (frames_of room.frames held) st.state o (state_with new.stack st.state.lent new.store) new.stack.given g = subst (λ n. Came r.checked r.entry st.values room.calls n st.state o (state_with new.stack st.state.lent new.store) new.stack.given g) st.has_frames.are ran.came in
       let so = ran_so r f st.values room held gauge st.state o (state_with new.stack st.state.lent new.store) new.stack.given g e st.there st.has_frames.stack came reported in
-      let x : RanSo r.checked.code.types (sound_view (plain_code r.checked.code)) r.entry f st.values room held gauge e = subst (λ c. RanSo r.checked.code.types c r.entry f st.values room held gauge e) (sym (view_same r.checked.code)) so in
+      let x : RanSo r.checked.code.types (plain r.checked.code) r.entry f st.values room held gauge e = so in
       Ran (chosen f held x.there (named f st.there) x.stack) st.values x.run e st.spelt st.fits x.reported
 
   -- what keeps it from its start
-  keeps : (f : PlainFunction) (held : Option Stack) (failure : Failure) → function_at (sound_view (plain_code r.checked.code)) r.entry ≡ Some f → f.name ≡ name → HasStack (sound_view (plain_code r.checked.code)) r.entry held → KeepsFromLoading r.checked.code.types (types_of f.params) f.credits input room.words failure → OrNoMemory (RunsCode bytes name input room gauge) (Err failure)
+  keeps : (f : PlainFunction) (held : Option Stack) (failure : Failure) → function_at (plain r.checked.code) r.entry ≡ Some f → f.name ≡ name → HasStack (plain r.checked.code) r.entry held → KeepsFromLoading r.checked.code.types (types_of f.params) f.credits input room.words failure → OrNoMemory (RunsCode bytes name input room gauge) (Err failure)
   keeps f held (F.BadInput at) there has stack k = Misspelt (chosen f held there has stack) at k
   keeps f held (F.TooSmall needed given) there has stack (vs, spelt, need, room_is, less) =
       let words : needed ≡ words_for vs f.credits = need in
@@ -106,8 +104,7 @@ module _ (bytes name input : List ℕ) (r : Chosen) (h : IsFunctionOf bytes name
   keeps_code failure k =
       let f : PlainFunction = plain_function h.named.function in
       let there : function_at (plain r.checked.code) r.entry ≡ Some f = slice_get-map plain_function r.checked.code.functions.items r.entry ∙ ap (option_map plain_function) h.named.there in
-      let same = sym (view_same r.checked.code) in
-      keeps f k.held failure (subst (λ (c : PlainCode). function_at c r.entry ≡ Some f) same there) (named f there) (subst (λ (c : PlainCode). HasStack c r.entry k.held) same k.stack) (k.keeps f there)
+      keeps f k.held failure there (named f there) k.stack (k.keeps f there)
 
   -- how a run ended, reported
   pub finished : (m : Seen) (st : IsStarted r input room m) (o : Ended) (new : Seen) (g : Gauge) → P.Ran r input room m st o new g → (res : Result (Vec ℕ Global) Failure) → OrNoMemory (ReportsEnded r.checked.code.types h.named.function.results room (if_asked gauge (gauge_lines g st.has_frames.held)) new.store new.stack.given o) res → OrNoMemory (RunsCode bytes name input room gauge) res

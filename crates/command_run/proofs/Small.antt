@@ -1,7 +1,7 @@
 -- The places of the cells after a run are as few as before it: a step makes no cell.
 use Rattle.std.proofs.Common.{◌≡◌, ◌∙◌, ℕ, length, sym, ap, arith}
 use Rattle.command_eval.specs.machine_correctness.machine_semantics.Cells.{size_in}
-use Rattle.command_eval.specs.machine_correctness.machine_semantics.Codes.{PlainCode}
+use Rattle.code_verify.specs.cell_code.Plain.{PlainCode}
 use Rattle.command_eval.specs.machine_correctness.machine_semantics.Kept.{Keeps}
 use Rattle.command_eval.specs.machine_correctness.machine_semantics.Runs.{End, Over, state_of, begun, after}
 use Rattle.command_eval.specs.machine_correctness.machine_semantics.States.{State}

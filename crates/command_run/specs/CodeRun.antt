@@ -22,23 +22,20 @@ use Rattle.fip_base.specs.declared.plain.Stack.{Stack}
 use Rattle.command_words.specs.Words.{Room}
 use Rattle.command_outcome.specs.declared.failure.Failure.{Failure}
 use Rattle.command_outcome.specs.declared.failure.Failure.TheVariants as F
-use Rattle.command_eval.specs.machine_correctness.code_file.Plain.{PlainCode}
+use Rattle.code_verify.specs.cell_code.Plain.{PlainFunction, PlainCode, function_at}
 use Rattle.command_eval.specs.machine_correctness.machine_semantics.Gauges.{seen}
 use Rattle.command_eval.specs.machine_correctness.machine_semantics.Runs.{End, Ends, Value, Trap, Out, Deep, Unsound}
 use Rattle.command_eval.specs.machine_correctness.machine_semantics.Runs.{begun}
 use Rattle.command_eval.specs.machine_correctness.machine_semantics.States.{State}
 use Rattle.command_eval.specs.machine_correctness.machine_semantics.Steps.{Kinds}
-use Rattle.command_eval.specs.machine_correctness.separation.Codes.{run_code}
 use Rattle.command_eval.specs.machine_correctness.separation.Starts.{IsStart}
-use Rattle.command_eval.specs.machine_correctness.code_rules.Codes as S
-use Rattle.command_eval.specs.machine_correctness.code_rules.Codes.{PlainFunction, function_at}
 use Rattle.command_eval.specs.machine_correctness.code_rules.StackNumbers.{HasStack}
 use Rattle.command_eval.specs.machine_correctness.tree_refinement.Endings.{AreWordsOf}
 use Rattle.command_eval.specs.machine_correctness.tree_refinement.Runs.{BeginsWith}
 use Rattle.command_eval.specs.machine_correctness.run_loading.Loading.{words_of_credits}
 use Rattle.session_semantics.specs.Talk.{frames_of}
 use Rattle.value_text.specs.ParameterTypes.{types_of}
-use Rattle.command_eval.specs.command_source.Codes.{sound_view, IsSoundFile}
+use Rattle.command_eval.specs.command_source.Codes.{IsSoundFile}
 use Rattle.command_run.specs.GaugeText.{gauge_by_states, if_asked}
 
 -- the words that a store must have for these arguments and credits
@@ -47,7 +44,7 @@ words_for vs credits = words_needed_by_all vs + words_of_credits credits
 
 -- Function n of a sound code runs on these arguments, with a cell for each credit of its header, so many calls and free
 -- frames, to its end.
-pub record Run (c : S.PlainCode) (n : ℕ) (vs : Values) (calls frames : ℕ) : Type 0 where
+pub record Run (c : PlainCode) (n : ℕ) (vs : Values) (calls frames : ℕ) : Type 0 where
   pub before : Kinds
   pub waits : Kinds
   pub first : State
@@ -58,11 +55,11 @@ pub record Run (c : S.PlainCode) (n : ℕ) (vs : Values) (calls frames : ℕ) : 
   pub last : State
   pub left : ℕ
   pub steps : ℕ
-  pub ends : Ends before (run_code c) first calls end last left steps
+  pub ends : Ends before c first calls end last left steps
 
 -- what is seen of its states, from the first to the last
-abbrev pub all_seen : {c : S.PlainCode} {n : ℕ} {vs : Values} {calls frames : ℕ} → Run c n vs calls frames → List Seen
-all_seen {c = c} {calls = calls} r = seen r.before (run_code c) (r.ends).enough (begun r.first calls)
+abbrev pub all_seen : {c : PlainCode} {n : ℕ} {vs : Values} {calls frames : ℕ} → Run c n vs calls frames → List Seen
+all_seen {c = c} {calls = calls} r = seen r.before c (r.ends).enough (begun r.first calls)
 
 -- a code file, its function of a name that isn't empty, and what runs of this hold of the stack at the most
 pub record Chosen (bytes name : List ℕ) : Type 0 where
@@ -70,11 +67,11 @@ pub record Chosen (bytes name : List ℕ) : Type 0 where
   pub file : IsSoundFile bytes code
   pub number : ℕ
   pub function : PlainFunction
-  pub there : function_at (sound_view code) number ≡ Some function
+  pub there : function_at code number ≡ Some function
   pub named : function.name ≡ name
   pub some : name ≡ [] → ⊥
   pub held : Option Stack
-  pub stack : HasStack (sound_view code) number held
+  pub stack : HasStack code number held
 
 abbrev pub SpellsFor : {bytes name : List ℕ} → Chosen bytes name → List ℕ → Values → Type 0
 SpellsFor c input vs = SpellsValues (c.code).types (types_of (c.function).params) input vs
@@ -87,7 +84,7 @@ abbrev pub frames_for : {bytes name : List ℕ} → Chosen bytes name → Room �
 frames_for c room = frames_of room.frames c.held
 
 abbrev pub RunOf : {bytes name : List ℕ} → Chosen bytes name → Values → Room → Type 0
-RunOf c vs room = Run (sound_view c.code) c.number vs room.calls (frames_for c room)
+RunOf c vs room = Run c.code c.number vs room.calls (frames_for c room)
 
 -- how the end of a run is reported, in its last state, where words of results have these types, so many calls and frames
 -- were given, and these lines stand after values; no run of sound code ends because an instruction can't be done

@@ -32,11 +32,9 @@ use Rattle.fip_base.specs.declared.plain.Stack.{Stack}
 use Rattle.command_words.specs.Words.{Room}
 use Rattle.command_outcome.specs.declared.failure.Failure.{Failure}
 use Rattle.command_outcome.specs.declared.failure.Failure.TheVariants as F
-use Rattle.command_eval.specs.machine_correctness.code_file.Plain.{PlainCode}
-use Rattle.command_eval.specs.machine_correctness.code_rules.Codes.{PlainFunction, function_at}
+use Rattle.code_verify.specs.cell_code.Plain.{PlainFunction, PlainCode, function_at}
 use Rattle.command_eval.specs.machine_correctness.code_rules.StackNumbers.{HasStack}
 use Rattle.session_semantics.specs.Talk.{frames_of}
-use Rattle.command_eval.specs.command_source.Codes.{sound_view}
 use Rattle.command_eval.specs.command_source.ProgramCode.{IsCodeOfSource}
 use Rattle.command_eval.specs.EvalAnswer.{Entry, Spells}
 use Rattle.command_eval.specs.machine_correctness.Gauges.{cells_given, IsMeasured}
@@ -60,11 +58,11 @@ pub record Coded (source name : List ℕ) : Type 0 where
   pub of' : IsCodeOfSource source code
   pub number : ℕ
   pub function : PlainFunction
-  pub there : function_at (sound_view code) number ≡ Some function
+  pub there : function_at code number ≡ Some function
   pub named : function.name ≡ name
   pub some : name ≡ [] → ⊥
   pub held : Option Stack
-  pub stack : HasStack (sound_view code) number held
+  pub stack : HasStack code number held
 
 -- the frames of its run
 abbrev pub frames_for : {source name : List ℕ} → Coded source name → Room → ℕ
@@ -97,7 +95,7 @@ pub record RunsInPlace (vs : Values) (credits : List ℕ) (ss : List Seen) (boun
 pub record RunsOn {source name : List ℕ} (entry : Entry source name) (vs : Values) (room : Room) (gauge : Bool)
     (e : Result (List ℕ) Failure) : Type 0 where
   pub code : Coded source name
-  pub run : Run (sound_view code.code) code.number vs room.calls (frames_for code room)
+  pub run : Run code.code code.number vs room.calls (frames_for code room)
   pub reported : ReportsRun entry.program.types (entry.root).results room.calls (frames_for code room)
       (λ results. if_asked gauge (gauge_by_states (all_seen run) code.held))
       (answer_of entry vs room.calls (frames_for code room)) e

@@ -8,7 +8,7 @@ use Rattle.std.specs.Prelude.{◌≡◌, ℕ, List}
 use Rattle.cell_store.specs.StoredCells.{Stored}
 use Rattle.command_words.specs.Words.{Room}
 use Rattle.fip_machine.specs.machine_cells.Small.{store_of}
-use Rattle.command_eval.specs.machine_correctness.code_rules.Codes.{plain}
+use Rattle.code_verify.specs.cell_code.Plain.{plain}
 use Rattle.command_eval.specs.command_source.Entries.{Chosen}
 use Rattle.command_run.specs.LoadedRun.{InputRun}
 use Rattle.command_run.specs.declared.running.Left.{Left}

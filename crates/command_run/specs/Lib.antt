@@ -4,7 +4,6 @@ pub mod LoadedRun
 pub mod Leaving
 pub mod StackBound
 pub mod ExecAnswer
-pub mod Rooms
 pub mod Starting
 pub use Rattle.command_eval.specs.machine_correctness.cell_lower as cell_lower
 pub use Rattle.command_eval.specs.machine_correctness.code_file as code_file

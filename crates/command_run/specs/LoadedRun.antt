@@ -15,8 +15,8 @@ use Rattle.command_words.specs.Words.{Room}
 use Rattle.command_eval.specs.machine_correctness.machine_semantics.Runs.{End, Ends, loaded}
 use Rattle.command_eval.specs.machine_correctness.machine_semantics.States.{State}
 use Rattle.command_eval.specs.machine_correctness.machine_semantics.Steps.{Kinds}
-use Rattle.command_eval.specs.machine_correctness.separation.Codes.{run_code, AreKinds}
-use Rattle.command_eval.specs.machine_correctness.code_rules.Codes.{PlainCode, PlainFunction, function_at}
+use Rattle.command_eval.specs.machine_correctness.separation.Codes.{AreKinds}
+use Rattle.code_verify.specs.cell_code.Plain.{PlainFunction, PlainCode, function_at}
 use Rattle.command_eval.specs.machine_correctness.code_rules.StackNumbers.{HasStack}
 use Rattle.command_eval.specs.machine_correctness.run_loading.Loading.{first_store, first_words}
 use Rattle.command_eval.specs.machine_correctness.run_loading.Replaying.{trace_of}
@@ -32,17 +32,17 @@ pub record LoadedRun (c : PlainCode) (n : ℕ) (vs : Values) (credits : List ℕ
   pub waits : Kinds
   pub kinds : AreKinds c before waits
   pub first : State
-  pub begins : loaded (run_code c) n (first_store vs credits) (first_words vs credits) frames ≡ Some first
+  pub begins : loaded c n (first_store vs credits) (first_words vs credits) frames ≡ Some first
   pub end : End
   pub last : State
   pub left : ℕ
   pub steps : ℕ
-  pub ends : Ends before (run_code c) first calls end last left steps
+  pub ends : Ends before c first calls end last left steps
 
 -- its trace
 abbrev pub trace_of_run : {c : PlainCode} {n : ℕ} {vs : Values} {credits : List ℕ} {calls frames : ℕ} →
     LoadedRun c n vs credits calls frames → Trace
-trace_of_run {c = c} {calls = calls} r = trace_of r.before (run_code c) r.first calls r.steps
+trace_of_run {c = c} {calls = calls} r = trace_of r.before c r.first calls r.steps
 
 -- Function n runs on the values that the input spells, whose cells and those of the header's credits the store has the
 -- words for.

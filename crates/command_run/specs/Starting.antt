@@ -15,8 +15,7 @@ use Rattle.cell_store.specs.Made.{Loading}
 use Rattle.command_eval.specs.machine_correctness.machine_semantics.Cells.{Store, IsStore}
 use Rattle.command_eval.specs.machine_correctness.machine_semantics.Runs.{loaded}
 use Rattle.command_eval.specs.machine_correctness.machine_semantics.States.{State}
-use Rattle.command_eval.specs.machine_correctness.separation.Codes.{run_code}
-use Rattle.command_eval.specs.machine_correctness.code_rules.Codes.{PlainFunction, plain, function_at}
+use Rattle.code_verify.specs.cell_code.Plain.{PlainFunction, plain, function_at}
 use Rattle.command_eval.specs.machine_correctness.code_rules.StackNumbers.{HasStack}
 use Rattle.fip_machine.specs.machine_cells.Small.{IsSmall, store_of}
 use Rattle.fip_machine.specs.declared.gauge.Gauge.{Gauge}
@@ -76,7 +75,7 @@ pub record IsStarted (r : Chosen) (input : List ℕ) (room : Room) (m : Seen) : 
   pub has_frames : HasFrames r room.frames frames
   pub state : State
   pub begins : Begins r.checked.code r.entry function values frames state
-  pub loads : loaded (run_code (plain r.checked.code)) r.entry (first_store values function.credits)
+  pub loads : loaded (plain r.checked.code) r.entry (first_store values function.credits)
       (first_words values function.credits) frames ≡ Some state
   pub stands : state_with m.stack state.lent m.store ≡ state
   pub code : m.stack.code ≡ r.checked

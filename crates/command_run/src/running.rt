@@ -9,7 +9,7 @@ ghost use Rattle.fip_machine.specs.cell_code.declared.code.Function.{Function as
 ghost use Rattle.command_words.specs.View.{room_of};
 ghost use Rattle.command_outcome.specs.Stages.{IsOfRun};
 ghost use Rattle.fip_machine.specs.machine_cells.Small.{IsSmall};
-ghost use Rattle.command_eval.specs.machine_correctness.code_rules.Codes.{plain};
+ghost use Rattle.fip_machine.specs.cell_code.Plain.{plain};
 ghost use Rattle.command_eval.specs.machine_correctness.code_rules.StackNumbers.{HasStack};
 ghost use Rattle.command_eval.specs.machine_correctness.Meant.{ArePrintable};
 ghost use Rattle.command_eval.specs.command_source.Entries.{IsFunctionOf};
@@ -20,7 +20,6 @@ ghost use Rattle.command_run.specs.CodeRun.{is_run_end, RunsCode};
 ghost use Rattle.command_run.specs.ExecAnswer.{Execs};
 ghost use Rattle.command_run.specs.GaugeText.{if_asked};
 ghost use Rattle.command_run.specs.Leaving.{IsLeftBy, IsLastStore};
-ghost use Rattle.command_run.specs.Rooms.{IsAllowed};
 ghost use Rattle.command_run.specs.Starting.{failure_for, gauge_lines, ReportsEnded};
 
 use crate::loading::{bound_of, started};
@@ -29,11 +28,11 @@ use cell_store::Sealed;
 use code_verify::Verified;
 use command_eval::source::Ready;
 use command_outcome::Failure;
-use command_words::Room;
 use fip_base::plain::NoMemory;
 use fip_base::table::TypeTable;
-use fip_language::limits::{MOST_FILE_BYTES, MOST_FRAMES, MOST_STORE_WORDS};
+use fip_language::limits::MOST_FILE_BYTES;
 use fip_machine::{Ended, Gauge, Machine};
+use fip_room::Room;
 use std::alloc::Global;
 
 /// The types of the code.
@@ -44,7 +43,7 @@ pub fn types_of(ready: &Ready) -> &TypeTable
 }
 
 /// What keeps a run that ended so from its value; none where it ended with one.
-pub fn failure_of(ended: Ended, calls: u64, frames: u64) -> Option<Failure>
+pub fn failure_of(ended: Ended, calls: u64, frames: usize) -> Option<Failure>
     ensures exact { result ≡ failure_for ended calls frames }
     ensures stage { IfSome result IsOfRun }
 {
@@ -52,9 +51,7 @@ pub fn failure_of(ended: Ended, calls: u64, frames: u64) -> Option<Failure>
         Ended::Value => None,
         Ended::Trap { kind, line, col } => Some(Failure::Trap { kind, line, col }),
         Ended::Out => Some(Failure::OutOfCalls { given: calls }),
-        Ended::Deep => Some(Failure::OutOfFrames {
-            given: frames as usize,
-        }),
+        Ended::Deep => Some(Failure::OutOfFrames { given: frames }),
     }
 }
 
@@ -139,14 +136,11 @@ pub fn leave(ready: Ready, cells: Option<Sealed>, left: &mut Option<Left>)
     };
 }
 
-// Whether the room and the input are within what the command line takes.
-fn is_allowed(room: Room, input: &[u8]) -> bool
-    ensures room { result ≡ true → IsAllowed room }
-    ensures input { result ≡ true → length input.now ≤ MOST_FILE_BYTES }
+// Whether the input is within what the command line takes.
+fn is_short(input: &[u8]) -> bool
+    ensures { result ≡ true → length input.now ≤ MOST_FILE_BYTES }
 {
-    room.frames <= MOST_FRAMES as u64
-        && room.words <= MOST_STORE_WORDS as u64
-        && input.len() <= MOST_FILE_BYTES
+    input.len() <= MOST_FILE_BYTES
 }
 
 // Runs the function as `run` does, and hands out the cells as its run left them: just where a run ended, with values,
@@ -159,14 +153,14 @@ fn run_leaving(
     gauge: bool,
 ) -> (Result<Vec<u8>, Failure>, Option<Sealed>)
     ensures means { (source name : List ℕ) → IsReady source (Compiled name) → IsEntryOf source name ready.now →
-        IsAllowed room → length input.now ≤ MOST_FILE_BYTES →
+        length input.now ≤ MOST_FILE_BYTES →
         OrNoMemory (Execs source name input.now (room_of room) gauge) result.0 }
-    ensures runs { (bytes name : List ℕ) → IsFunctionOf bytes name ready.now → IsAllowed room →
+    ensures runs { (bytes name : List ℕ) → IsFunctionOf bytes name ready.now →
         length input.now ≤ MOST_FILE_BYTES → OrNoMemory (RunsCode bytes name input.now (room_of room) gauge) result.0 }
     ensures meant { (source name : List ℕ) → IsReady source (Compiled name) → IsEntryOf source name ready.now →
-        IsAllowed room → length input.now ≤ MOST_FILE_BYTES →
+        length input.now ≤ MOST_FILE_BYTES →
         IfSome result.1 (IsLastStore ready.now input.now (room_of room)) }
-    ensures coded { (bytes name : List ℕ) → IsFunctionOf bytes name ready.now → IsAllowed room →
+    ensures coded { (bytes name : List ℕ) → IsFunctionOf bytes name ready.now →
         length input.now ≤ MOST_FILE_BYTES → IfSome result.1 (IsLastStore ready.now input.now (room_of room)) }
     ensures some { is_some result.1 ≡ is_run_end result.0 }
     ensures stage { IfErr result.0 IsOfRun }
@@ -177,7 +171,7 @@ fn run_leaving(
         Err(failure) => return (Err(failure), None),
     };
     let mut seen = Gauge::new();
-    let sure = is_allowed(room, input);
+    let sure = is_short(input);
     let ended = machine.run_sure(sure, room.calls, &mut seen);
     let end = reported(alloc, ready, &machine, ended, &seen, room, gauge);
     if is_run_end(&end) {
@@ -202,16 +196,16 @@ pub fn run(
 ) -> Result<Vec<u8>, Failure>
     // It is what the source means, where the code is that of a source,
     ensures means { (source name : List ℕ) → IsReady source (Compiled name) → IsEntryOf source name ready →
-        IsAllowed room → length input.now ≤ MOST_FILE_BYTES →
+        length input.now ≤ MOST_FILE_BYTES →
         OrNoMemory (Execs source name input.now (room_of room) gauge) result }
     // and what the runs of the code come to, where it is that of a file.
-    ensures runs { (bytes name : List ℕ) → IsFunctionOf bytes name ready → IsAllowed room →
+    ensures runs { (bytes name : List ℕ) → IsFunctionOf bytes name ready →
         length input.now ≤ MOST_FILE_BYTES → OrNoMemory (RunsCode bytes name input.now (room_of room) gauge) result }
     // What is left is this code, and the cells of the last state of its run from where the input is loaded.
     ensures meant { (source name : List ℕ) → IsReady source (Compiled name) → IsEntryOf source name ready →
-        IsAllowed room → length input.now ≤ MOST_FILE_BYTES →
+        length input.now ≤ MOST_FILE_BYTES →
         IfSome left.new (IsLeftBy ready input.now (room_of room)) }
-    ensures coded { (bytes name : List ℕ) → IsFunctionOf bytes name ready → IsAllowed room →
+    ensures coded { (bytes name : List ℕ) → IsFunctionOf bytes name ready →
         length input.now ≤ MOST_FILE_BYTES → IfSome left.new (IsLeftBy ready input.now (room_of room)) }
     // Something is left just where a run ended.
     ensures some { is_some left.new ≡ is_run_end result }

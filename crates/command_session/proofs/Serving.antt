@@ -8,13 +8,11 @@ use Rattle.command_run.specs.fip_trees.declared.groups.Member.{Member}
 use Rattle.command_run.specs.fip_trees.Tree.{Instance, Program}
 use Rattle.command_run.specs.cell_lower.Limits.{registers}
 use Rattle.command_run.specs.cell_lower.Shape.{Header, header, header_of, headers}
-use Rattle.command_run.specs.code_file.Plain.{plain_code}
+use Rattle.command_run.specs.cell_lower.cell_code.Plain.{plain_function, plain, function_at}
 use Rattle.command_run.specs.code_rules.Breaks.{IsSound}
-use Rattle.command_run.specs.code_rules.Codes.{plain, plain_function, function_at}
 use Rattle.command_run.specs.code_rules.StackNumbers.{HasStack}
 use Rattle.command_run.specs.command_source.ProgramCode.{IsLoweredFrom}
 use Rattle.command_run.specs.lowering_relation.LoweredBodies.{function_of, has_function, if_function, one_more}
-use Rattle.command_run.specs.lowering_relation.LoweredFunctions.{AreLowered}
 use Rattle.command_run.specs.machine_correctness.Starts.{IsCodeOf}
 use Rattle.command_run.specs.separation.Codes.{HasLiterals, AreKinds}
 use Rattle.command_run.specs.session_semantics.Talk.{Setting, answer_of, frames_by, frames_of, free_frames}
@@ -25,8 +23,7 @@ use Rattle.command_run.proofs.Bounded.{few_frames, one_of_name}
 use Rattle.command_run.proofs.Loaded.{IsLoadable, loadable}
 use Rattle.command_run.proofs.command_eval.Meant.{typed_of}
 use Rattle.command_run.proofs.command_eval.SoundTypes.{typed_sound}
-use Rattle.command_run.proofs.command_source.CodeFiles.{view_same}
-use Rattle.command_run.proofs.command_source.Compiling.{headers_same, instrs_same}
+use Rattle.command_run.proofs.machine_correctness.Entries.{headers_of}
 use Rattle.command_run.proofs.compiler_correctness.Joined.{on_cells}
 use Rattle.command_run.proofs.machine_correctness.Entries.{IsNamed, named}
 use Rattle.command_run.proofs.machine_correctness.Made.{IsMadeOf, made_of}
@@ -102,7 +99,7 @@ of_header (f ∷ fs) (suc n) h e = of_header fs n h e
 
 -- ---- the code of a source
 
-module _ (source : List ℕ) (o : Setting) (code : Code) (accepted : IsAccepted source o.program) (found : AreMembers (o.program).instances o.members) (sound : IsSound (plain code)) (literals : HasLiterals (plain code)) (lowered : IsLoweredFrom o.program (plain_code code)) (few : o.frames ≤ MOST_FRAMES) where
+module _ (source : List ℕ) (o : Setting) (code : Code) (accepted : IsAccepted source o.program) (found : AreMembers (o.program).instances o.members) (sound : IsSound (plain code)) (literals : HasLiterals (plain code)) (lowered : IsLoweredFrom o.program (plain code)) (few : o.frames ≤ MOST_FRAMES) where
   abbrev p : Program
   p = o.program
 
@@ -110,7 +107,7 @@ module _ (source : List ℕ) (o : Setting) (code : Code) (accepted : IsAccepted 
   types = typed_of source p accepted
 
   headed : map header code.functions.items ≡ headers lowered.members p.instances
-  headed = sym (headers_same code.functions.items) ∙ lowered.functions
+  headed = sym (headers_of code.functions.items) ∙ lowered.functions
 
   abbrev code_of : IsCodeOf source types.flat.core code
   code_of = record {
@@ -120,7 +117,7 @@ module _ (source : List ℕ) (o : Setting) (code : Code) (accepted : IsAccepted 
     accepted = accepted;
     types = lowered.types;
     functions = headed;
-    lowered = subst (AreLowered p) (instrs_same code.functions.items) lowered.lowered;
+    lowered = lowered.lowered;
     is_sound = record { sound = sound; literals = literals };
   }
 
@@ -149,7 +146,7 @@ module _ (source : List ℕ) (o : Setting) (code : Code) (accepted : IsAccepted 
 
   has_frames : (n i frames : ℕ) (m : Member) → function_of p.instances i ≡ Some n → slice_get o.members i ≡ Some m → HasFrames (plain code) n o.frames frames → frames ≡ free_frames o i
   has_frames n i frames m function there h =
-      let stack : HasStack (plain code) n m.stack = subst (λ c. HasStack c n m.stack) (view_same code) (lowered.stacks o.members found i n m function there) in
+      let stack : HasStack (plain code) n m.stack = lowered.stacks o.members found i n m function there in
       let same : h.held ≡ m.stack = has_once (plain code) n h.held m.stack h.stack stack in
       let free : free_frames o i ≡ frames_of o.frames m.stack = ap (frames_by o.frames) there in
       h.are ∙ ap (λ q. min (frames_of o.frames q) MOST_FRAMES) same ∙ given n m.stack stack ∙ sym free

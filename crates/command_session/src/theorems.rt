@@ -1,8 +1,7 @@
 // The theorems of sessions of a source. Each is the contract of a function that does nothing.
 ghost use Rattle.std.specs.Prelude.{◌≤◌, List, ℕ};
-ghost use Rattle.command_run.specs.code_file.Plain.{plain_code};
+ghost use Rattle.command_run.specs.cell_lower.cell_code.Plain.{plain};
 ghost use Rattle.command_run.specs.code_rules.Breaks.{IsSound};
-ghost use Rattle.command_run.specs.code_rules.Codes.{plain};
 ghost use Rattle.command_run.specs.command_source.ProgramCode.{IsLoweredFrom};
 ghost use Rattle.command_run.specs.separation.Codes.{HasLiterals};
 ghost use Rattle.command_run.specs.session_semantics.Talk.{Setting};
@@ -18,5 +17,5 @@ ghost use Rattle.session_code.specs.session_correctness.tree_refinement.fip_lang
 pub fn what_is_made_of_a_source_serves_its_sessions()
     ensures theorem { (source : List ℕ) (o : Setting) (code : Code) → IsAccepted source o.program →
         AreMembers (o.program).instances o.members → IsSound (plain code) → HasLiterals (plain code) →
-        IsLoweredFrom o.program (plain_code code) → o.frames ≤ MOST_FRAMES → IsServed o code }
+        IsLoweredFrom o.program (plain code) → o.frames ≤ MOST_FRAMES → IsServed o code }
 {}

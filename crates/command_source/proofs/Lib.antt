@@ -4,7 +4,7 @@ pub mod Roots
 pub mod Once
 pub mod CodeFiles
 pub mod Compiling
-pub mod Rooted
+pub mod FunctionNumbers
 pub mod Deriving
 pub mod Entries
 pub use Rattle.machine_correctness.proofs.compiler_correctness.fip_grammar as fip_grammar

@@ -2,7 +2,7 @@
 use Rattle.std.proofs.Common.{◌≡◌, ℕ, List, inl, refl, sym, subst}
 use Rattle.std.specs.Prelude.{Result, Ok, Err, IfErr}
 use Rattle.code_verify.specs.code_rules.Breaks.{IsSound}
-use Rattle.code_verify.specs.code_rules.Codes.{PlainCode}
+use Rattle.cell_code.specs.Plain.{PlainCode}
 use Rattle.command_source.specs.Codes.{IsLeastOf}
 use Rattle.command_source.specs.Wanted.{Wanted, IsRefusedBy, IsReport, KeepsFrom}
 use Rattle.command_outcome.specs.declared.failure.Failure.{Failure}

@@ -3,17 +3,17 @@
 -- order, as in
 --     rev fip stack 0 frames 9 words
 --     len fbip
-use Rattle.std.specs.Prelude.{◌≡◌, ◌⊎◌, ◌<◌, ◌≤◌, ℕ, suc, Bool, true, false, List, [], ◌∷◌, ◌++◌, map, length, Option}
+use Rattle.std.specs.Prelude.{◌≡◌, ◌⊎◌, ◌<◌, ◌≤◌, ℕ, suc, Bool, true, false, List, [], ◌∷◌, ◌++◌, length, Option}
 use Rattle.std.specs.Prelude.{bytes_eq, if◌then◌else◌}
 use Rattle.fip_language.specs.declared.limits.TheConstants.{MOST_FILE_BYTES}
 use Rattle.fip_language.specs.declared.rule.Rule.TheVariants.{E61, E70}
 use Rattle.fip_language.specs.Prefix.{IsPlace}
 use Rattle.fip_base.specs.declared.plain.Stack.{Stack}
 use Rattle.code_file.specs.CodeText.{CodeText, IsFileOf}
-use Rattle.code_file.specs.Plain.{PlainLabel, PlainFunction, PlainCode}
+use Rattle.cell_code.specs.CodeKinds.{fun_kind}
+use Rattle.cell_code.specs.Plain.{PlainFunction, PlainCode}
 use Rattle.code_file.specs.declared.tags.Version.TheVariants.{Second}
 use Rattle.code_verify.specs.code_rules.Breaks.{IsLeast, IsSound}
-use Rattle.code_verify.specs.code_rules.Codes as S
 use Rattle.code_verify.specs.code_rules.StackNumbers.{HasStack}
 use Rattle.program_front.specs.source_report.Report.{bare}
 use Rattle.command_source.specs.Wanted.{IsRefusedBy, of_entry}
@@ -21,31 +21,15 @@ use Rattle.command_outcome.specs.Successes.{function_text}
 use Rattle.command_outcome.specs.declared.failure.Failure.{Failure}
 use Rattle.command_outcome.specs.declared.failure.Failure.TheVariants as F
 
--- ---- the code of a file, as the rules of sound code speak of it
-
-abbrev pub sound_label : PlainLabel → S.LabelMap
-sound_label l = record { at = l.at; kinds = l.kinds }
-
-abbrev pub sound_function : PlainFunction → S.PlainFunction
-sound_function f = record {
-  kind = f.kind;
-  name = f.name;
-  params = f.params;
-  credits = f.credits;
-  results = f.results;
-  registers = f.registers;
-  instrs = f.instrs;
-  labels = map sound_label f.labels;
-}
-
-abbrev pub sound_view : PlainCode → S.PlainCode
-sound_view c = record { types = c.types; functions = map sound_function c.functions }
+-- a code that has a file, of either version
+abbrev pub IsSpelt : PlainCode → Type 0
+IsSpelt code = (bytes : List ℕ) × IsFileOf bytes code
 
 -- The bytes are the file of this code, which is sound.
 pub record IsSoundFile (bytes : List ℕ) (code : PlainCode) : Type 0 where
   pub short : length bytes ≤ MOST_FILE_BYTES
   pub spelt : IsFileOf bytes code
-  pub sound : IsSound (sound_view code)
+  pub sound : IsSound code
 
 -- ---- what is said in its place
 
@@ -53,7 +37,7 @@ pub data RefusesCode (bytes : List ℕ) : Failure → Type 0 where
   LongFile : MOST_FILE_BYTES < length bytes → RefusesCode bytes (F.BadCode MOST_FILE_BYTES)
   BadFile : (at : ℕ) → length bytes ≤ MOST_FILE_BYTES → IsPlace IsFileOf bytes at → RefusesCode bytes (F.BadCode at)
   UnsoundFile : (code : PlainCode) (function at : ℕ) (rule : _) → length bytes ≤ MOST_FILE_BYTES →
-      IsFileOf bytes code → IsLeast (sound_view code) function at rule →
+      IsFileOf bytes code → IsLeast code function at rule →
       RefusesCode bytes (F.Unsound function at rule)
 
 -- The same, or want of memory.
@@ -66,13 +50,13 @@ KeepsFromCode bytes failure = ⊥
 -- ---- its functions
 
 -- what function n of the code holds of the stack at the most, in the line of a function that has a name
-abbrev pub IsLine : S.PlainCode → ℕ → S.PlainFunction → List ℕ → List ℕ → Type 0
+abbrev pub IsLine : PlainCode → ℕ → PlainFunction → List ℕ → List ℕ → Type 0
 IsLine c n f [] text = text ≡ []
 IsLine c n f (b ∷ name) text =
-    (held : Option Stack) × HasStack c n held × (text ≡ function_text (b ∷ name) f.kind f.credits held)
+    (held : Option Stack) × HasStack c n held × (text ≡ function_text (b ∷ name) (fun_kind f.kind) f.credits held)
 
 -- the lines of these functions, of numbers from n on
-abbrev pub AreLines : S.PlainCode → ℕ → List S.PlainFunction → List ℕ → Type 0
+abbrev pub AreLines : PlainCode → ℕ → List PlainFunction → List ℕ → Type 0
 AreLines c n [] text = text ≡ []
 AreLines c n (f ∷ fs) text =
     (line rest : List ℕ) × IsLine c n f f.name line × AreLines c (suc n) fs rest × (text ≡ line ++ rest)
@@ -81,14 +65,14 @@ AreLines c n (f ∷ fs) text =
 pub record IsCodeListing (bytes text : List ℕ) : Type 0 where
   pub code : PlainCode
   pub file : IsSoundFile bytes code
-  pub lines : AreLines (sound_view code) 0 (sound_view code).functions text
+  pub lines : AreLines code 0 code.functions text
 
 -- a function of this name; the empty name names none
-abbrev pub has_named : List ℕ → List S.PlainFunction → Bool
+abbrev pub has_named : List ℕ → List PlainFunction → Bool
 has_named name [] = false
 has_named name (f ∷ fs) = if bytes_eq f.name name then true else has_named name fs
 
-abbrev pub names_one : List ℕ → List S.PlainFunction → Bool
+abbrev pub names_one : List ℕ → List PlainFunction → Bool
 names_one [] fs = false
 names_one (b ∷ name) fs = has_named (b ∷ name) fs
 
@@ -108,7 +92,7 @@ pub record IsUpgraded (bytes file : List ℕ) : Type 0 where
 -- ---- what keeps a code file from more
 
 -- A violation of a code, the least one; or want of memory.
-abbrev pub IsLeastOf : S.PlainCode → Failure → Type 0
+abbrev pub IsLeastOf : PlainCode → Failure → Type 0
 IsLeastOf c (F.Unsound function at rule) = IsLeast c function at rule
 IsLeastOf c F.NoMemory = Unit {0}
 IsLeastOf c failure = ⊥
@@ -121,10 +105,10 @@ KeepsFromUpgrade bytes failure = KeepsFromCode bytes failure
 -- What is said in place of a run of a function, or want of memory.
 abbrev pub KeepsFromRun : List ℕ → List ℕ → Failure → Type 0
 KeepsFromRun bytes entry failure = KeepsFromCode bytes failure
-    ⊎ ((code : PlainCode) × IsSoundFile bytes code × (names_one entry (sound_view code).functions ≡ false)
+    ⊎ ((code : PlainCode) × IsSoundFile bytes code × (names_one entry code.functions ≡ false)
     × IsRefusedBy (λ r. r ≡ of_entry E70 entry) failure)
 
 -- The bytes are the file of a sound code that has a function of this name.
 abbrev pub HasFunction : List ℕ → List ℕ → Type 0
 HasFunction bytes entry =
-    (code : PlainCode) × IsSoundFile bytes code × (names_one entry (sound_view code).functions ≡ true)
+    (code : PlainCode) × IsSoundFile bytes code × (names_one entry code.functions ≡ true)

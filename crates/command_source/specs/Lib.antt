@@ -1,10 +1,11 @@
 pub mod Roots
 pub mod Places
 pub mod Wanted
+pub mod FunctionNumbers
 pub mod Entries
 pub mod Judged
 pub mod Codes
-pub mod Chosen
+pub mod CodeShape
 pub mod ProgramCode
 pub mod Derived
 pub use Rattle.code_bytes.specs as code_bytes

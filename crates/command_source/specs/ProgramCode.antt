@@ -1,70 +1,35 @@
--- The code that `compile` stores of a source, as far as it is said. It is sound, and its types are those of the
--- source's program. It has a function for each fip and fbip instance, in the order of their numbers: of the instance's
--- kind, with its parameters, header credits and results, with as many registers as the groups tell, and with the
--- instance's name where this is a root; and it holds of the stack at the most what the groups tell of the instance, as
--- `check` prints it of a root. Its instructions are such as the instance is lowered to, so each of its runs ends as the
--- source means; it has no more of them, and of label maps, than the instance's places allow, and none of them, reached or
--- not, lists more registers than the instance's width allows. So its file is no longer than the source's program allows
--- (`code_bytes` says how long that is). It has a file of the second version, which `compile` stores where it isn't too
--- long; E61 is reported only where some code of which all this is so has a file that is too long, as none of a small
--- source has.
+-- It serves the proofs on `compile`, `exec` and `trace`: the code that is made of a source, as far as it is said. It is sound,
+-- and its types are those of the source's program. It has a function for each fip and fbip instance, in the order of their
+-- numbers, headed as the instance is, and as large as its places and its width allow (`CodeShape`). Its instructions are such as
+-- the instance is lowered to, so each of its runs ends as the source means. It has a file of the second version, which
+-- `compile` stores where it isn't too long; E61 is reported only where some code of which all this is so has a file that is too
+-- long, as none of a small source has.
 --
 -- Of the source
 --     fip fun rev(xs: list, acc: list): list { .. }
 --     fun dup(^xs: list): pair { .. }
 -- it has one function, which is fip, named rev, and has two parameters and one result; and
 -- `compile list.fip3 list.code` stores the second version's file of this code.
-use Rattle.std.specs.Prelude.{◌≡◌, ◌⊎◌, ◌≤◌, ◌<◌, ℕ, List, map, length, Option, Some, None, slice_get}
+use Rattle.std.specs.Prelude.{◌≡◌, ◌⊎◌, ◌≤◌, ◌<◌, ℕ, List, map, length, Option, Some, None}
 use Rattle.fip_language.specs.declared.limits.TheConstants.{MOST_FILE_BYTES}
 use Rattle.fip_language.specs.declared.rule.Rule.TheVariants.{E61}
 use Rattle.fip_base.specs.declared.refusal.Refusal.{Refusal}
 use Rattle.fip_trees.specs.declared.groups.Member.{Member}
-use Rattle.fip_trees.specs.Tree.{Instance, Program}
+use Rattle.fip_trees.specs.Tree.{Program}
 use Rattle.program_front.specs.tail_groups.Members.{AreMembers}
-use Rattle.cell_code.specs.declared.code.Instr.{Instr}
-use Rattle.program_front.specs.cell_lower.Shape.{Header, headers}
-use Rattle.machine_correctness.specs.compiler_correctness.code_size.Bounds.{IsWithin}
-use Rattle.code_bytes.specs.Operands.{most_operands, HaveFew}
+use Rattle.program_front.specs.cell_lower.Shape.{headers, plain_header}
 use Rattle.code_file.specs.CodeText.{CodeText}
-use Rattle.code_file.specs.Plain.{PlainFunction, PlainCode, plain_code}
+use Rattle.cell_code.specs.Plain.{PlainFunction, PlainCode, plain, all_instrs}
 use Rattle.code_file.specs.declared.tags.Version.TheVariants.{Second}
-use Rattle.machine_correctness.specs.compiler_correctness.lowering_relation.LoweredBodies.{function_of}
 use Rattle.machine_correctness.specs.compiler_correctness.lowering_relation.LoweredFunctions.{AreLowered}
 use Rattle.code_verify.specs.Checked.{Checked}
 use Rattle.code_verify.specs.code_rules.Breaks.{IsSound}
-use Rattle.code_verify.specs.code_rules.StackNumbers.{HasStack}
 use Rattle.program_front.specs.source_report.Report.{bare, IsAccepted}
-use Rattle.command_source.specs.Codes.{sound_view, IsUnspelt}
+use Rattle.command_source.specs.Codes.{IsUnspelt}
+pub use Rattle.command_source.specs.CodeShape.{AreWithin, AreNarrow, HaveStacks, HasFile}
 use Rattle.command_source.specs.Entries.{Chosen, IsNamed}
 use Rattle.command_source.specs.Wanted.{Lawful, IsRefusedBy, KeepsFrom, Refuses}
 use Rattle.command_outcome.specs.declared.failure.Failure.{Failure}
-
--- what a function says beside its instructions and labels
-abbrev pub plain_header : PlainFunction → Header
-plain_header f = record {
-  signature = record { kind = f.kind; params = f.params; credits = f.credits; results = f.results };
-  name = f.name;
-  registers = f.registers;
-}
-
-abbrev pub instrs_of : PlainFunction → List Instr
-instrs_of f = f.instrs
-
--- Function n is that of instance i, and no larger than its places allow.
-abbrev pub AreWithin : Program → List PlainFunction → Type 0
-AreWithin p fs = (i n : ℕ) (d : Instance) (f : PlainFunction) → slice_get p.instances i ≡ Some d →
-    function_of p.instances i ≡ Some n → slice_get fs n ≡ Some f →
-    IsWithin p.types d (length f.instrs) (length f.labels)
-
--- The instructions of function n list no more registers than the width of instance i allows.
-abbrev pub AreNarrow : Program → List PlainFunction → Type 0
-AreNarrow p fs = (i n : ℕ) (d : Instance) (f : PlainFunction) → slice_get p.instances i ≡ Some d →
-    function_of p.instances i ≡ Some n → slice_get fs n ≡ Some f → HaveFew (most_operands p.instances d) f.instrs
-
--- Each function holds of the stack at the most what the groups tell of its instance, or nothing is reported of either.
-abbrev pub HaveStacks : Program → PlainCode → Type 0
-HaveStacks p code = (members : List Member) → AreMembers p.instances members → (i n : ℕ) (m : Member) →
-    function_of p.instances i ≡ Some n → slice_get members i ≡ Some m → HasStack (sound_view code) n m.stack
 
 -- The code's types are the program's; its functions are headed as the program's instances tell, and hold of the stack
 -- what is reported of these; their instructions are lowered from these, and no more than their places allow, nor wider than
@@ -74,26 +39,22 @@ pub record IsLoweredFrom (p : Program) (code : PlainCode) : Type 0 where
   pub members : List Member
   pub found : AreMembers p.instances members
   pub functions : map plain_header code.functions ≡ headers members p.instances
-  pub lowered : AreLowered p (map instrs_of code.functions)
+  pub lowered : AreLowered p (all_instrs code)
   pub bounded : AreWithin p code.functions
   pub narrow : AreNarrow p code.functions
   pub stacks : HaveStacks p code
-
--- A code that has a file of the second version.
-abbrev pub HasFile : PlainCode → Type 0
-HasFile code = (file : List ℕ) × CodeText file Second code
 
 -- a code that is made of this source, which breaks no rule
 pub record IsCodeOfSource (source : List ℕ) (code : PlainCode) : Type 0 where
   pub program : Program
   pub accepted : IsAccepted source program
   pub lowered : IsLoweredFrom program code
-  pub sound : IsSound (sound_view code)
+  pub sound : IsSound code
   pub filed : HasFile code
 
 -- What is run by this name: such a code, and its function of this name, which isn't empty.
 pub record IsEntryOf (source name : List ℕ) (r : Chosen) : Type 0 where
-  pub code : IsCodeOfSource source (plain_code r.checked.code)
+  pub code : IsCodeOfSource source (plain r.checked.code)
   pub named : IsNamed name r.checked.code.functions.items r.entry
 
 -- The file is that of the second version of such a code.
@@ -118,9 +79,9 @@ KeepsFromCompile source failure = KeepsFrom source Lawful failure
 -- The file is that of just this code, and isn't too long.
 abbrev pub IsFileOfMade : Option Checked → List ℕ → Type 0
 IsFileOfMade None file = ⊥
-IsFileOfMade (Some v) file = CodeText file Second (plain_code v.code) × (length file ≤ MOST_FILE_BYTES)
+IsFileOfMade (Some v) file = CodeText file Second (plain v.code) × (length file ≤ MOST_FILE_BYTES)
 
 -- Why none is stored: just this code has no file that isn't too long; or none was made, since the source is refused.
 abbrev pub KeepsFromFile : List ℕ → Option Checked → Refusal → Type 0
 KeepsFromFile source None r = Refuses source Lawful r
-KeepsFromFile source (Some v) r = IsUnspelt (plain_code v.code)
+KeepsFromFile source (Some v) r = IsUnspelt (plain v.code)

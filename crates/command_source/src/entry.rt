@@ -1,30 +1,30 @@
 // The function that is run or evaluated.
-ghost use Rattle.std.specs.Prelude.{◌≡◌, ◌<◌, ℕ, List, IfOk, IfErr, IfSome, OnOk, OnErr, MatchOption, None, Some, false};
+ghost use Rattle.std.specs.Prelude.{◌≡◌, ◌<◌, ◌≤◌, ℕ, List, IfOk, IfErr, IfSome, OnOk, MatchOption, None, Some, false};
 ghost use Rattle.std.specs.Prelude.{length};
 ghost use Rattle.std.specs.Prelude.{◌⊎◌, true, map, slice_get, bytes_eq, if◌then◌else◌};
 ghost use Rattle.fip_language.specs.declared.rule.Rule.TheVariants.{E70};
 ghost use Rattle.cell_code.specs.declared.code.Function.{Function as a_function};
-ghost use Rattle.code_file.specs.Plain.{plain_code};
+ghost use Rattle.cell_code.specs.Plain.{plain_function, plain};
 ghost use Rattle.code_verify.specs.code_rules.Breaks.{IsSound};
-ghost use Rattle.code_verify.specs.code_rules.Codes.{plain, plain_function};
 ghost use Rattle.command_outcome.specs.declared.failure.Failure.TheVariants.{NoMemory};
-ghost use Rattle.command_source.specs.Chosen.{IsSpelt};
-ghost use Rattle.command_source.specs.Codes.{HasFunction, KeepsFromRun, has_named, names_one};
+ghost use Rattle.command_source.specs.Codes.{HasFunction, IsSpelt, KeepsFromRun, has_named, names_one};
 ghost use Rattle.command_outcome.specs.Stages.{IsOfSource};
 ghost use Rattle.fip_trees.specs.TreeView as V;
 ghost use Rattle.fip_trees.specs.declared.program.Instance.{Instance as an_instance};
 ghost use Rattle.program_front.specs.source_report.Report.{IsAccepted};
+ghost use Rattle.program_front.specs.tail_groups.Members.{AreMembers};
 ghost use Rattle.command_source.specs.Entries.{IsFunctionOf, IsNamed, IsRootedIn};
 ghost use Rattle.command_source.specs.ProgramCode.{IsLoweredFrom, HasFile, IsEntryOf};
+ghost use Rattle.command_source.specs.FunctionNumbers.{functions_of, function_if, root_function, MissesFunction};
 ghost use Rattle.command_source.specs.Roots as R;
-ghost use Rattle.command_source.specs.Wanted.{Root, Compiled, MissesRoot, MissesCode, IsRoot, IsCompiled, IsReady};
+ghost use Rattle.command_source.specs.Wanted.{Root, Compiled, MissesRoot, IsRoot, IsReady};
 ghost use Rattle.command_source.specs.Wanted.{IsRefusedBy, KeepsFrom, of_entry};
 
 use crate::phases::{code_of, lawful, verified_front};
 use cell_code::Function;
-use code_verify::{SoundRule, Verified};
+use code_verify::Verified;
 use command_outcome::Failure;
-use fip_base::plain::{Detail, FunKind};
+use fip_base::plain::Detail;
 use fip_base::refusal::{Refusal, Rule};
 use fip_trees::program::{Instance, Typed};
 use program_front::Lowered;
@@ -39,8 +39,7 @@ pub struct Ready {
 }
 
 impl Model for Ready {
-    ghost use Rattle.command_source.specs.Chosen.{CanBeChosen};
-    ghost use Rattle.command_source.specs.Entries.{Chosen};
+    ghost use Rattle.command_source.specs.Entries.{Chosen, CanBeChosen};
 
     ghost Value = { Chosen };
 
@@ -53,7 +52,7 @@ impl Ready {
     /// The code.
     pub fn verified(&self) -> &Verified
         ensures same { result.now ≡ self.now.checked }
-        ensures spelt { IsSpelt (plain_code result.now.code) }
+        ensures spelt { IsSpelt (plain result.now.code) }
     {
         &self.verified
     }
@@ -200,78 +199,102 @@ fn function_named(functions: &[Function], name: &[u8]) -> Option<usize>
     first_named(functions, name)
 }
 
-// Asks that a root has the entry's name and isn't plain: E70 where none has it, E71 where it is plain.
-fn ask_compiled(alloc: Global, instances: &[Instance], entry: &str) -> Result<(), Failure>
-    ensures compiled { OnOk result (IsCompiled (R.root_named entry.now (V.instances instances.now))) }
-    ensures missed { IfErr result (IsRefusedBy (λ r. MissesCode (R.root_named entry.now (V.instances instances.now))
-        entry.now r)) }
+// How many functions an instance has: one, or none where it is plain.
+fn functions_of(instance: &Instance) -> usize
+    ensures count { result ≡ functions_of (V.instance_of instance.now) }
+    ensures few { result ≤ 1 }
+{
+    if instance.kind.is_ruled() { 1 } else { 0 }
+}
+
+// The function of an instance, if it has one, where so many functions stand before it.
+fn function_if(instance: &Instance, number: usize) -> Option<usize>
+    ensures is { result ≡ function_if (V.instance_of instance.now).kind number }
+{
+    if instance.kind.is_ruled() {
+        Some(number)
+    } else {
+        None
+    }
+}
+
+// The function of the first root of a name, if it has one; none where no root has the name.
+fn root_function(instances: &[Instance], name: &[u8]) -> Option<Option<usize>>
+    ensures is { result ≡ root_function 0 name.now (V.instances instances.now) }
+{
+    let mut number = 0;
+    for instance in instances {
+        if is_root(instance, name) {
+            return Some(function_if(instance, number));
+        }
+        number += functions_of(instance);
+    }
+    None
+}
+
+// The number of the function of the root that has the entry's name: E70 where none has it, E71 where it is plain.
+fn function_of(alloc: Global, instances: &[Instance], entry: &str) -> Result<usize, Failure>
+    ensures is { IfOk result (λ n. root_function 0 entry.now (V.instances instances.now) ≡ Some (Some n)) }
+    ensures missed { IfErr result (IsRefusedBy (λ r.
+        MissesFunction (root_function 0 entry.now (V.instances instances.now)) entry.now r)) }
     ensures stage { IfErr result IsOfSource }
 {
-    match root_named(instances, entry.as_bytes()) {
-        Some(number) => {
-            if instances[number].kind == FunKind::Fun {
-                Err(entry_refused(alloc, Rule::E71, entry))
-            } else {
-                Ok(())
-            }
-        }
+    match root_function(instances, entry.as_bytes()) {
+        Some(Some(function)) => Ok(function),
+        Some(None) => Err(entry_refused(alloc, Rule::E71, entry)),
         None => Err(entry_refused(alloc, Rule::E70, entry)),
     }
 }
 
-// The function of a root's name, which a code that was lowered has. Where a code hasn't, it is reported as unsound, at the
-// function that would stand after its last one.
-fn chosen(verified: Verified, entry: &str) -> Result<Ready, Failure>
-    requires spelt { IsSpelt (plain_code verified.code) }
-    ensures same { IfOk result (λ r. r.checked.code ≡ verified.code) }
-    ensures named { IfOk result (λ r. IsNamed entry.now r.checked.code.functions.items r.entry) }
-    ensures none { OnErr result (names_one entry.now (plain verified.code).functions ≡ false) }
-    ensures stage { IfErr result IsOfSource }
+// A code with a file, and the function of a number.
+fn ready_at(verified: Verified, function: usize) -> Ready
+    requires spelt { IsSpelt (plain verified.code) }
+    requires within { function < length verified.code.functions.items }
+    ensures same { result.checked ≡ verified }
+    ensures entry { result.entry ≡ function }
 {
-    match function_named(verified.code().functions.as_slice(), entry.as_bytes()) {
-        Some(number) => Ok(Ready {
-            verified,
-            entry: number,
-        }),
-        None => Err(Failure::Unsound {
-            function: verified.code().functions.len(),
-            at: 0,
-            rule: SoundRule::S0,
-        }),
+    Ready {
+        verified,
+        entry: function,
     }
 }
 
-// A code that is verified, and the function of a root's name in it.
-fn verified_entry(alloc: Global, lowered: Lowered, entry: &str) -> Result<Ready, Failure>
-    requires spelt { IsSpelt (plain_code lowered.code) }
+// A code that is verified, and one of its functions.
+fn verified_entry(alloc: Global, lowered: Lowered, function: usize) -> Result<Ready, Failure>
+    requires spelt { IsSpelt (plain lowered.code) }
+    requires groups { AreMembers (V.program lowered.typed.program).instances lowered.groups }
+    requires code { IsLoweredFrom (V.program lowered.typed.program) (plain lowered.code) }
+    requires sound { IsSound (plain lowered.code) }
+    requires within { function < length lowered.code.functions.items }
     ensures same { IfOk result (λ r. r.checked.code ≡ lowered.code) }
     ensures sound { IfOk result (λ r. IsSound (plain r.checked.code)) }
-    ensures named { IfOk result (λ r. IsNamed entry.now r.checked.code.functions.items r.entry) }
-    ensures out_of_memory { IsSound (plain lowered.code) → names_one entry.now (plain lowered.code).functions ≡ true →
-        IfErr result (λ f. f ≡ NoMemory) }
+    ensures entry { IfOk result (λ r. r.entry ≡ function) }
+    ensures out_of_memory { IfErr result (λ f. f ≡ NoMemory) }
     ensures stage { IfErr result IsOfSource }
 {
     match verified_front(alloc, lowered) {
-        Ok(front) => chosen(front.verified, entry),
+        Ok(front) => Ok(ready_at(front.verified, function)),
         Err(failure) => Err(failure),
     }
 }
 
 // The root that is run, of an accepted source.
 fn compiled(alloc: Global, lowered: Lowered, entry: &str) -> Result<Ready, Failure>
-    requires spelt { IsSpelt (plain_code lowered.code) }
+    requires spelt { IsSpelt (plain lowered.code) }
+    requires accepted { (source : List ℕ) × IsAccepted source (V.program lowered.typed.program) }
+    requires groups { AreMembers (V.program lowered.typed.program).instances lowered.groups }
+    requires code { IsLoweredFrom (V.program lowered.typed.program) (plain lowered.code) }
+    requires sound { IsSound (plain lowered.code) }
     ensures ready { (source : List ℕ) → IsAccepted source (V.program lowered.typed.program) →
         OnOk result (IsReady source (Compiled entry.now)) }
     ensures code { (source : List ℕ) → IsAccepted source (V.program lowered.typed.program) →
-        IsLoweredFrom (V.program lowered.typed.program) (plain_code lowered.code) → HasFile (plain_code lowered.code) →
-        IfOk result (IsEntryOf source entry.now) }
+        HasFile (plain lowered.code) → IfOk result (IsEntryOf source entry.now) }
     ensures kept { (source : List ℕ) → IsAccepted source (V.program lowered.typed.program) →
-        IsLoweredFrom (V.program lowered.typed.program) (plain_code lowered.code) → IsSound (plain lowered.code) →
         IfErr result (KeepsFrom source (Compiled entry.now)) }
     ensures stage { IfErr result IsOfSource }
 {
-    match ask_compiled(alloc, lowered.typed.program.instances.as_slice(), entry) {
-        Ok(()) => verified_entry(alloc, lowered, entry),
+    match function_of(alloc, lowered.typed.program.instances.as_slice(), entry) {
+        Ok(function) => verified_entry(alloc, lowered, function),
         Err(failure) => Err(failure),
     }
 }
@@ -306,7 +329,7 @@ pub fn run_entry(alloc: Global, bytes: &[u8], entry: &str) -> Result<Ready, Fail
 
 // The function of a name, of a sound code.
 fn named_in(alloc: Global, verified: Verified, entry: &str) -> Result<Ready, Failure>
-    requires spelt { IsSpelt (plain_code verified.code) }
+    requires spelt { IsSpelt (plain verified.code) }
     ensures ready { OnOk result (names_one entry.now (plain verified.code).functions ≡ true) }
     ensures same { IfOk result (λ r. r.checked.code ≡ verified.code) }
     ensures named { IfOk result (λ r. IsNamed entry.now r.checked.code.functions.items r.entry) }

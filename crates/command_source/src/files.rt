@@ -1,7 +1,7 @@
 // The commands that check a source or a code, and store a code.
 ghost use Rattle.std.specs.Prelude.{◌≡◌, ◌≤◌, length, Err, IfOk, IfErr, IfSome};
 ghost use Rattle.code_file.specs.CodeText.{CodeText};
-ghost use Rattle.code_file.specs.Plain.{PlainCode, plain_code};
+ghost use Rattle.cell_code.specs.Plain.{PlainCode, plain};
 ghost use Rattle.code_file.specs.declared.tags.Version.TheVariants.{Second};
 ghost use Rattle.fip_base.specs.declared.refusal.Refusal.{Refusal as a_refusal};
 ghost use Rattle.fip_language.specs.declared.limits.TheConstants.{MOST_FILE_BYTES};
@@ -36,9 +36,9 @@ pub struct Compiled {
 
 // The code file of version 2 that spells a code; E61 where none of at most 16,777,216 bytes does.
 fn written(alloc: Global, verified: &Verified) -> Result<Vec<u8>, Failure>
-    ensures spelt { IfOk result (λ v. CodeText v.items Second (plain_code verified.now.code)) }
+    ensures spelt { IfOk result (λ v. CodeText v.items Second (plain verified.now.code)) }
     ensures short { IfOk result (λ v. length v.items ≤ MOST_FILE_BYTES) }
-    ensures unspelt { (r : a_refusal) → result ≡ Err (Refused r) → IsUnspelt (plain_code verified.now.code) }
+    ensures unspelt { (r : a_refusal) → result ≡ Err (Refused r) → IsUnspelt (plain verified.now.code) }
     ensures long { IfErr result (IsRefusedBy (λ r. r ≡ bare E61)) }
     ensures stage { IfErr result IsOfSource }
 {
@@ -65,9 +65,9 @@ pub fn check(alloc: Global, source: &[u8]) -> Result<Vec<u8>, Failure>
 /// The file of version 2 of just the code that was made of a source, and the lines of `check`. E61 just where that code
 /// has no file of at most 16,777,216 bytes.
 pub fn file_of(alloc: Global, front: &Front) -> Result<Compiled, Failure>
-    ensures spelt { IfOk result (λ c. CodeText c.file.items Second (plain_code front.now.verified.code)) }
+    ensures spelt { IfOk result (λ c. CodeText c.file.items Second (plain front.now.verified.code)) }
     ensures short { IfOk result (λ c. length c.file.items ≤ MOST_FILE_BYTES) }
-    ensures unspelt { (r : a_refusal) → result ≡ Err (Refused r) → IsUnspelt (plain_code front.now.verified.code) }
+    ensures unspelt { (r : a_refusal) → result ≡ Err (Refused r) → IsUnspelt (plain front.now.verified.code) }
     ensures long { IfErr result (IsRefusedBy (λ r. r ≡ bare E61)) }
     ensures lines { IfOk result (λ c. c.text.items
         ≡ root_lines front.now.groups 0 (V.program front.now.typed.program).instances) }
@@ -94,7 +94,7 @@ pub fn compile(
     ensures sound { IfOk result (λ c. (code : PlainCode) × IsSoundFile c.file.items code) }
     ensures stored { IfOk result (λ c. IsCompiledFile source.now c.file.items) }
     ensures kept { IfErr result (KeepsFromCompile source.now) }
-    ensures made { IfSome made.new (λ v. IsCodeOfSource source.now (plain_code v.code)) }
+    ensures made { IfSome made.new (λ v. IsCodeOfSource source.now (plain v.code)) }
     // The file is that of just this code; E61 is reported where it has none that isn't too long.
     ensures own { IfOk result (λ c. IsFileOfMade made.new c.file.items) }
     ensures unspelt { IfErr result (IsRefusedBy (KeepsFromFile source.now made.new)) }

@@ -9,6 +9,7 @@ mod known;
 mod listing;
 mod phases;
 mod places;
+mod stacks;
 
 pub use code_verify::Verified;
 pub use derivations::{audit, bad_proof, derive};

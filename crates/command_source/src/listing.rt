@@ -1,6 +1,6 @@
 // The lines of a program's or a code's functions.
 ghost use Rattle.std.specs.Prelude.{◌≡◌, ◌++◌, ℕ, List, IfOk, OnOk};
-ghost use Rattle.code_verify.specs.code_rules.Codes.{PlainCode, plain, plain_function};
+ghost use Rattle.cell_code.specs.Plain.{PlainCode, plain_function, plain};
 ghost use Rattle.code_verify.specs.code_rules.StackNumbers.{HasStack};
 ghost use Rattle.command_source.specs.Codes.{IsLine, AreLines};
 ghost use Rattle.fip_trees.specs.TreeView.{instance_of, instances};
@@ -77,7 +77,7 @@ fn put_named(
         alloc,
         text,
         function.name.as_slice(),
-        function.kind,
+        function.kind.fun_kind(),
         function.credits.as_slice(),
         stack,
     )

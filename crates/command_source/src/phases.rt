@@ -1,8 +1,7 @@
 // From the bytes of a source, or of a code file, to what is known of it.
 ghost use Rattle.std.specs.Prelude.{◌≡◌, IfOk, IfErr};
-ghost use Rattle.code_file.specs.Plain.{plain_code};
+ghost use Rattle.cell_code.specs.Plain.{plain};
 ghost use Rattle.code_verify.specs.code_rules.Breaks.{IsSound};
-ghost use Rattle.code_verify.specs.code_rules.Codes.{plain};
 ghost use Rattle.command_source.specs.Codes.{IsSoundFile, IsLeastOf, KeepsFromCode};
 ghost use Rattle.command_source.specs.ProgramCode.{IsLoweredFrom, HasFile};
 ghost use Rattle.command_outcome.specs.Stages.{IsOfSource};
@@ -17,6 +16,7 @@ ghost use Rattle.program_front.specs.tail_groups.Members.{AreMembers};
 
 use crate::known::Front;
 use crate::places::placed;
+use crate::stacks::verified_with;
 use cell_code::Code;
 use code_file::{ReadCodeError, read_code};
 use code_verify::{Verified, VerifyError, verify};
@@ -72,9 +72,9 @@ pub(crate) fn lawful(alloc: Global, source: &[u8]) -> Result<Lowered, Failure>
     ensures needs { IfOk result (λ l. l.needs ≡
         all_needs (V.program l.typed.program) (V.program l.typed.program).instances) }
     ensures groups { IfOk result (λ l. AreMembers (V.program l.typed.program).instances l.groups) }
-    ensures code { IfOk result (λ l. IsLoweredFrom (V.program l.typed.program) (plain_code l.code)) }
+    ensures code { IfOk result (λ l. IsLoweredFrom (V.program l.typed.program) (plain l.code)) }
     ensures sound { IfOk result (λ l. IsSound (plain l.code)) }
-    ensures filed { IfOk result (λ l. HasFile (plain_code l.code)) }
+    ensures filed { IfOk result (λ l. HasFile (plain l.code)) }
     ensures kept { (w : Wanted) → IfErr result (KeepsFrom source.now w) }
     ensures stage { IfErr result IsOfSource }
 {
@@ -90,8 +90,8 @@ pub fn front(alloc: Global, source: &[u8]) -> Result<Front, Failure>
     ensures accepted { IfOk result (λ f. IsAccepted source.now (V.program f.typed.program)) }
     ensures groups { IfOk result (λ f. AreMembers (V.program f.typed.program).instances f.groups) }
     ensures sound { IfOk result (λ f. IsSound (plain f.verified.code)) }
-    ensures code { IfOk result (λ f. IsLoweredFrom (V.program f.typed.program) (plain_code f.verified.code)) }
-    ensures filed { IfOk result (λ f. HasFile (plain_code f.verified.code)) }
+    ensures code { IfOk result (λ f. IsLoweredFrom (V.program f.typed.program) (plain f.verified.code)) }
+    ensures filed { IfOk result (λ f. HasFile (plain f.verified.code)) }
     ensures kept { IfErr result (KeepsFrom source.now Lawful) }
     ensures stage { IfErr result IsOfSource }
 {
@@ -101,13 +101,16 @@ pub fn front(alloc: Global, source: &[u8]) -> Result<Front, Failure>
     }
 }
 
-/// The same with the code verified.
+/// The same with the code verified, whose stack numbers are those of the groups.
 pub(crate) fn verified_front(alloc: Global, lowered: Lowered) -> Result<Front, Failure>
+    requires groups { AreMembers (V.program lowered.typed.program).instances lowered.groups }
+    requires code { IsLoweredFrom (V.program lowered.typed.program) (plain lowered.code) }
+    requires sound { IsSound (plain lowered.code) }
     ensures typed { IfOk result (λ f. V.program f.typed.program ≡ V.program lowered.typed.program) }
     ensures groups { IfOk result (λ f. f.groups ≡ lowered.groups) }
     ensures code { IfOk result (λ f. f.verified.code ≡ lowered.code) }
     ensures sound { IfOk result (λ f. IsSound (plain f.verified.code)) }
-    ensures out_of_memory { IsSound (plain lowered.code) → IfErr result (λ f. f ≡ NoMemory) }
+    ensures out_of_memory { IfErr result (λ f. f ≡ NoMemory) }
     ensures stage { IfErr result IsOfSource }
 {
     let Lowered {
@@ -116,8 +119,8 @@ pub(crate) fn verified_front(alloc: Global, lowered: Lowered) -> Result<Front, F
         code,
         ..
     } = lowered;
-    match verified_of(alloc, code) {
-        Err(failure) => Err(failure),
+    match verified_with(alloc, &typed, &groups, code) {
+        Err(_) => Err(Failure::NoMemory),
         Ok(verified) => Ok(Front {
             typed,
             groups,
@@ -145,7 +148,7 @@ pub(crate) fn verified_of(alloc: Global, code: Code) -> Result<Verified, Failure
 /// The sound code of a code file. Bad code where the bytes are no code file, or too many; unsound where the code
 /// isn't sound.
 pub(crate) fn code_of(alloc: Global, bytes: &[u8]) -> Result<Verified, Failure>
-    ensures sound { IfOk result (λ v. IsSoundFile bytes.now (plain_code v.code)) }
+    ensures sound { IfOk result (λ v. IsSoundFile bytes.now (plain v.code)) }
     ensures kept { IfErr result (KeepsFromCode bytes.now) }
     ensures stage { IfErr result IsOfSource }
 {

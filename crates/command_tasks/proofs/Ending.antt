@@ -2,7 +2,7 @@
 use Rattle.std.proofs.Common.{◌≡◌, ◌∙◌, ◌<◌, ◌≤◌, ℕ, List, length, sym, subst}
 use Rattle.std.specs.Prelude.{Result, Ok, Err}
 use Rattle.cell_code.specs.declared.code.Code.{Code}
-use Rattle.command_session.specs.command_run.code_file.Plain.{plain_code}
+use Rattle.cell_code.specs.Plain.{plain}
 use Rattle.command_words.specs.Words.{Room}
 use Rattle.command_outcome.specs.declared.failure.Failure.{Failure}
 use Rattle.command_outcome.specs.declared.failure.Failure.TheVariants as F
@@ -13,18 +13,17 @@ use Rattle.command_session.specs.command_run.fip_trees.Tree.{Program}
 use Rattle.command_session.specs.command_run.session_semantics.Lines.{lines_of}
 use Rattle.command_session.specs.command_run.session_semantics.Turns.{Answered, Bad, Comes, Small, most_tasks, words_of_tasks}
 use Rattle.command_session.specs.command_run.code_rules.Breaks.{IsSound}
-use Rattle.command_session.specs.command_run.code_rules.Codes.{plain}
 use Rattle.command_session.specs.command_run.command_source.ProgramCode.{IsLoweredFrom}
 use Rattle.command_session.specs.command_run.source_report.Report.{IsAccepted}
 use Rattle.command_session.specs.command_run.tail_groups.Members.{AreMembers}
 use Rattle.task_lines.specs.Called.{AreCalls, Called}
-use Rattle.task_lines.specs.declared.list.RunLimits.{RunLimits}
+use Rattle.fip_room.specs.declared.room.Room.{Room as RunRoom}
 use Rattle.command_tasks.specs.Called.{AreCallLines, KeepsList}
 use Rattle.command_tasks.specs.TasksAnswer.{TakesTurns}
 use Rattle.command_tasks.proofs.Entering.{bad_of, core, is_setting, lines_reported, setting, tasks_of, twins_words}
 use Rattle.command_tasks.proofs.Weighing.{words_of_calls}
 
-module _ (source : List ℕ) (p : Program) (ms : List Member) (code : Code) (accepted : IsAccepted source p) (found : AreMembers p.instances ms) (sound : IsSound (plain code)) (lowered : IsLoweredFrom p (plain_code code)) (room : Room) (limits : RunLimits) (calls : limits.calls ≡ room.calls) (frames : limits.frames ≡ room.frames) (few : room.frames ≤ MOST_FRAMES) (input : List ℕ) where
+module _ (source : List ℕ) (p : Program) (ms : List Member) (code : Code) (accepted : IsAccepted source p) (found : AreMembers p.instances ms) (sound : IsSound (plain code)) (lowered : IsLoweredFrom p (plain code)) (room : Room) (limits : RunRoom) (calls : limits.calls ≡ room.calls) (frames : limits.frames ≡ room.frames) (few : room.frames ≤ MOST_FRAMES) (input : List ℕ) where
   taken : (e : Result (List ℕ) Failure) → Comes (setting source p ms code accepted found sound lowered room limits calls frames few) (lines_of input) e → TakesTurns source input room e
   taken e comes = (setting source p ms code accepted found sound lowered room limits calls frames few, is_setting source p ms code accepted found sound lowered room limits calls frames few, comes)
 

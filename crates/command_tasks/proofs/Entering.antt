@@ -8,7 +8,7 @@ use Rattle.cell_code.specs.declared.code.Code.{Code}
 use Rattle.cell_code.specs.declared.code.Function.{Function}
 use Rattle.command_session.specs.command_run.cell_lower.Limits.{is_ruled, registers}
 use Rattle.command_session.specs.command_run.cell_lower.Shape.{Header, header, header_of, and_if, headers_from, headers}
-use Rattle.command_session.specs.command_run.code_file.Plain.{plain_code}
+use Rattle.cell_code.specs.Plain.{PlainFunction, plain_function, plain, function_at}
 use Rattle.command_session.specs.command_run.separation.Codes.{HasLiterals}
 use Rattle.command_session.proofs.command_run.separation.Sound.{formed}
 use Rattle.command_words.specs.Words.{Room}
@@ -30,7 +30,6 @@ use Rattle.command_session.specs.command_run.fip_trees.Tree.{Instance, Program}
 use Rattle.task_lines.specs.instance_semantics.Meaning.{flat_meaning}
 use Rattle.task_lines.proofs.instance_semantics.Frames.{more_frames}
 use Rattle.task_correctness.specs.run_loading.Loading.{words_of_credits}
-use Rattle.command_session.specs.command_run.lowering_relation.LoweredFunctions.{AreLowered}
 use Rattle.command_session.specs.command_run.machine_correctness.Starts.{IsCodeOf}
 use Rattle.command_session.proofs.command_run.Bounded.{one_of_name}
 use Rattle.command_session.proofs.command_run.Loaded.{IsLoadable, loadable}
@@ -40,16 +39,16 @@ use Rattle.command_session.specs.command_run.session_semantics.Talk.{answer_of a
 use Rattle.command_session.specs.command_run.session_semantics.Turns.{AreTasks, IsBadFrom, IsTask, Task, TaskLines, TaskText, credit_words, type_of, joined, words_of_tasks}
 use Rattle.command_session.specs.command_run.session_semantics.Typed.{AreValues}
 use Rattle.command_session.specs.command_run.code_rules.Breaks.{IsSound}
-use Rattle.command_session.specs.command_run.code_rules.Codes.{PlainFunction, plain, plain_function, function_at, is_fip}
+use Rattle.command_session.specs.command_run.code_rules.Codes.{is_fip, code_kind}
 use Rattle.command_session.specs.command_run.code_rules.StackNumbers.{HasStack}
 use Rattle.command_session.specs.command_run.command_source.ProgramCode.{IsLoweredFrom}
-use Rattle.command_session.proofs.command_run.command_source.Compiling.{headers_same, instrs_same}
+use Rattle.command_session.proofs.command_run.machine_correctness.Entries.{headers_of}
 use Rattle.task_correctness.proofs.specialisation_correctness.Meant.{root_meant}
 use Rattle.command_session.specs.command_run.source_report.Report.{IsAccepted, IsTyped}
 use Rattle.command_session.specs.command_run.tail_groups.Members.{AreMembers}
 use Rattle.task_lines.specs.Called.{AreCalls, Called, IsCall, IsFirstBad}
 use Rattle.task_lines.specs.session_values.Readable.{IsReadable}
-use Rattle.task_lines.specs.declared.list.RunLimits.{RunLimits}
+use Rattle.fip_room.specs.declared.room.Room.{Room as RunRoom}
 use Rattle.command_tasks.specs.Called.{AreCallLines, AreNamed, IsCallLine, answer_of}
 use Rattle.command_tasks.specs.TasksAnswer.{IsSetting}
 use Rattle.command_tasks.specs.Telling.{ReportsAnswer}
@@ -138,7 +137,7 @@ pub record IsTwin (p : Program) (code : Code) (c : Called) (t : Task) : Type 0 w
   pub runs : (t.header).kind ≢ Fun
   pub named : c.function.name ≡ (t.header).name
   pub some : 0 < length c.function.name
-  pub kind : c.function.kind ≡ (t.header).kind
+  pub kind : c.function.kind ≡ code_kind (t.header).kind
   pub credits : c.function.credits.items ≡ (t.header).credits
   pub results : c.function.results ≡ (t.header).results
   pub values : c.values ≡ t.values
@@ -165,7 +164,7 @@ twins_words p code (c ∷ cs) (t ∷ ts) h =
     let r = twins_words p code cs ts h.1 in
     omega (arith, a, b, r)
 
-module _ (source : List ℕ) (p : Program) (ms : List Member) (code : Code) (accepted : IsAccepted source p) (found : AreMembers p.instances ms) (sound : IsSound (plain code)) (lowered : IsLoweredFrom p (plain_code code)) where
+module _ (source : List ℕ) (p : Program) (ms : List Member) (code : Code) (accepted : IsAccepted source p) (found : AreMembers p.instances ms) (sound : IsSound (plain code)) (lowered : IsLoweredFrom p (plain code)) where
   abbrev types : IsTyped source p
   types = typed_of source p accepted
 
@@ -173,7 +172,7 @@ module _ (source : List ℕ) (p : Program) (ms : List Member) (code : Code) (acc
   core = types.flat.core
 
   headed : map header code.functions.items ≡ headers lowered.members p.instances
-  headed = sym (headers_same code.functions.items) ∙ lowered.functions
+  headed = sym (headers_of code.functions.items) ∙ lowered.functions
 
   pub code_of : HasLiterals (plain code) → IsCodeOf source core code
   code_of literals = record {
@@ -183,7 +182,7 @@ module _ (source : List ℕ) (p : Program) (ms : List Member) (code : Code) (acc
     accepted = accepted;
     types = lowered.types;
     functions = headed;
-    lowered = subst (AreLowered p) (instrs_same code.functions.items) lowered.lowered;
+    lowered = lowered.lowered;
     is_sound = record { sound = sound; literals = literals };
   }
 
@@ -282,7 +281,7 @@ module _ (source : List ℕ) (p : Program) (ms : List Member) (code : Code) (acc
 
   -- ---- what a call comes to is what its task comes to
 
-  module _ (room : Room) (limits : RunLimits) (calls : limits.calls ≡ room.calls) (frames : limits.frames ≡ room.frames) (few : room.frames ≤ MOST_FRAMES) where
+  module _ (room : Room) (limits : RunRoom) (calls : limits.calls ≡ room.calls) (frames : limits.frames ≡ room.frames) (few : room.frames ≤ MOST_FRAMES) where
     abbrev pub setting : Setting
     setting = record { program = p; members = ms; words = room.words; calls = room.calls; frames = room.frames }
 
@@ -307,7 +306,7 @@ module _ (source : List ℕ) (p : Program) (ms : List Member) (code : Code) (acc
     code_frames c t n (Some s) twin kind stack are =
         let f = stack.0 in
         let same : plain_function c.function ≡ f.0 = same_Some (plain_function c.function) f.0 (sym (plain_at c.entry c.function twin.at) ∙ f.1) in
-        let fip : is_fip Fbip ≡ true = ap is_fip (sym kind ∙ sym twin.kind ∙ ap (λ (q : PlainFunction). q.kind) same) ∙ f.2 in
+        let fip : false ≡ true = ap is_fip (sym (ap code_kind kind) ∙ sym twin.kind ∙ ap (λ (q : PlainFunction). q.kind) same) ∙ f.2 in
         absurd cc
 
     text_by : (c : Called) (t : Task) (line : List ℕ) (k : FunKind) → IsTwin p code c t → (t.header).kind ≡ k → IsCallLine core code limits c line → TaskText setting t (flat_answer setting t.entry t.values) line
@@ -322,7 +321,7 @@ module _ (source : List ℕ) (p : Program) (ms : List Member) (code : Code) (acc
         let vs = t.values in
         let free = free_frames setting i in
         let shallow : (flat_meaning p i vs room.calls free).answer ≢ Deep = never_deep source setting accepted found i t.header vs twin.there kind twin.typed in
-        let never : answer_of core limits is.frames c ≢ Deep = is.never_deep (ap is_fip (twin.kind ∙ kind)) in
+        let never : answer_of core limits is.frames c ≢ Deep = is.never_deep (ap is_fip (twin.kind ∙ ap code_kind kind)) in
         let flat = flat_of c t is.frames twin in
         let a = more_frames p i vs room.calls is.frames free (λ e. never (flat ∙ e)) in
         let b = more_frames p i vs room.calls free is.frames shallow in

@@ -2,7 +2,7 @@ mod Scheduling
 mod Joining
 mod Answering
 mod Running
-mod Weighing
+pub mod Weighing
 mod Frames
 mod Entering
 mod Ending

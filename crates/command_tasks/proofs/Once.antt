@@ -37,12 +37,12 @@ use Rattle.command_tasks.proofs.Weighing.{all_typed}
 -- ---- what is written is one value of a type
 
 -- no two constructors of a type have one name
-abbrev Unlike : Table → Type 0
+abbrev pub Unlike : Table → Type 0
 Unlike tb = (t c d : ℕ) (s r : Shape) → slice_get (shapes tb t) c ≡ Some s → slice_get (shapes tb t) d ≡ Some r → s.name ≡ r.name → c ≡ d
 
 module _ (tb : Table) (unlike : Unlike tb) where
   mutual
-    value_once : (k : ℕ) (w : Written) (u v : Value) → IsValue tb k w u → IsValue tb k w v → u ≡ v
+    pub value_once : (k : ℕ) (w : Written) (u v : Value) → IsValue tb k w u → IsValue tb k w v → u ≡ v
     value_once zero (Number i) (Int a) (Int b) h j = ap Int (sym h.0 ∙ j.0)
     value_once zero (Number i) (Int a) (Node d vs) h j = absurd j
     value_once zero (Number i) (Node c us) v h j = absurd h

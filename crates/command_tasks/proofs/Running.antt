@@ -8,11 +8,10 @@ use Rattle.fip_tasks.proofs.task_semantics.Beginning.{are_there, are_loaded, beg
 use Rattle.fip_tasks.proofs.task_semantics.Owning.{own_given}
 use Rattle.cell_code.specs.declared.code.Code.{Code}
 use Rattle.fip_tasks.specs.machine_semantics.Cells.{Store}
-use Rattle.fip_tasks.specs.machine_semantics.Codes as R
+use Rattle.cell_code.specs.Plain.{PlainFunction, plain_function, plain, function_at}
 use Rattle.fip_tasks.specs.machine_semantics.Runs.{loaded}
 use Rattle.fip_tasks.specs.machine_semantics.Steps.{Kinds}
 use Rattle.command_session.specs.command_run.separation.Codes.{AreKinds}
-use Rattle.command_session.proofs.command_run.separation.CodesRun.{code_runs}
 use Rattle.command_session.proofs.command_run.separation.KindsFound.{kinds_found}
 use Rattle.code_verify.specs.Checked.{Checked}
 use Rattle.fip_base.specs.declared.plain.Stack.{Stack}
@@ -29,11 +28,11 @@ use Rattle.command_session.proofs.command_run.machine_correctness.EvaluatedEnds.
 use Rattle.task_correctness.proofs.EvaluatedAnywhere.{apart_answers_meant}
 use Rattle.command_session.proofs.command_run.Bounded.{few_frames}
 use Rattle.command_session.specs.command_run.session_semantics.Talk.{frames_of}
-use Rattle.command_session.specs.command_run.code_rules.Codes.{PlainFunction, plain, plain_function, function_at, is_fip}
+use Rattle.command_session.specs.command_run.code_rules.Codes.{is_fip}
 use Rattle.command_session.specs.command_run.code_rules.StackNumbers.{HasStack, IsStack}
 use Rattle.task_lines.specs.Called.{Called}
 use Rattle.task_lines.specs.Started.{AreStarted as AreStartedSo, IsStarted}
-use Rattle.task_lines.specs.declared.list.RunLimits.{RunLimits}
+use Rattle.fip_room.specs.declared.room.Room.{Room as RunRoom}
 use Rattle.fip_tasks.specs.task_semantics.Projected.{Begun}
 use Rattle.fip_tasks.specs.task_semantics.Schedules.{Shared}
 use Rattle.fip_tasks.specs.task_semantics.Laid.{Task}
@@ -47,14 +46,14 @@ use Rattle.task_correctness.proofs.Turned.{can_finish, can_turn}
 
 -- ---- each start is that of a call
 
-record At (code : Code) (limits : RunLimits) (cs : List Called) (ls : List Lying) (k : ℕ) (b : Start) : Type 0 where
+record At (code : Code) (limits : RunRoom) (cs : List Called) (ls : List Lying) (k : ℕ) (b : Start) : Type 0 where
   call : Called
   call_at : slice_get cs k ≡ Some call
   lying : Lying
   lying_at : slice_get ls k ≡ Some lying
   is : IsStarted code limits call lying b
 
-at : (code : Code) (limits : RunLimits) (cs : List Called) (ls : List Lying) (bs : List Start) (k : ℕ) (b : Start) → AreStartedSo code limits cs ls bs → slice_get bs k ≡ Some b → At code limits cs ls k b
+at : (code : Code) (limits : RunRoom) (cs : List Called) (ls : List Lying) (bs : List Start) (k : ℕ) (b : Start) → AreStartedSo code limits cs ls bs → slice_get bs k ≡ Some b → At code limits cs ls k b
 at code limits [] [] [] k b h e = absurd (none-some b e)
 at code limits [] [] (x ∷ bs) k b h e = absurd h
 at code limits [] (l ∷ ls) bs k b h e = absurd h
@@ -65,7 +64,7 @@ at code limits (c ∷ cs) (l ∷ ls) (x ∷ bs) (suc k) b h e =
     let r = at code limits cs ls bs k b h.1 (cc) in
     record { call = r.call; call_at = r.call_at; lying = r.lying; lying_at = r.lying_at; is = r.is }
 
-number : (code : Code) (limits : RunLimits) (cs : List Called) (ls : List Lying) (bs : List Start) → AreStartedSo code limits cs ls bs → length bs ≡ length ls
+number : (code : Code) (limits : RunRoom) (cs : List Called) (ls : List Lying) (bs : List Start) → AreStartedSo code limits cs ls bs → length bs ≡ length ls
 number code limits [] [] [] h = refl
 number code limits [] [] (x ∷ bs) h = absurd h
 number code limits [] (l ∷ ls) bs h = absurd h
@@ -73,7 +72,7 @@ number code limits (c ∷ cs) [] bs h = absurd h
 number code limits (c ∷ cs) (l ∷ ls) [] h = absurd h
 number code limits (c ∷ cs) (l ∷ ls) (x ∷ bs) h = ap suc (number code limits cs ls bs h.1)
 
-start_at : (code : Code) (limits : RunLimits) (c : Called) (l : Lying) (b : Start) → IsStarted code limits c l b → IsStartAt l b
+start_at : (code : Code) (limits : RunRoom) (c : Called) (l : Lying) (b : Start) → IsStarted code limits c l b → IsStartAt l b
 start_at code limits c l b h = record {
   entry = h.entry ∙ sym (ap (λ t. t.function) h.task);
   words = h.words;
@@ -81,7 +80,7 @@ start_at code limits c l b h = record {
   calls = h.calls ∙ sym (ap (λ t. t.calls) h.task);
 }
 
-starts_at : (code : Code) (limits : RunLimits) (cs : List Called) (ls : List Lying) (bs : List Start) → AreStartedSo code limits cs ls bs → AreStartsAt ls bs
+starts_at : (code : Code) (limits : RunRoom) (cs : List Called) (ls : List Lying) (bs : List Start) → AreStartedSo code limits cs ls bs → AreStartsAt ls bs
 starts_at code limits cs ls bs h = record {
   number = number code limits cs ls bs h;
   each = λ k l b e f.
@@ -91,12 +90,12 @@ starts_at code limits cs ls bs h = record {
 
 -- ---- what each means
 
-abbrev means_of : Core → RunLimits → List Called → List Start → List Answer
+abbrev means_of : Core → RunRoom → List Called → List Start → List Answer
 means_of core limits [] bs = []
 means_of core limits (c ∷ cs) [] = []
 means_of core limits (c ∷ cs) (b ∷ bs) = answer_of core limits b.frames c ∷ means_of core limits cs bs
 
-means_long : (core : Core) (code : Code) (limits : RunLimits) (cs : List Called) (ls : List Lying) (bs : List Start) → AreStartedSo code limits cs ls bs → length (means_of core limits cs bs) ≡ length bs
+means_long : (core : Core) (code : Code) (limits : RunRoom) (cs : List Called) (ls : List Lying) (bs : List Start) → AreStartedSo code limits cs ls bs → length (means_of core limits cs bs) ≡ length bs
 means_long core code limits [] [] [] h = refl
 means_long core code limits [] [] (x ∷ bs) h = absurd h
 means_long core code limits [] (l ∷ ls) bs h = absurd h
@@ -104,7 +103,7 @@ means_long core code limits (c ∷ cs) [] bs h = absurd h
 means_long core code limits (c ∷ cs) (l ∷ ls) [] h = absurd h
 means_long core code limits (c ∷ cs) (l ∷ ls) (x ∷ bs) h = ap suc (means_long core code limits cs ls bs h.1)
 
-mean_at : (core : Core) (limits : RunLimits) (cs : List Called) (bs : List Start) (k : ℕ) (c : Called) (b : Start) (m : Answer) → slice_get cs k ≡ Some c → slice_get bs k ≡ Some b → slice_get (means_of core limits cs bs) k ≡ Some m → answer_of core limits b.frames c ≡ m
+mean_at : (core : Core) (limits : RunRoom) (cs : List Called) (bs : List Start) (k : ℕ) (c : Called) (b : Start) (m : Answer) → slice_get cs k ≡ Some c → slice_get bs k ≡ Some b → slice_get (means_of core limits cs bs) k ≡ Some m → answer_of core limits b.frames c ≡ m
 mean_at core limits [] bs k c b m e f g = absurd (none-some c e)
 mean_at core limits (x ∷ cs) [] k c b m e f g = absurd (none-some b f)
 mean_at core limits (x ∷ cs) (y ∷ bs) zero c b m e f g =
@@ -120,7 +119,7 @@ named_at (x ∷ cs) (suc k) c h e = named_at cs k c h.1 e
 
 -- ---- one call's
 
-module _ (source : List ℕ) (core : Core) (v : Checked) (limits : RunLimits) (cs : List Called) (ls : List Lying) (bs : List Start) (alone : List Begun) (first : Shared) (code : IsCodeOf source core v.code) (named : AreNamed cs) (started : AreStartedSo v.code limits cs ls bs) (apart : AreApart (plain v.code) ls alone first) where
+module _ (source : List ℕ) (core : Core) (v : Checked) (limits : RunRoom) (cs : List Called) (ls : List Lying) (bs : List Start) (alone : List Begun) (first : Shared) (code : IsCodeOf source core v.code) (named : AreNamed cs) (started : AreStartedSo v.code limits cs ls bs) (apart : AreApart (plain v.code) ls alone first) where
   begins_at : (k : ℕ) (l : Lying) → slice_get ls k ≡ Some l → Begins v.code l.task.function l.task.header l.task.arguments l.task.frames (state_over (plain v.code) (own_store first.store l) l)
   begins_at k l is =
       let c = plain v.code in
@@ -132,7 +131,7 @@ module _ (source : List ℕ) (core : Core) (v : Checked) (limits : RunLimits) (c
         words = call_words l;
         given = own_given c first.store l apart.apart.store lies once;
         values = lies.values;
-        loaded = ap (λ (q : R.PlainCode). loaded q t.function (own_store first.store l) (call_words l) t.frames) (sym (code_runs v.code)) ∙ loads c (own_store first.store l) l lies.there;
+        loaded = loads c (own_store first.store l) l lies.there;
       }
 
   -- the function that is called is the code's
@@ -195,7 +194,7 @@ module _ (source : List ℕ) (core : Core) (v : Checked) (limits : RunLimits) (c
 -- ---- all
 
 -- tasks that run by every schedule and end so
-pub record AreRunning (core : Core) (v : Checked) (limits : RunLimits) (cs : List Called) (s : Store) (bs : List Start) : Type 0 where
+pub record AreRunning (core : Core) (v : Checked) (limits : RunRoom) (cs : List Called) (s : Store) (bs : List Start) : Type 0 where
   pub kinds : Kinds
   pub first : Shared
   pub can : CanRun v kinds first
@@ -205,7 +204,7 @@ pub record AreRunning (core : Core) (v : Checked) (limits : RunLimits) (cs : Lis
   pub ends : EndAs v kinds first bs means
   pub lines : (text : List ℕ) → AreTaskLines v.code 0 bs means text → AreCallLines core v.code limits 0 cs text
 
-pub are_running : (source : List ℕ) (core : Core) (v : Checked) (limits : RunLimits) (cs : List Called) (s : Store) (ls : List Lying) (bs : List Start) → IsCodeOf source core v.code → AreNamed cs → LieApart (plain v.code) s ls → AreStartedSo v.code limits cs ls bs → AreRunning core v limits cs s bs
+pub are_running : (source : List ℕ) (core : Core) (v : Checked) (limits : RunRoom) (cs : List Called) (s : Store) (ls : List Lying) (bs : List Start) → IsCodeOf source core v.code → AreNamed cs → LieApart (plain v.code) s ls → AreStartedSo v.code limits cs ls bs → AreRunning core v limits cs s bs
 are_running source core v limits cs s ls bs code named lie started =
     let c = plain v.code in
     let found = kinds_found c in

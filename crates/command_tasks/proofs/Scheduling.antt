@@ -1,6 +1,6 @@
 -- Turns after a schedule are a longer schedule.
 use Rattle.std.proofs.Common.{◌≡◌, ℕ, List, [], ◌∷◌, ◌++◌, replicate, refl, sym, subst}
-use Rattle.fip_tasks.specs.machine_semantics.Codes.{PlainCode, plain}
+use Rattle.cell_code.specs.Plain.{PlainCode, plain}
 use Rattle.fip_tasks.specs.machine_semantics.Steps.{Kinds}
 use Rattle.code_verify.specs.Checked.{Checked}
 use Rattle.fip_tasks.specs.Shown.{Shows, CanTurn, CanFinish}

@@ -270,7 +270,7 @@ needed_few (c ∷ cs) k =
 -- ---- the sum over the sizes
 
 mutual
-  typed : (tb : Table) (k : ℕ) (w : Written) (v : Value) → IsValue tb k w v → HasType tb k v
+  pub typed : (tb : Table) (k : ℕ) (w : Written) (v : Value) → IsValue tb k w v → HasType tb k v
   typed tb zero (Number i) (Int j) h = subst (FitsSigned w64) h.0 h.1
   typed tb zero (Number i) (Node c vs) h = absurd h
   typed tb zero (Named name ws) v h = absurd h

@@ -10,9 +10,10 @@ use Rattle.fip_language.specs.Meaning.{Answer, Deep, meaning}
 use Rattle.fip_language.specs.Statics.{NoClosed}
 use Rattle.task_lines.specs.session_lines.Named.{HasFrames}
 use Rattle.command_session.specs.command_run.session_semantics.Lines.{lines_of}
-use Rattle.command_session.specs.command_run.code_rules.Codes.{plain, is_fip}
+use Rattle.cell_code.specs.Plain.{plain}
+use Rattle.command_session.specs.command_run.code_rules.Codes.{is_fip}
 use Rattle.task_lines.specs.Called.{Called, IsFirstBad}
-use Rattle.task_lines.specs.declared.list.RunLimits.{RunLimits}
+use Rattle.fip_room.specs.declared.room.Room.{Room}
 use Rattle.command_tasks.specs.Telling.{ReportsAnswer}
 
 -- each function that is called has a name
@@ -20,21 +21,21 @@ abbrev pub AreNamed : List Called → Type 0
 AreNamed cs = Every (λ c. 0 < length c.function.name) cs
 
 -- what the source means by a call
-abbrev pub answer_of : Core → RunLimits → ℕ → Called → Answer
-answer_of core limits frames c = (meaning core c.function.name NoClosed c.values limits.calls frames).answer
+abbrev pub answer_of : Core → Room → ℕ → Called → Answer
+answer_of core room frames c = (meaning core c.function.name NoClosed c.values room.calls frames).answer
 
 -- the line of a call: it has the frames of its function, of which a fip one never runs out
-pub record IsCallLine (core : Core) (code : Code) (limits : RunLimits) (c : Called) (line : List ℕ) : Type 0 where
+pub record IsCallLine (core : Core) (code : Code) (room : Room) (c : Called) (line : List ℕ) : Type 0 where
   pub frames : ℕ
-  pub has : HasFrames (plain code) c.entry limits.frames frames
-  pub reported : ReportsAnswer code.types c.function.results limits.calls frames (answer_of core limits frames c) line
-  pub never_deep : is_fip c.function.kind ≡ true → answer_of core limits frames c ≢ Deep
+  pub has : HasFrames (plain code) c.entry room.frames frames
+  pub reported : ReportsAnswer code.types c.function.results room.calls frames (answer_of core room frames c) line
+  pub never_deep : is_fip c.function.kind ≡ true → answer_of core room frames c ≢ Deep
 
 -- those of the calls from number n on
-abbrev pub AreCallLines : Core → Code → RunLimits → ℕ → List Called → List ℕ → Type 0
-AreCallLines core code limits n [] text = text ≡ []
-AreCallLines core code limits n (c ∷ cs) text = (line : List ℕ) × (rest : List ℕ) × IsCallLine core code limits c line
-    × (text ≡ decimal n ++ (codes ": " ++ (line ++ rest))) × AreCallLines core code limits (suc n) cs rest
+abbrev pub AreCallLines : Core → Code → Room → ℕ → List Called → List ℕ → Type 0
+AreCallLines core code room n [] text = text ≡ []
+AreCallLines core code room n (c ∷ cs) text = (line : List ℕ) × (rest : List ℕ) × IsCallLine core code room c line
+    × (text ≡ decimal n ++ (codes ": " ++ (line ++ rest))) × AreCallLines core code room (suc n) cs rest
 
 -- what keeps an input from being a list
 abbrev pub KeepsList : Code → List ℕ → Failure → Type 0

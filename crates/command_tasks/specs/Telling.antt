@@ -3,7 +3,7 @@ use Rattle.std.specs.Prelude.{◌≡◌, ℕ, suc, List, [], ◌∷◌, ◌++◌
 use Rattle.std.specs.Fmt.{decimal}
 use Rattle.cell_code.specs.declared.code.Code.{Code}
 use Rattle.cell_code.specs.declared.code.Function.{Function}
-use Rattle.fip_tasks.specs.machine_semantics.Codes.{plain}
+use Rattle.cell_code.specs.Plain.{plain}
 use Rattle.fip_tasks.specs.machine_semantics.Steps.{Kinds}
 use Rattle.code_verify.specs.Checked.{Checked}
 use Rattle.command_outcome.specs.Texts.{line_end, trap_text, out_of_calls_text, out_of_frames_text}

@@ -1,14 +1,13 @@
 // The command `tasks`, from an input to a text.
 ghost use Rattle.std.specs.Prelude.{◌≡◌, ◌<◌, ◌≤◌, ◌^◌, ℕ, List, length, IfOk, IfErr, All};
 ghost use Rattle.fip_language.specs.Core.{Core};
-ghost use Rattle.fip_language.specs.declared.limits.TheConstants.{MOST_FILE_BYTES, MOST_STORE_WORDS};
+ghost use Rattle.fip_language.specs.declared.limits.TheConstants.{MOST_FILE_BYTES};
 ghost use Rattle.command_session.specs.command_run.separation.Codes.{HasLiterals};
 ghost use Rattle.command_words.specs.View.{room_of};
 ghost use Rattle.command_outcome.specs.Stages.{IsOfTasks};
 ghost use Rattle.command_session.specs.command_run.command_eval.EvalAnswer.{OrNoMemory};
 ghost use Rattle.command_session.specs.command_run.machine_correctness.Starts.{IsCodeOf};
-ghost use Rattle.command_session.specs.command_run.Rooms.{IsAllowed};
-ghost use Rattle.command_session.specs.command_run.code_rules.Codes.{plain};
+ghost use Rattle.cell_code.specs.Plain.{plain};
 ghost use Rattle.task_lines.specs.Called.{Called};
 ghost use Rattle.task_lines.specs.session_values.Readable.{IsReadable};
 ghost use Rattle.task_lines.specs.Listed.{IsListOf};
@@ -23,12 +22,11 @@ use cell_store::Loader;
 use code_verify::Verified;
 use command_outcome::Failure;
 use command_session::runner::source::Front;
-use command_words::Room;
 use fip_base::plain::NoMemory;
-use fip_language::limits::{MOST_FRAMES, MOST_STORE_WORDS};
+use fip_room::Room;
 use fip_tasks::Tasks;
 use std::alloc::Global;
-use task_lines::{ListError, RunLimits, TaskList};
+use task_lines::{ListError, TaskList};
 
 // The seeds: the sequence that draws the tasks has the same numbers for two that differ by a multiple of this.
 const SEEDS: u64 = 2_147_483_648;
@@ -49,26 +47,24 @@ fn listed<'l>(alloc: Global, verified: &Verified, input: &'l [u8]) -> Result<Tas
     }
 }
 
-// So many turns of the tasks of a list, whose cells fit into a store of so many words, and then each to its end.
+// So many turns of the tasks of a list, whose cells fit into the store of the room, and then each to its end.
 fn run(
     alloc: Global,
     verified: &Verified,
     list: &TaskList,
-    limits: RunLimits,
-    words: usize,
+    room: Room,
     seed: u64,
     turns: u64,
 ) -> Result<Vec<u8>, NoMemory>
     requires there { All (λ l. l.entry < length verified.now.code.functions.items) list.now.lines.items }
-    requires words { words ≤ MOST_STORE_WORDS }
     requires seed { seed < 2147483648 }
     ensures lines { (source : List ℕ) (core : Core) (cs : List Called) →
         (HasLiterals (plain verified.now.code) → IsCodeOf source core verified.now.code) →
         IsReadable verified.now.code → AreNamed cs → AreLinesOf verified.now.code list.now.lines.items cs →
-        IfOk result (λ t. AreCallLines core verified.now.code limits 0 cs t.items) }
+        IfOk result (λ t. AreCallLines core verified.now.code room 0 cs t.items) }
 {
-    let loader = Loader::new(alloc, words);
-    let (loader, starts) = list.starts(alloc, verified, limits, loader)?;
+    let loader = Loader::new(alloc, room.words);
+    let (loader, starts) = list.starts(alloc, verified, room, loader)?;
     let mut tasks = Tasks::new(alloc, verified, loader, starts.as_slice())?;
     take_turns(&mut tasks, seed, turns);
     answers(alloc, verified.code(), &mut tasks, starts.as_slice())
@@ -87,7 +83,7 @@ pub fn tasks(
     room: Room,
 ) -> Result<Vec<u8>, Failure>
     // It is what the source means by its functions on the values of the lines, whatever the seed and the turns are.
-    ensures means { (source : List ℕ) → IsFrontOf source front.now → IsAllowed room →
+    ensures means { (source : List ℕ) → IsFrontOf source front.now →
         length input.now ≤ MOST_FILE_BYTES → OrNoMemory (TakesTurns source input.now (room_of room)) result }
     ensures stage { IfErr result IsOfTasks }
 {
@@ -96,7 +92,7 @@ pub fn tasks(
         Ok(list) => list,
         Err(failure) => return Err(failure),
     };
-    let words = room.words.min(MOST_STORE_WORDS as u64) as usize;
+    let words = room.words;
     let needed = list.words();
     if needed > words {
         return Err(Failure::TooSmall {
@@ -104,11 +100,7 @@ pub fn tasks(
             given: words,
         });
     }
-    let limits = RunLimits {
-        calls: room.calls,
-        frames: room.frames.min(MOST_FRAMES as u64) as usize,
-    };
-    match run(alloc, verified, &list, limits, words, seed % SEEDS, turns) {
+    match run(alloc, verified, &list, room, seed % SEEDS, turns) {
         Ok(text) => Ok(text),
         Err(NoMemory) => Err(Failure::NoMemory),
     }

@@ -96,7 +96,7 @@ fn answer_text(
         IsSmall tasks.now.store.cells → Answers code.now tasks.now start.now m a ended → IfOk result (λ t.
         ReportsAnswer code.now.types (result_types code.now start.now.entry) start.now.calls start.now.frames m t.items) }
 {
-    match failure_of(ended, start.calls, start.frames as u64) {
+    match failure_of(ended, start.calls, start.frames) {
         Some(failure) => failure.text(alloc),
         None => results_text(alloc, code, tasks, k, start.entry),
     }

@@ -14,13 +14,12 @@ use Rattle.command_words.specs.Words.{Room}
 use Rattle.command_outcome.specs.Stages.{IsOfRun}
 use Rattle.command_outcome.specs.declared.failure.Failure.{Failure}
 use Rattle.command_outcome.specs.declared.failure.Failure.TheVariants as F
-use Rattle.command_run.specs.code_file.Plain.{plain_code}
+use Rattle.code_verify.specs.cell_code.Plain.{PlainFunction, PlainCode, plain_function, plain}
 use Rattle.trace_files.specs.machine_semantics.Cells.{Store}
-use Rattle.trace_files.specs.machine_semantics.Codes as R
 use Rattle.trace_files.specs.machine_semantics.Runs.{Value}
 use Rattle.trace_files.specs.machine_semantics.States.{Typed, State}
 use Rattle.trace_files.specs.machine_semantics.Steps.{Kinds}
-use Rattle.command_run.specs.separation.Codes.{run_code, AreKinds}
+use Rattle.command_run.specs.separation.Codes.{AreKinds}
 use Rattle.command_run.proofs.separation.KindsFound.{kinds_found}
 use Rattle.fip_machine.specs.code_verify.Checked.{Checked}
 use Rattle.fip_machine.specs.declared.machine.Ended.{Ended}
@@ -32,19 +31,15 @@ use Rattle.fip_machine.specs.Traces.{notes, HasTrace, HasLongTrace}
 use Rattle.trace_files.specs.run_loading.Replaying.{trace_of}
 use Rattle.trace_files.specs.run_loading.TraceText.{Trace, trace_text}
 use Rattle.fip_machine.specs.machine_cells.Small.{IsSmall}
-use Rattle.command_run.specs.code_rules.Codes.{PlainCode, PlainFunction, plain, plain_function, function_at}
-use Rattle.command_run.specs.code_rules.StackNumbers.{HasStack}
 use Rattle.command_run.specs.session_semantics.Talk.{frames_of}
 use Rattle.command_run.specs.command_source.Entries.{Chosen}
 use Rattle.command_run.specs.command_source.ProgramCode.{IsEntryOf}
-use Rattle.command_run.proofs.command_source.CodeFiles.{view_same}
 use Rattle.command_trace.proofs.Plain.{trace_is, is_long, not_long}
 use Rattle.command_run.specs.command_source.Wanted.{Compiled, IsReady}
 use Rattle.command_run.specs.source_report.Report.{bare}
 use Rattle.command_run.specs.machine_correctness.Meant.{ArePrintable}
 use Rattle.command_run.specs.machine_correctness.Starts.{IsSoundCode}
 use Rattle.command_run.proofs.machine_correctness.EvaluatedEnds.{knows}
-use Rattle.command_run.proofs.machine_correctness.Starting.{read}
 use Rattle.command_run.specs.command_eval.EvalAnswer.{OrNoMemory}
 use Rattle.command_run.specs.CodeRun.{is_run_failure}
 use Rattle.command_run.proofs.Leaving.{input_run}
@@ -55,8 +50,8 @@ use Rattle.command_trace.specs.TraceAnswer.{IsRunTrace, IsTraceOf, IsLong, Trace
 use Rattle.command_trace.proofs.Valued.{Valued, valued}
 
 -- what a machine says of the trace of its run
-abbrev pub Says : Seen → ℕ → (Kinds → R.PlainCode → State → Type 0) → Type 0
-Says m calls P = (kinds : Kinds) (lent : List Typed) → KnowsRun m.stack.code kinds (state_with m.stack lent m.store) calls → m.stack.ended ≡ None → IsSmall m.store.cells → m.pushed ≡ [] → P kinds (R.plain m.stack.code.code) (state_with m.stack lent m.store)
+abbrev pub Says : Seen → ℕ → (Kinds → PlainCode → State → Type 0) → Type 0
+Says m calls P = (kinds : Kinds) (lent : List Typed) → KnowsRun m.stack.code kinds (state_with m.stack lent m.store) calls → m.stack.ended ≡ None → IsSmall m.store.cells → m.pushed ≡ [] → P kinds (plain m.stack.code.code) (state_with m.stack lent m.store)
 
 module _ (source name input : List ℕ) (r : Chosen) (ready : IsReady source (Compiled name)) (h : IsEntryOf source name r) (room : Room) (m : Seen) (st : IsStarted r input room m) (sound : IsSoundCode r.checked.code) where
   abbrev held : Option Stack
@@ -68,9 +63,9 @@ module _ (source name input : List ℕ) (r : Chosen) (ready : IsReady source (Co
   known_there : KnowsRun m.stack.code found.0 (state_with m.stack (st.state).lent m.store) room.calls
   known_there = subst (λ (v : Checked). KnowsRun v found.0 (state_with m.stack (st.state).lent m.store) room.calls) (sym st.code) (subst (λ (s : State). KnowsRun r.checked found.0 s room.calls) (sym st.stands) (knows r.checked found.0 found.1 r.entry st.function st.values st.frames st.state room.calls sound found.2 st.begins))
 
-  said : (P : Kinds → R.PlainCode → State → Type 0) → Says m room.calls P → P found.0 (R.plain r.checked.code) st.state
-  said P says = subst (λ (v : Checked). P found.0 (R.plain v.code) st.state) st.code
-      (subst (λ (s : State). P found.0 (R.plain m.stack.code.code) s) st.stands
+  said : (P : Kinds → PlainCode → State → Type 0) → Says m room.calls P → P found.0 (plain r.checked.code) st.state
+  said P says = subst (λ (v : Checked). P found.0 (plain v.code) st.state) st.code
+      (subst (λ (s : State). P found.0 (plain m.stack.code.code) s) st.stands
       (says found.0 (st.state).lent known_there (st.fresh).going st.small st.pushed))
 
   -- the code of the source
@@ -81,52 +76,52 @@ module _ (source name input : List ℕ) (r : Chosen) (ready : IsReady source (Co
 
   abbrev coded : Coded source name
   coded = record {
-    code = plain_code r.checked.code;
+    code = plain r.checked.code;
     of' = h.code;
     number = r.entry;
     function = st.function;
-    there = subst (λ (c : PlainCode). function_at c r.entry ≡ Some st.function) (sym (view_same r.checked.code)) st.there;
+    there = st.there;
     named = name_is;
     some = λ e. let none = ap length e in let one = (h.named).some in absurd (omega (arith, none, one));
     held = held;
-    stack = subst (λ (c : PlainCode). HasStack c r.entry held) (sym (view_same r.checked.code)) st.has_frames.stack;
+    stack = st.has_frames.stack;
   }
 
   -- the trace of a run of it that gives words
-  traced : (t : Trace) → (Q : ℕ → Type 0) (x : Valued r.checked r.entry st.values room.calls st.frames found.0 st.state Q) → t ≡ trace_of found.0 (R.plain r.checked.code) st.state room.calls x.run.steps → IsRunTrace (plain r.checked.code) r.entry input room t
-  traced t Q x is = subst (λ k. (y : Valued r.checked r.entry st.values room.calls k found.0 st.state Q) → t ≡ trace_of found.0 (R.plain r.checked.code) st.state room.calls y.run.steps → IsRunTrace (plain r.checked.code) r.entry input room t) (sym st.has_frames.are) (λ y e. over y e) x is
+  traced : (t : Trace) → (Q : ℕ → Type 0) (x : Valued r.checked r.entry st.values room.calls st.frames found.0 st.state Q) → t ≡ trace_of found.0 (plain r.checked.code) st.state room.calls x.run.steps → IsRunTrace (plain r.checked.code) r.entry input room t
+  traced t Q x is = subst (λ k. (y : Valued r.checked r.entry st.values room.calls k found.0 st.state Q) → t ≡ trace_of found.0 (plain r.checked.code) st.state room.calls y.run.steps → IsRunTrace (plain r.checked.code) r.entry input room t) (sym st.has_frames.are) (λ y e. over y e) x is
     where
-      over : (y : Valued r.checked r.entry st.values room.calls (frames_of room.frames held) found.0 st.state Q) → t ≡ trace_of found.0 (R.plain r.checked.code) st.state room.calls y.run.steps → IsRunTrace (plain r.checked.code) r.entry input room t
+      over : (y : Valued r.checked r.entry st.values room.calls (frames_of room.frames held) found.0 st.state Q) → t ≡ trace_of found.0 (plain r.checked.code) st.state room.calls y.run.steps → IsRunTrace (plain r.checked.code) r.entry input room t
       over y e = record {
         by = input_run r input room m st y.run y.begins;
         words = y.words;
         gives = y.gives;
-        is = e ∙ (λ i. trace_of (sym y.kinds i) (sym (read r.checked.code) i) (sym y.begins i) room.calls y.run.steps);
+        is = e ∙ (λ i. trace_of (sym y.kinds i) (plain r.checked.code) (sym y.begins i) room.calls y.run.steps);
       }
 
   -- a trace that is too long
   pub long_trace : Says m room.calls (λ kinds code s. HasLongTrace kinds code s room.calls 16777216) → (t : Trace) × IsRunTrace (plain r.checked.code) r.entry input room t × IsLong t
   long_trace says =
       let k = said (λ kinds code s. HasLongTrace kinds code s room.calls 16777216) says in
-      let Q : ℕ → Type 0 = λ steps. IsTooLong (standing_from 0 (st.state).store.cells) (notes found.0 (R.plain r.checked.code) st.state room.calls steps) steps 16777216 in
+      let Q : ℕ → Type 0 = λ steps. IsTooLong (standing_from 0 (st.state).store.cells) (notes found.0 (plain r.checked.code) st.state room.calls steps) steps 16777216 in
       let x = valued r.checked found.0 found.1 r.entry st.function st.values st.frames st.state room.calls Q sound found.2 st.begins k.0 k.1 in
-      let t = trace_of found.0 (R.plain r.checked.code) st.state room.calls x.run.steps in
-      (t, traced t Q x refl, is_long found.0 (R.plain r.checked.code) st.state room.calls x.run.steps x.holds)
+      let t = trace_of found.0 (plain r.checked.code) st.state room.calls x.run.steps in
+      (t, traced t Q x refl, is_long found.0 (plain r.checked.code) st.state room.calls x.run.steps x.holds)
 
   -- one that is kept
   pub kept_trace : (u : Memory) (file : List ℕ) → Says m room.calls (λ kinds code s. HasTrace kinds code s room.calls 16777216 u) → file ≡ trace_text (plain_trace u) → (t : Trace) × IsRunTrace (plain r.checked.code) r.entry input room t × (IsLong t → ⊥) × (file ≡ trace_text t)
   kept_trace u file says is =
       let k = said (λ kinds code s. HasTrace kinds code s room.calls 16777216 u) says in
-      let Q : ℕ → Type 0 = λ steps. Reports (standing_from 0 (st.state).store.cells) (notes found.0 (R.plain r.checked.code) st.state room.calls steps) steps 16777216 u in
+      let Q : ℕ → Type 0 = λ steps. Reports (standing_from 0 (st.state).store.cells) (notes found.0 (plain r.checked.code) st.state room.calls steps) steps 16777216 u in
       let x = valued r.checked found.0 found.1 r.entry st.function st.values st.frames st.state room.calls Q sound found.2 st.begins k.0 k.1 in
-      let t = trace_of found.0 (R.plain r.checked.code) st.state room.calls x.run.steps in
-      let same : plain_trace u ≡ t = trace_is found.0 (R.plain r.checked.code) st.state room.calls x.run.steps 16777216 u x.holds in
-      (t, traced t Q x refl, not_long found.0 (R.plain r.checked.code) st.state room.calls x.run.steps u x.holds, is ∙ ap trace_text same)
+      let t = trace_of found.0 (plain r.checked.code) st.state room.calls x.run.steps in
+      let same : plain_trace u ≡ t = trace_is found.0 (plain r.checked.code) st.state room.calls x.run.steps 16777216 u x.holds in
+      (t, traced t Q x refl, not_long found.0 (plain r.checked.code) st.state room.calls x.run.steps u x.holds, is ∙ ap trace_text same)
 
   -- ---- of the source
 
   of_source : (t : Trace) → IsRunTrace (plain r.checked.code) r.entry input room t → IsTraceOf source name input room t
-  of_source t x = record { code = coded; traced = subst (λ (c : PlainCode). IsRunTrace c r.entry input room t) (sym (view_same r.checked.code)) x }
+  of_source t x = record { code = coded; traced = x }
 
   pub long : (t : Trace) × IsRunTrace (plain r.checked.code) r.entry input room t × IsLong t → Traces source name input room (Err (F.Refused (bare E75)))
   long x = TooLong x.0 (of_source x.0 x.1) x.2
@@ -155,6 +150,13 @@ with_trace M.Deep t u none is = absurd (none-some u (sym (none (λ e. cc)) ∙ i
 -- one without didn't
 pub without_trace : (o : Ended) (t : Option Memory) → (o ≡ M.Value → t ≢ None) → t ≡ None → o ≢ M.Value
 without_trace o t some is e = some e is
+
+-- where nothing is reported, there was a value
+pub value_alone : (o : Ended) (calls frames : ℕ) → failure_for o calls frames ≡ None → o ≡ M.Value
+value_alone M.Value calls frames e = refl
+value_alone (M.Trap kind line col) calls frames e = absurd (none-some (F.Trap kind line col) (sym e))
+value_alone M.Out calls frames e = absurd (none-some (F.OutOfCalls calls) (sym e))
+value_alone M.Deep calls frames e = absurd (none-some (F.OutOfFrames frames) (sym e))
 
 -- how it ended is the end of a run
 pub run_failed : (o : Ended) (calls frames : ℕ) (failure : Failure) → failure_for o calls frames ≡ Some failure → is_run_failure failure ≡ true

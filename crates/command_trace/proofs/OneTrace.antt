@@ -16,9 +16,9 @@ use Rattle.trace_files.specs.machine_semantics.Traces.{done_changes, events, eve
 use Rattle.trace_files.specs.run_loading.Replaying.{loaded_from}
 use Rattle.trace_files.specs.run_loading.TraceText.{Trace}
 use Rattle.command_run.specs.code_rules.Breaks.{IsSound}
-use Rattle.command_run.specs.code_rules.Codes.{PlainCode, PlainFunction, results}
+use Rattle.code_verify.specs.cell_code.Plain.{PlainFunction, PlainCode, results}
 use Rattle.command_run.specs.separation.Alive.{IsAlive}
-use Rattle.command_run.specs.separation.Codes.{run_code, HasLiterals, AreKinds}
+use Rattle.command_run.specs.separation.Codes.{HasLiterals, AreKinds}
 use Rattle.command_run.specs.separation.Starts.{IsStart}
 use Rattle.command_run.proofs.separation.Loading.{start_alive}
 use Rattle.command_run.proofs.separation.Running.{GoodRun, begun_good, later_good}
@@ -41,15 +41,15 @@ module _ (c : PlainCode) (before waits first other : Kinds) (kinds : AreKinds c 
   same_kinds : (s : State) → IsAlive c types kept s → kinds_of before s ≡ kinds_of first s
   same_kinds s a = kinds.known s.running.function s.running.at a.function a.kinds a.is a.known ∙ sym (again.known s.running.function s.running.at a.function a.kinds a.is a.known)
 
-  same_later : (s : State) (left n : ℕ) → IsAlive c types kept s → later before (run_code c) (Going s left n) ≡ later first (run_code c) (Going s left n)
-  same_later s left n a = ap (λ ks. comes s left (suc n) (act_at (run_code c) ks s (instr_of (run_code c) s))) (same_kinds s a)
+  same_later : (s : State) (left n : ℕ) → IsAlive c types kept s → later before c (Going s left n) ≡ later first c (Going s left n)
+  same_later s left n a = ap (λ ks. comes s left (suc n) (act_at c ks s (instr_of c s))) (same_kinds s a)
 
-  same_events : (k : ℕ) (r : Run) → IsSound c → HasLiterals c → GoodRun c types kept r → events before (run_code c) k r ≡ events first (run_code c) k r
+  same_events : (k : ℕ) (r : Run) → IsSound c → HasLiterals c → GoodRun c types kept r → events before c k r ≡ events first c k r
   same_events zero r sound literals g = refl
   same_events (suc k) (Going s left n) sound literals g =
-      ap₂ (λ head tail. head ++ tail) (ap (λ ks. events_of (suc n) (done_changes (changes_at (run_code c) ks s (instr_of (run_code c) s)) (act_at (run_code c) ks s (instr_of (run_code c) s)))) (same_kinds s g))
-      (same_events k (later before (run_code c) (Going s left n)) sound literals (later_good c before waits types kept (Going s left n) sound literals kinds g)
-      ∙ ap (events first (run_code c) k) (same_later s left n g))
+      ap₂ (λ head tail. head ++ tail) (ap (λ ks. events_of (suc n) (done_changes (changes_at c ks s (instr_of c s)) (act_at c ks s (instr_of c s)))) (same_kinds s g))
+      (same_events k (later before c (Going s left n)) sound literals (later_good c before waits types kept (Going s left n) sound literals kinds g)
+      ∙ ap (events first c k) (same_later s left n g))
   same_events (suc k) (Over e s left n) sound literals g = refl
 
 -- ---- two runs of a function on an input
@@ -72,7 +72,7 @@ module _ (c : PlainCode) (n : ℕ) (input : List ℕ) (room : Room) (sound : IsS
       let function = same_function in
       let held = same_held in
       same_Some r.run.first q.run.first (sym r.run.begins
-      ∙ ((λ i. loaded (run_code c) n (first_store (values i) (function i).credits) (first_words (values i) (function i).credits) (frames_of room.frames (held i))) ∙ q.run.begins))
+      ∙ ((λ i. loaded c n (first_store (values i) (function i).credits) (first_words (values i) (function i).credits) (frames_of room.frames (held i))) ∙ q.run.begins))
 
   starts : IsStart c r.run.before r.run.waits n [] r.run.first
   starts =
@@ -81,7 +81,7 @@ module _ (c : PlainCode) (n : ℕ) (input : List ℕ) (room : Room) (sound : IsS
 
   same_over : Over r.run.end r.run.last r.run.left r.run.steps ≡ Over q.run.end q.run.last q.run.left q.run.steps
   same_over = ends_once c r.run.before r.run.waits q.run.before q.run.waits n [] r.run.first room.calls r.run.end q.run.end r.run.last q.run.last r.run.left q.run.left r.run.steps q.run.steps starts q.run.kinds r.run.ends
-      (subst (λ (s : State). Ends q.run.before (run_code c) s room.calls q.run.end q.run.last q.run.left q.run.steps) (sym same_first) q.run.ends)
+      (subst (λ (s : State). Ends q.run.before c s room.calls q.run.end q.run.last q.run.left q.run.steps) (sym same_first) q.run.ends)
 
   pub ends_as : (r.run.end ≡ q.run.end) × (r.run.last ≡ q.run.last)
   ends_as =
@@ -99,8 +99,8 @@ module _ (c : PlainCode) (n : ℕ) (input : List ℕ) (room : Room) (sound : IsS
       let steps = same_steps in
       let reported = same_events c r.run.before r.run.waits q.run.before q.run.waits r.run.kinds q.run.kinds (results c n) [] r.run.steps (begun r.run.first room.calls) sound literals
       (begun_good c (results c n) [] r.run.first room.calls (start_alive c r.run.before r.run.waits n [] r.run.first starts)) in
-      let all : events r.run.before (run_code c) r.run.steps (begun r.run.first room.calls) ≡ events q.run.before (run_code c) q.run.steps (begun q.run.first room.calls) =
-      reported ∙ (λ i. events q.run.before (run_code c) (steps i) (begun (first i) room.calls)) in
+      let all : events r.run.before c r.run.steps (begun r.run.first room.calls) ≡ events q.run.before c q.run.steps (begun q.run.first room.calls) =
+      reported ∙ (λ i. events q.run.before c (steps i) (begun (first i) room.calls)) in
       e ∙ ((λ i. record { cells = loaded_from 0 (first i).store.cells; events = all i; steps = steps i }) ∙ sym d)
 
 pub one_trace : (c : PlainCode) (n : ℕ) (input : List ℕ) (room : Room) (t u : Trace) → IsSound c → HasLiterals c → IsSoundTable c.types → IsRunTrace c n input room t → IsRunTrace c n input room u → t ≡ u

@@ -11,7 +11,7 @@ use Rattle.cell_trace.specs.declared.trace.Trace.{Trace as Memory}
 use Rattle.cell_trace.specs.Traced as K
 use Rattle.cell_trace.specs.Traced.{Standing, Noted, standing_from, cells_bytes, reported_bytes, events_bytes, file_bytes, Reports, IsTooLong}
 use Rattle.trace_files.specs.machine_semantics.Cells.{Change, Write, Release}
-use Rattle.trace_files.specs.machine_semantics.Codes.{PlainCode}
+use Rattle.code_verify.specs.cell_code.Plain.{PlainCode}
 use Rattle.trace_files.specs.machine_semantics.Runs.{begun}
 use Rattle.trace_files.specs.machine_semantics.States.{State}
 use Rattle.trace_files.specs.machine_semantics.Steps.{Kinds}

@@ -1,16 +1,15 @@
 -- A run that is over with a value, as a run of the code to its end.
-use Rattle.std.proofs.Common.{◌≡◌, ◌∙◌, ℕ, List, [], refl, ap}
+use Rattle.std.proofs.Common.{◌≡◌, ℕ, List, [], refl}
 use Rattle.fip_language.specs.Values.{Values}
-use Rattle.trace_files.specs.machine_semantics.Codes as R
+use Rattle.code_verify.specs.cell_code.Plain.{PlainFunction, plain}
 use Rattle.trace_files.specs.machine_semantics.Runs.{Value, Trap, Out, Deep, Unsound, Run, Going, Over, begun, after}
 use Rattle.trace_files.specs.machine_semantics.States.{State}
 use Rattle.trace_files.specs.machine_semantics.Steps.{Kinds}
 use Rattle.command_run.specs.separation.Codes.{AreKinds}
 use Rattle.fip_machine.specs.code_verify.Checked.{Checked}
 use Rattle.fip_machine.specs.Traces.{AtValue}
-use Rattle.command_run.specs.code_rules.Codes.{PlainFunction, plain}
 use Rattle.command_run.specs.machine_correctness.Starts.{IsSoundCode, Begins}
-use Rattle.command_run.proofs.machine_correctness.Starting.{read, starts, free_is}
+use Rattle.command_run.proofs.machine_correctness.Starting.{starts, free_is}
 use Rattle.command_run.specs.CodeRun as D
 use Rattle.command_run.proofs.separation.Running.{run_sound}
 
@@ -22,10 +21,10 @@ pub record Valued (v : Checked) (n : ℕ) (vs : Values) (calls frames : ℕ) (be
   pub gives : run.end ≡ Value words
   pub holds : Q run.steps
 
-pub valued : (v : Checked) (before waits : Kinds) (n : ℕ) (f : PlainFunction) (vs : Values) (frames : ℕ) (s : State) (calls : ℕ) (Q : ℕ → Type 0) → IsSoundCode v.code → AreKinds (plain v.code) before waits → Begins v.code n f vs frames s → (k : ℕ) → AtValue (after before (R.plain v.code) k (begun s calls)) Q → Valued v n vs calls frames before s Q
-valued v before waits n f vs frames s calls Q sound kinds b k h = by (after before (R.plain v.code) k (begun s calls)) refl h
+pub valued : (v : Checked) (before waits : Kinds) (n : ℕ) (f : PlainFunction) (vs : Values) (frames : ℕ) (s : State) (calls : ℕ) (Q : ℕ → Type 0) → IsSoundCode v.code → AreKinds (plain v.code) before waits → Begins v.code n f vs frames s → (k : ℕ) → AtValue (after before (plain v.code) k (begun s calls)) Q → Valued v n vs calls frames before s Q
+valued v before waits n f vs frames s calls Q sound kinds b k h = by (after before (plain v.code) k (begun s calls)) refl h
   where
-    by : (m : Run) → after before (R.plain v.code) k (begun s calls) ≡ m → AtValue m Q → Valued v n vs calls frames before s Q
+    by : (m : Run) → after before (plain v.code) k (begun s calls) ≡ m → AtValue m Q → Valued v n vs calls frames before s Q
     by (Going z l j) e q = absurd q
     by (Over (Value ws) z l j) e q = record {
       run = record {
@@ -39,7 +38,7 @@ valued v before waits n f vs frames s calls Q sound kinds b k h = by (after befo
         last = z;
         left = l;
         steps = j;
-        ends = record { enough = k; is = ap (λ (q : R.PlainCode). after before q k (begun s calls)) (read v.code) ∙ e };
+        ends = record { enough = k; is = e };
       };
       kinds = refl;
       begins = refl;
@@ -50,4 +49,4 @@ valued v before waits n f vs frames s calls Q sound kinds b k h = by (after befo
     by (Over (Trap kind line col) z l j) e q = absurd q
     by (Over Out z l j) e q = absurd q
     by (Over Deep z l j) e q = absurd q
-    by (Over Unsound z l j) e q = absurd (run_sound (plain v.code) before waits n [] s calls k z l j (starts v.code before waits n f vs frames s sound kinds b).0 (ap (λ (q : R.PlainCode). after before q k (begun s calls)) (read v.code) ∙ e))
+    by (Over Unsound z l j) e q = absurd (run_sound (plain v.code) before waits n [] s calls k z l j (starts v.code before waits n f vs frames s sound kinds b).0 (e))

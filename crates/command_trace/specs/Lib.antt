@@ -1,2 +1,3 @@
+pub mod RunTrace
 pub mod TraceAnswer
 pub mod Replayed

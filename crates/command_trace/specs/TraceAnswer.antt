@@ -1,45 +1,26 @@
--- What `trace` comes to on a source that has the entry, once the input is read.
+-- It serves the proof of `trace`: what it comes to on a source that has the entry, once the input is read, by the run of a
+-- code of the source.
 --
 -- It ends as `exec` without the gauge does: with the lines of the values that the source means, or with what keeps it
 -- from them. With values it stores the file of a trace: that of the run of a code of the source on the input, from the
--- state in which its values are loaded, which gives words. Where the file of just this trace would have more than
--- 16,777,216 bytes, or there are more events or steps than it can tell, E75 is reported instead, and nothing is stored. A
--- store that is too small is reported before.
---
--- The trace of `rev` on Cons(1, Nil) and Nil reports the one cell, the step in which it gets Cons(1, Nil) once more, and
--- the seven steps of the run; and the line `Cons(1, Nil)` is printed.
-use Rattle.std.specs.Prelude.{◌≡◌, ◌⊎◌, ◌<◌, ◌≤◌, ◌^◌, ℕ, false, List, length, Option, Some, None, Result, Ok, Err}
-use Rattle.fip_language.specs.declared.limits.TheConstants.{MOST_FILE_BYTES}
+-- state in which its values are loaded, which gives words. Where just this trace is too long (`RunTrace`) E75 is reported
+-- instead, and nothing is stored. A store that is too small is reported before.
+use Rattle.std.specs.Prelude.{◌≡◌, ℕ, false, List, Result, Ok, Err}
 use Rattle.fip_language.specs.declared.rule.Rule.TheVariants.{E75}
 use Rattle.command_words.specs.Words.{Room}
 use Rattle.command_outcome.specs.declared.failure.Failure.{Failure}
 use Rattle.command_outcome.specs.declared.failure.Failure.TheVariants as F
-use Rattle.trace_files.specs.machine_semantics.Runs.{Value}
-use Rattle.command_run.specs.code_rules.Codes.{PlainCode}
+use Rattle.code_verify.specs.cell_code.Plain.{PlainCode}
 use Rattle.trace_files.specs.run_loading.TraceText.{Trace, trace_text}
-use Rattle.code_verify.specs.Checked.{Checked}
-use Rattle.command_run.specs.command_source.Codes.{sound_view}
 use Rattle.command_run.specs.command_source.declared.files.Compiled.{Compiled}
 use Rattle.command_run.specs.source_report.Report.{bare}
-use Rattle.command_run.specs.declared.running.Left.{Left}
 use Rattle.command_run.specs.ExecAnswer.{Coded, Execs}
-use Rattle.command_run.specs.LoadedRun.{InputRun, trace_of_run}
-
--- The run of function n on the input, from where its values are loaded, gives words, and this is its trace.
-pub record IsRunTrace (c : PlainCode) (n : ℕ) (input : List ℕ) (room : Room) (t : Trace) : Type 0 where
-  pub by : InputRun c n input room
-  pub words : List ℕ
-  pub gives : by.run.end ≡ Value words
-  pub is : t ≡ trace_of_run by.run
+pub use Rattle.command_trace.specs.RunTrace.{IsRunTrace, IsLong, code_of}
 
 -- the same of a code of the source, whose function has the entry's name
 pub record IsTraceOf (source name input : List ℕ) (room : Room) (t : Trace) : Type 0 where
   pub code : Coded source name
-  pub traced : IsRunTrace (sound_view code.code) code.number input room t
-
--- its file can't tell it, or is too long
-abbrev pub IsLong : Trace → Type 0
-IsLong t = (MOST_FILE_BYTES < length (trace_text t)) ⊎ ((4294967295 < length t.events) ⊎ (2 ^ 64 ≤ t.steps))
+  pub traced : IsRunTrace code.code code.number input room t
 
 -- the file that is stored, and the text that is printed after it
 pub record Kept : Type 0 where
@@ -62,11 +43,6 @@ TracesRun c n input room (Ok kept) =
     (t : Trace) × IsRunTrace c n input room t × (IsLong t → ⊥) × (kept.file.items ≡ trace_text t)
 TracesRun c n input room (Err (F.Refused r)) = (t : Trace) × IsRunTrace c n input room t × IsLong t
 TracesRun c n input room (Err failure) = Unit {0}
-
--- The code of a call: that of what is left, or else the one that is handed out by itself.
-abbrev pub code_of : Option Left → Option Checked → Option Checked
-code_of None made = made
-code_of (Some l) made = Some l.verified
 
 -- This is said of a result, whatever memory its bytes lie in; or memory runs out.
 abbrev pub KeptOrNoMemory : (Result Kept Failure → Type 0) → Result Compiled Failure → Type 0

@@ -4,7 +4,7 @@ ghost use Rattle.fip_language.specs.SoundTable.{IsSoundTable};
 ghost use Rattle.command_words.specs.Words.{Room};
 ghost use Rattle.trace_files.specs.run_loading.TraceText.{Trace as a_trace};
 ghost use Rattle.command_run.specs.code_rules.Breaks.{IsSound};
-ghost use Rattle.command_run.specs.code_rules.Codes.{PlainCode};
+ghost use Rattle.code_verify.specs.cell_code.Plain.{PlainCode};
 ghost use Rattle.command_run.specs.separation.Codes.{HasLiterals};
 ghost use Rattle.command_run.specs.LoadedRun.{InputRun};
 ghost use Rattle.command_trace.specs.TraceAnswer.{IsRunTrace};

@@ -1,5 +1,5 @@
 // Runs whose writes to the cells are kept.
-ghost use Rattle.std.specs.Prelude.{◌≡◌, ◌≢◌, ◌≤◌, ℕ, List, length, slice_get, is_some, Err, Some, IfOk, IfErr, IfSome};
+ghost use Rattle.std.specs.Prelude.{◌≡◌, ◌≢◌, ◌≤◌, ◌⊎◌, ℕ, List, length, slice_get, is_some, Err, Some, None, IfOk, IfErr, IfSome};
 ghost use Rattle.fip_language.specs.declared.limits.TheConstants.{MOST_FILE_BYTES};
 ghost use Rattle.fip_language.specs.declared.rule.Rule.TheVariants.{E75};
 ghost use Rattle.fip_language.specs.PrintedText.{printed_lines};
@@ -15,9 +15,8 @@ ghost use Rattle.fip_machine.specs.machine_cells.Small.{IsSmall};
 ghost use Rattle.command_run.specs.machine_correctness.Meant.{ArePrintable};
 ghost use Rattle.command_run.specs.CodeRun.{is_run_end};
 ghost use Rattle.command_run.specs.Leaving.{IsLeftBy, IsLastStore};
-ghost use Rattle.command_run.specs.Rooms.{IsAllowed};
 ghost use Rattle.command_run.specs.Starting.{failure_for};
-ghost use Rattle.command_run.specs.code_rules.Codes.{plain};
+ghost use Rattle.fip_machine.specs.cell_code.Plain.{plain};
 ghost use Rattle.command_run.specs.command_source.ProgramCode.{IsEntryOf};
 ghost use Rattle.command_run.specs.command_source.Wanted.{Compiled as compiled_entry, IsReady};
 ghost use Rattle.command_run.specs.source_report.Report.{bare};
@@ -30,11 +29,11 @@ use code_verify::Verified;
 use command_outcome::Failure;
 use command_run::source::{Compiled, Ready};
 use command_run::{Left, failure_of, started, types_of, values_text};
-use command_words::Room;
 use fip_base::plain::{Detail, NoMemory};
 use fip_base::refusal::{Refusal, Rule};
 use fip_language::limits::MOST_FILE_BYTES;
 use fip_machine::{Ended, Gauge, Machine};
+use fip_room::Room;
 use std::alloc::Global;
 use trace_files::write_trace;
 
@@ -51,15 +50,15 @@ fn too_long(alloc: Global) -> Failure
     })
 }
 
-// What keeps a run that ended so, and has no trace, from one. A run that ended with a value has a trace, unless memory
-// is wanting.
+// What keeps a run that ended so from a value.
 fn untraced(ended: Ended, room: Room) -> Failure
+    requires { ended ≢ a_value }
     ensures exact { ended ≢ a_value → failure_for ended room.calls room.frames ≡ Some result }
     ensures stage { IsOfRun result }
 {
     match failure_of(ended, room.calls, room.frames) {
         Some(failure) => failure,
-        None => Failure::NoMemory,
+        None => unreachable!(),
     }
 }
 
@@ -92,13 +91,13 @@ fn trace_leaving(
     room: Room,
 ) -> (Result<Compiled, Failure>, Option<Sealed>)
     ensures traces { (source name : List ℕ) → IsReady source (compiled_entry name) → IsEntryOf source name ready.now →
-        IsAllowed room → length input.now ≤ MOST_FILE_BYTES →
+        length input.now ≤ MOST_FILE_BYTES →
         KeptOrNoMemory (Traces source name input.now (room_of room)) result.0 }
     ensures own { (source name : List ℕ) → IsReady source (compiled_entry name) → IsEntryOf source name ready.now →
-        IsAllowed room → length input.now ≤ MOST_FILE_BYTES →
+        length input.now ≤ MOST_FILE_BYTES →
         TracesRun (plain ready.now.checked.code) ready.now.entry input.now (room_of room) result.0 }
     ensures meant { (source name : List ℕ) → IsReady source (compiled_entry name) → IsEntryOf source name ready.now →
-        IsAllowed room → length input.now ≤ MOST_FILE_BYTES →
+        length input.now ≤ MOST_FILE_BYTES →
         IfSome result.1 (IsLastStore ready.now input.now (room_of room)) }
     ensures some { is_some result.1 ≡ is_run_end result.0 }
     ensures long { (r : a_refusal) → result.0 ≡ Err (Refused r) → r ≡ bare E75 }
@@ -133,6 +132,7 @@ fn leave_or_show(
     ensures left { IfSome left.new (λ l. (l.verified ≡ ready.checked) × (cells ≡ Some l.cells)) }
     ensures some { is_some left.new ≡ is_some cells }
     ensures code { code_of left.new made.new ≡ Some ready.checked }
+    ensures apart { (left.new ≡ None) ⊎ (made.new ≡ None) }
 {
     *left = None;
     *made = None;
@@ -161,18 +161,19 @@ pub fn trace(
     made: &mut Option<Verified>,
 ) -> Result<Compiled, Failure>
     ensures traces { (source name : List ℕ) → IsReady source (compiled_entry name) → IsEntryOf source name ready →
-        IsAllowed room → length input.now ≤ MOST_FILE_BYTES →
+        length input.now ≤ MOST_FILE_BYTES →
         KeptOrNoMemory (Traces source name input.now (room_of room)) result }
     // The trace is that of the run of just this code on the input, from where its values are loaded.
     ensures own { (source name : List ℕ) → IsReady source (compiled_entry name) → IsEntryOf source name ready →
-        IsAllowed room → length input.now ≤ MOST_FILE_BYTES →
+        length input.now ≤ MOST_FILE_BYTES →
         TracesRun (plain ready.checked.code) ready.entry input.now (room_of room) result }
     // What is left is this code, and the cells of the last state of this run.
     ensures meant { (source name : List ℕ) → IsReady source (compiled_entry name) → IsEntryOf source name ready →
-        IsAllowed room → length input.now ≤ MOST_FILE_BYTES →
+        length input.now ≤ MOST_FILE_BYTES →
         IfSome left.new (IsLeftBy ready input.now (room_of room)) }
     ensures some { is_some left.new ≡ is_run_end result }
     ensures made { code_of left.new made.new ≡ Some ready.checked }
+    ensures apart { (left.new ≡ None) ⊎ (made.new ≡ None) }
     ensures long { (r : a_refusal) → result ≡ Err (Refused r) → r ≡ bare E75 }
     ensures stage { IfErr result IsOfTrace }
 {

@@ -1,6 +1,6 @@
 -- Requests and commands without where their text lies.
 use Rattle.command_words.specs.Words as W
-use Rattle.command_words.specs.declared.words.Room.{Room}
+use Rattle.fip_room.specs.declared.room.Room.{Room}
 use Rattle.command_words.specs.declared.words.RunRequest.{RunRequest}
 use Rattle.command_words.specs.declared.words.Command.{Command}
 use Rattle.command_words.specs.declared.words.Command.TheVariants as C
@@ -18,7 +18,7 @@ command_of (C.Verify file) = W.Verify file.now
 command_of (C.Upgrade file out) = W.Upgrade file.now out.now
 command_of (C.Exec r) = W.Exec (request_of r)
 command_of (C.Run r) = W.Run (request_of r)
-command_of (C.Eval file entry calls frames) = W.Eval file.now entry.now calls frames
+command_of (C.Eval file entry room) = W.Eval file.now entry.now room.calls room.frames
 command_of (C.Trace file entry out room) = W.Trace file.now entry.now out.now (room_of room)
 command_of (C.Session file room) = W.Session file.now (room_of room)
 command_of (C.Tasks file seed turns room) = W.Tasks file.now seed turns (room_of room)

@@ -4,4 +4,4 @@
 mod commands;
 pub mod words;
 
-pub use words::{Command, Room, RunRequest, WordsError, read_words};
+pub use words::{Command, RunRequest, WordsError, read_words};

@@ -11,18 +11,8 @@ use crate::commands::{
 };
 use clap::ArgMatches;
 use clap::error::ErrorKind;
+use fip_room::Room;
 use std::alloc::Global;
-
-/// The room that a run is given.
-#[derive(Clone, Copy)]
-pub struct Room {
-    /// How many calls it may take.
-    pub calls: u64,
-    /// How many frames it may hold beside the entry's, where the entry isn't fip.
-    pub frames: u64,
-    /// How many words the store has.
-    pub words: u64,
-}
 
 /// A run of an entry of a file.
 #[derive(Clone, Copy)]
@@ -65,12 +55,11 @@ pub enum Command<'a> {
     Run {
         request: RunRequest<'a>,
     },
-    /// An evaluation on rows that never change.
+    /// An evaluation on rows that never change, whose input is read into a store of as many words as one may have.
     Eval {
         file: &'a str,
         entry: &'a str,
-        calls: u64,
-        frames: u64,
+        room: Room,
     },
     /// A run of a source, whose trace is stored.
     Trace {
@@ -161,11 +150,7 @@ fn room_in(matches: &ArgMatches<'_>) -> Option<Room>
     let calls = number_of(matches, "calls", 0, MOST_CALLS)?;
     let frames = number_of(matches, "frames", 0, MOST_FRAMES)?;
     let words = number_of(matches, "words", 0, MOST_WORDS)?;
-    Some(Room {
-        calls,
-        frames,
-        words,
-    })
+    Room::new(calls, frames, words)
 }
 
 // What stands after `exec` or `run`.
@@ -250,12 +235,8 @@ fn eval<'a>(matches: &ArgMatches<'a>) -> Option<Command<'a>>
     let entry = text_of(matches, "ENTRY")?;
     let calls = number_of(matches, "calls", 0, MOST_CALLS)?;
     let frames = number_of(matches, "frames", 0, MOST_FRAMES)?;
-    Some(Command::Eval {
-        file,
-        entry,
-        calls,
-        frames,
-    })
+    let room = Room::new(calls, frames, MOST_WORDS)?;
+    Some(Command::Eval { file, entry, room })
 }
 
 // What stands after `trace`.

@@ -24,14 +24,14 @@ use Rattle.fip_machine.specs.declared.machine.Ended.TheVariants as M
 use Rattle.session_code.specs.Served.{ComesTo, IsOf, IsServed}
 use Rattle.session_correctness.specs.tree_refinement.Agreement.{AreWordsOf}
 use Rattle.session_correctness.specs.tree_refinement.Runs.{IsSameEnd}
-use Rattle.session_correctness.specs.tree_refinement.code_rules.Codes.{PlainCode, plain, plain_function, results, results_of, function_at}
+use Rattle.cell_code.specs.Plain.{PlainCode, plain_function, plain, results_of, results}
 use Rattle.session_correctness.specs.tree_refinement.machine_semantics.Cells.{Store, IsStore, cell_at, cell_in, there, released_at, size_in}
 use Rattle.session_correctness.specs.tree_refinement.machine_semantics.Kept.{Keeps}
 use Rattle.session_correctness.specs.tree_refinement.machine_semantics.Runs.{End, Value, Trap, Out, Deep, Unsound, Run, Going, Over, Ends, state_of, begun, after}
 use Rattle.session_correctness.specs.tree_refinement.machine_semantics.States.{State}
 use Rattle.session_correctness.specs.tree_refinement.machine_semantics.Steps.{Kinds}
 use Rattle.session_correctness.specs.tree_refinement.machine_semantics.Trees as C
-use Rattle.session_correctness.specs.tree_refinement.separation.Codes.{run_code, AreKinds}
+use Rattle.session_correctness.specs.tree_refinement.separation.Codes.{AreKinds}
 use Rattle.session_correctness.specs.tree_refinement.separation.Starts.{IsStart}
 use Rattle.session_correctness.proofs.tree_refinement.separation_bounds.Ending.{ends_once}
 use Rattle.session_correctness.proofs.tree_refinement.Values.{same_parts}

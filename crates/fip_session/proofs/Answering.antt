@@ -17,7 +17,7 @@ use Rattle.fip_language.specs.Values.{Values}
 use Rattle.fip_machine.specs.machine_cells.Small.{store_of}
 use Rattle.fip_machine.specs.declared.machine.Ended.{Ended}
 use Rattle.fip_machine.specs.declared.machine.Ended.TheVariants as M
-use Rattle.session_correctness.specs.tree_refinement.code_rules.Codes.{plain}
+use Rattle.cell_code.specs.Plain.{plain}
 use Rattle.session_correctness.specs.tree_refinement.machine_semantics.Cells.{Store, IsStore, there, released_at}
 use Rattle.session_correctness.specs.tree_refinement.machine_semantics.Steps.{Kinds}
 use Rattle.session_correctness.specs.tree_refinement.machine_semantics.Trees as C

@@ -38,7 +38,7 @@ book_of o t s h = record {
   finds = finds_of t.book.held h.opened.lodged h.opened.names;
 }
 
-pub opens_first : (o : Setting) (t : Session) → IsServed o t.book.verified.now.code → t.book.table.now ≡ o.program.types → AreEntries t.book.verified.now.code.functions.items t.book.entries.numbers → t.book.calls ≡ o.calls → t.book.frames ≡ o.frames → ((name : Name) → found t.book.held name ≡ None) → t.store.cells.cells ≡ [] → t.store.cells.released ≡ [] → t.store.left ≡ o.words → IsSession o t at_first
+pub opens_first : (o : Setting) (t : Session) → IsServed o t.book.verified.now.code → t.book.table.now ≡ o.program.types → AreEntries t.book.verified.now.code.functions.items t.book.entries.numbers → t.book.room.calls ≡ o.calls → t.book.room.frames ≡ o.frames → ((name : Name) → found t.book.held name ≡ None) → t.store.cells.cells ≡ [] → t.store.cells.released ≡ [] → t.store.left ≡ o.words → IsSession o t at_first
 opens_first o t served table entries calls frames none cells released left = record {
   served = served;
   table = table;

@@ -7,11 +7,12 @@ use Rattle.fip_language.specs.Core.{Name}
 use Rattle.fip_language.specs.Store.{Parts, NoParts, MoreParts, value_of, values_of, words_of, uses_of_all, count}
 use Rattle.fip_language.specs.Table.{Table}
 use Rattle.fip_language.specs.Values.{Values, cells_of_all}
+use Rattle.cell_code.specs.declared.code.CodeKind.TheVariants.{Fip}
 use Rattle.fip_language.specs.declared.limits.TheConstants.{MOST_FIELDS}
 use Rattle.fip_machine.specs.machine_cells.Small.{store_of}
 use Rattle.session_correctness.specs.tree_refinement.machine_semantics.Apart.{IsGiven, AreSpare}
 use Rattle.session_correctness.specs.tree_refinement.machine_semantics.Cells.{Store, IsStore, count_held, there, released_at}
-use Rattle.session_correctness.specs.tree_refinement.machine_semantics.Codes as R
+use Rattle.cell_code.specs.Plain.{PlainFunction}
 use Rattle.session_correctness.specs.tree_refinement.machine_semantics.Trees.{StandAll}
 use Rattle.session_correctness.specs.tree_refinement.machine_semantics.Words.{place_word}
 use Rattle.session_correctness.proofs.tree_refinement.separation_bounds.Weights.{first_held}
@@ -76,8 +77,8 @@ stand_more tb s [] ms h g = g
 stand_more tb s (l ∷ ls) ms h g = (h.0, stand_more tb s ls ms h.1 g)
 
 -- the cells that aren't released, by size
-abbrev holder : List Lodged → List ℕ → R.PlainFunction
-holder ls credits = record { params = params_of ls; credits = credits; results = []; registers = 0; instrs = [] }
+abbrev holder : List Lodged → List ℕ → PlainFunction
+holder ls credits = record { kind = Fip; name = []; params = params_of ls; credits = credits; results = []; registers = 0; instrs = []; labels = [] }
 
 held_all : (tb : Table) (ls : List Lodged) (credits spares : List ℕ) (s : Store) (k : ℕ) → IsStore s → AllStand tb s ls → AreSpare s credits spares → ((q : ℕ) → lodged_uses ls q + (count q spares + released_at s q) ≡ there s q) → count_held k s ≡ lodged_cells k ls + count k credits
 held_all tb ls credits spares s k st stand spare once =

@@ -14,9 +14,8 @@ use Rattle.fip_language.specs.Values.{Values}
 use Rattle.fip_machine.specs.machine_cells.Small.{store_of}
 use Rattle.fip_machine.specs.declared.machine.Ended.{Ended}
 use Rattle.fip_machine.specs.declared.machine.Ended.TheVariants as M
-use Rattle.session_correctness.specs.tree_refinement.code_rules.Codes.{plain}
+use Rattle.cell_code.specs.Plain.{plain}
 use Rattle.session_correctness.specs.tree_refinement.machine_semantics.Cells.{Store, IsStore, there}
-use Rattle.session_correctness.specs.tree_refinement.machine_semantics.Codes as R
 use Rattle.session_correctness.specs.tree_refinement.machine_semantics.Runs.{loaded}
 use Rattle.session_correctness.specs.tree_refinement.machine_semantics.States.{State as RunState}
 use Rattle.session_correctness.specs.tree_refinement.machine_semantics.Steps.{Kinds}
@@ -88,7 +87,7 @@ module _ (o : Setting) (s : State) (b : Book) (p : Plan) (ls : List Lodged) (nam
     apart0 q = (let a = all_apart q in omega (arith, a))
 
     -- how it came out
-    module _ (frames : ℕ) (exact : HasFrames (plain code) p.entry b.frames frames) (e : Ended) (given : List ℕ) (cells1 : Stored) (runs : (before waits : Kinds) (kept : List ℕ) (q : RunState) → IsStart (plain code) before waits p.entry kept q → (g : Function) → slice_get code.functions.items p.entry ≡ Some g → length r.words.items ≤ g.registers → loaded (R.plain code) p.entry (store_of cells0.cells cells0.released) r.words.items frames ≡ Some q → Came (plain code) before q b.calls e given (store_of cells1.cells cells1.released)) where
+    module _ (frames : ℕ) (exact : HasFrames (plain code) p.entry b.room.frames frames) (e : Ended) (given : List ℕ) (cells1 : Stored) (runs : (before waits : Kinds) (kept : List ℕ) (q : RunState) → IsStart (plain code) before waits p.entry kept q → (g : Function) → slice_get code.functions.items p.entry ≡ Some g → length r.words.items ≤ g.registers → loaded (plain code) p.entry (store_of cells0.cells cells0.released) r.words.items frames ≡ Some q → Came (plain code) before q b.room.calls e given (store_of cells1.cells cells1.released)) where
       abbrev before : Kinds
       before = (kinds_found (plain code)).0
 
@@ -105,7 +104,7 @@ module _ (o : Setting) (s : State) (b : Book) (p : Plan) (ls : List Lodged) (nam
       u = store_of cells1.cells cells1.released
 
       pub came : Came (plain code) before (B.state o s code ls names p.entry f i d gs vs old new r can.begun frames) o.calls e given u
-      came = subst (λ m. Came (plain code) before (B.state o s code ls names p.entry f i d gs vs old new r can.begun frames) m e given u) can.calls (runs before waits (S.kept code p.entry f can.begun.of.there can.begun.served.sound can.begun.served.literals ls gs vs old new r can.begun.kept.distinct can.begun.kept.held can.begun.store can.begun.ready) (B.state o s code ls names p.entry f i d gs vs old new r can.begun frames) (B.starts o s code ls names p.entry f i d gs vs old new r can.begun before waits kinds frames) f can.begun.of.there (B.fits o s code ls names p.entry f i d gs vs old new r can.begun) (subst (λ t. loaded (R.plain code) p.entry t r.words.items frames ≡ Some (B.state o s code ls names p.entry f i d gs vs old new r can.begun frames)) (sym stored) (S.loads code p.entry f can.begun.of.there can.begun.served.sound can.begun.served.literals ls gs vs old new r can.begun.kept.distinct can.begun.kept.held can.begun.store can.begun.ready frames)))
+      came = subst (λ m. Came (plain code) before (B.state o s code ls names p.entry f i d gs vs old new r can.begun frames) m e given u) can.calls (runs before waits (S.kept code p.entry f can.begun.of.there can.begun.served.sound can.begun.served.literals ls gs vs old new r can.begun.kept.distinct can.begun.kept.held can.begun.store can.begun.ready) (B.state o s code ls names p.entry f i d gs vs old new r can.begun frames) (B.starts o s code ls names p.entry f i d gs vs old new r can.begun before waits kinds frames) f can.begun.of.there (B.fits o s code ls names p.entry f i d gs vs old new r can.begun) (subst (λ t. loaded (plain code) p.entry t r.words.items frames ≡ Some (B.state o s code ls names p.entry f i d gs vs old new r can.begun frames)) (sym stored) (S.loads code p.entry f can.begun.of.there can.begun.served.sound can.begun.served.literals ls gs vs old new r can.begun.kept.distinct can.begun.kept.held can.begun.store can.begun.ready frames)))
 
       pub small1 : length cells1.cells ≤ 16777216
       small1 = (let l = B.long_u o s code ls names p.entry f i d gs vs old new r can.begun before waits kinds frames frames_are e given u came in let le = can.begun.small in omega (arith, l, le))
@@ -156,7 +155,7 @@ module _ (o : Setting) (s : State) (b : Book) (p : Plan) (ls : List Lodged) (nam
           few = A.places_within new.cells can.begun.ready.spares f.credits.items can.begun.small can.begun.ready.zero;
         }
 
-        pub end_answered : (b1 : BTreeMap (Vec ℕ Global) Held) (cells2 : Stored) (calls : ℕ) → calls ≡ b.calls → ((ms : List Lodged) → Finds b.held ms → Finds b1 (but_all (names_used p.arguments.given.items) ms)) → IsReleased (but_all (A.used o s code ls names p.entry f i d gs vs old new r can.begun) ls) (λ q. all_uses trees q + named_uses ls (names_used p.arguments.given.items) q) can.begun.ready.spares u (store_of cells2.cells cells2.released) → IsAnswered o s code.types names i d gs vs b1 cells2 (Y.NoValue e calls frames)
+        pub end_answered : (b1 : BTreeMap (Vec ℕ Global) Held) (cells2 : Stored) (calls : ℕ) → calls ≡ b.room.calls → ((ms : List Lodged) → Finds b.held ms → Finds b1 (but_all (names_used p.arguments.given.items) ms)) → IsReleased (but_all (A.used o s code ls names p.entry f i d gs vs old new r can.begun) ls) (λ q. all_uses trees q + named_uses ls (names_used p.arguments.given.items) q) can.begun.ready.spares u (store_of cells2.cells cells2.released) → IsAnswered o s code.types names i d gs vs b1 cells2 (Y.NoValue e calls frames)
         end_answered b1 cells2 calls same forgets up =
             A.answered_end o s code ls names p.entry f i d gs vs old new r can.begun before waits kinds frames frames_are e given u came cells2 not b1 calls frames (Y.NoValue e calls frames) refl (same ∙ can.calls) refl (forgotten b1 forgets)
             (subst (λ ns. IsReleased (but_all (A.used o s code ls names p.entry f i d gs vs old new r can.begun) ls) (λ q. all_uses trees q + named_uses ls ns q) can.begun.ready.spares u (store_of cells2.cells cells2.released)) can.used up)

@@ -1,7 +1,7 @@
 -- A machine over sound code that was started on what the definition begins with comes out as the definition's run.
 -- Idea: in each state of a run the verifier knows which tree a Drop releases, and no instruction is stuck.
-use Rattle.std.proofs.Common.{◌≡◌, ◌∙◌, ℕ, List, Option, Some, None, slice_get, option_map, refl, sym, ap, subst}
-use Rattle.std.proofs.lemmas.Option.{none-some, same_Some, slice_get-map}
+use Rattle.std.proofs.Common.{◌≡◌, ◌∙◌, ℕ, List, Option, Some, None, slice_get, refl, sym, ap, subst}
+use Rattle.std.proofs.lemmas.Option.{none-some, same_Some}
 use Rattle.cell_code.specs.declared.code.Code.{Code}
 use Rattle.cell_code.specs.declared.code.Instr.{Instr}
 use Rattle.cell_code.specs.declared.code.Instr.TheVariants as I
@@ -11,18 +11,16 @@ use Rattle.code_verify.specs.Checked.{Checked}
 use Rattle.fip_machine.specs.Ending.{KnowsRun, RunsTo, IsOver}
 use Rattle.fip_machine.specs.Tasks.{Stand, state_with}
 use Rattle.fip_machine.specs.declared.machine.Ended.{Ended}
+use Rattle.cell_code.specs.Plain.{PlainFunction, PlainCode, plain, function_at, results}
 use Rattle.session_correctness.specs.tree_refinement.machine_semantics.Codes as R
 use Rattle.session_correctness.specs.tree_refinement.machine_semantics.Rows.{owned_type}
 use Rattle.session_correctness.specs.tree_refinement.machine_semantics.Cells.{Store}
 use Rattle.session_correctness.specs.tree_refinement.machine_semantics.States.{State, Typed}
 use Rattle.session_correctness.specs.tree_refinement.machine_semantics.Steps.{Kinds}
 use Rattle.session_correctness.specs.tree_refinement.machine_semantics.Runs.{Run, Going, Over, Value, Trap, Out, Deep, Unsound, state_of, begun, after}
-use Rattle.session_correctness.specs.tree_refinement.code_rules.Codes.{PlainCode, PlainFunction, plain, function_at, results}
 use Rattle.session_correctness.specs.tree_refinement.code_rules.Kinds.{kind_or_gone}
-use Rattle.session_correctness.specs.tree_refinement.separation.Codes.{run_function, run_code}
 use Rattle.session_correctness.specs.tree_refinement.separation.Starts.{IsStart}
 use Rattle.session_correctness.specs.tree_refinement.separation.Alive.{IsAlive}
-use Rattle.session_correctness.proofs.tree_refinement.separation.CodesRun.{code_runs}
 use Rattle.session_correctness.proofs.tree_refinement.separation.Running.{run_alive, run_sound}
 use Rattle.session_correctness.proofs.tree_refinement.separation.Sound.{formed}
 use Rattle.fip_session.specs.Came.{Came}
@@ -37,17 +35,17 @@ owned_by (Some (Owned u set)) t e = (set, ap (λ i. Owned i set) (same_Some u t 
 owned_by (Some (Lent u set root from)) t e = absurd (none-some t e)
 owned_by (Some (Credit k)) t e = absurd (none-some t e)
 
-instr_read : (c : PlainCode) (f i : ℕ) (g : PlainFunction) (x : Instr) → function_at c f ≡ Some g → R.instr_at (run_code c) f i ≡ Some x → slice_get g.instrs i ≡ Some x
-instr_read c f i g x is e = sym (ap (λ o. R.instr_in o i) (slice_get-map run_function c.functions f ∙ ap (option_map run_function) is)) ∙ e
+instr_read : (c : PlainCode) (f i : ℕ) (g : PlainFunction) (x : Instr) → function_at c f ≡ Some g → R.instr_at c f i ≡ Some x → slice_get g.instrs i ≡ Some x
+instr_read c f i g x is e = sym (ap (λ o. R.instr_in o i) is) ∙ e
 
 pub known : (v : Checked) (before waits : Kinds) (n : ℕ) (kept : List ℕ) (s : State) (calls : ℕ) → IsStart (plain v.code) before waits n kept s → KnowsRun v before s calls
 known v before waits n kept s calls t k left steps u e r ty drop owned =
     let c = plain v.code in
-    let there : after before (run_code c) k (begun s calls) ≡ Going u left steps = ap (λ (q : R.PlainCode). after before q k (begun s calls)) (code_runs v.code) ∙ e in
+    let there : after before c k (begun s calls) ≡ Going u left steps = e in
     let alive : IsAlive c (results c n) kept u = subst (λ (m : Run). IsAlive c (results c n) kept (state_of m)) there (run_alive c before waits n kept s calls k t) in
     let f = u.running.function in
     let i = u.running.at in
-    let read : R.instr_at (run_code c) f i ≡ Some (I.Drop r) = ap (λ (q : R.PlainCode). R.instr_at q f i) (code_runs v.code) ∙ drop in
+    let read : R.instr_at c f i ≡ Some (I.Drop r) = drop in
     let kinds : before f i ≡ alive.kinds = t.kinds.known f i alive.function alive.kinds alive.is alive.known in
     let o = owned_by (slice_get alive.kinds r) ty (ap (λ (ks : List Kind). owned_type (slice_get ks r)) (sym kinds) ∙ owned) in (
       alive.function,
@@ -64,13 +62,13 @@ known v before waits n kept s calls t k left steps u e r ty drop owned =
 
 -- ---- how it came out
 
-pub came : (v : Checked) (before waits : Kinds) (n : ℕ) (kept : List ℕ) (s : State) (calls : ℕ) (e : Ended) (new : State) (given : List ℕ) → IsStart (plain v.code) before waits n kept s → RunsTo before (R.plain v.code) s calls e new given → Came (plain v.code) before s calls e given new.store
-came v before waits n kept s calls e new given t h = by (after before (R.plain v.code) h.0 (begun s calls)) refl h.1
+pub came : (v : Checked) (before waits : Kinds) (n : ℕ) (kept : List ℕ) (s : State) (calls : ℕ) (e : Ended) (new : State) (given : List ℕ) → IsStart (plain v.code) before waits n kept s → RunsTo before (plain v.code) s calls e new given → Came (plain v.code) before s calls e given new.store
+came v before waits n kept s calls e new given t h = by (after before (plain v.code) h.0 (begun s calls)) refl h.1
   where
-    over : (r : Run) → after before (R.plain v.code) h.0 (begun s calls) ≡ r → after before (run_code (plain v.code)) h.0 (begun s calls) ≡ r
-    over r is = ap (λ (q : R.PlainCode). after before q h.0 (begun s calls)) (code_runs v.code) ∙ is
+    over : (r : Run) → after before (plain v.code) h.0 (begun s calls) ≡ r → after before (plain v.code) h.0 (begun s calls) ≡ r
+    over r is = is
 
-    by : (r : Run) → after before (R.plain v.code) h.0 (begun s calls) ≡ r → IsOver r e new given → Came (plain v.code) before s calls e given new.store
+    by : (r : Run) → after before (plain v.code) h.0 (begun s calls) ≡ r → IsOver r e new given → Came (plain v.code) before s calls e given new.store
     by (Going u left k) is o = absurd o
     by (Over (Value ws) last left k) is o = record { end = Value ws; last = last; left = left; steps = k; ends = record { enough = h.0; is = over (Over (Value ws) last left k) is }; is = (o.0, o.2); store = ap (λ (u : State). u.store) o.1 }
     by (Over (Trap kind line col) last left k) is o = record { end = Trap kind line col; last = last; left = left; steps = k; ends = record { enough = h.0; is = over (Over (Trap kind line col) last left k) is }; is = o.0; store = ap (λ (u : State). u.store) o.1 }
@@ -78,13 +76,13 @@ came v before waits n kept s calls e new given t h = by (after before (R.plain v
     by (Over Deep last left k) is o = record { end = Deep; last = last; left = left; steps = k; ends = record { enough = h.0; is = over (Over Deep last left k) is }; is = o.0; store = ap (λ (u : State). u.store) o.1 }
     by (Over Unsound last left k) is o = absurd (run_sound (plain v.code) before waits n kept s calls h.0 last left k t (over (Over Unsound last left k) is))
 
-pub machine_came : (v : Checked) (before waits : Kinds) (n : ℕ) (kept : List ℕ) (s : State) (calls : ℕ) (e : Ended) (stack : Stand) (store : Store) (stack' : Stand) (store' : Store) (given : List ℕ) (u : Store) → IsStart (plain v.code) before waits n kept s → stack.code ≡ v → state_with stack s.lent store ≡ s → ((kinds : Kinds) (lent : List Typed) → KnowsRun stack.code kinds (state_with stack lent store) calls → RunsTo kinds (R.plain stack.code.code) (state_with stack lent store) calls e (state_with stack' lent store') stack'.given) → given ≡ stack'.given → u ≡ store' → Came (plain v.code) before s calls e given u
+pub machine_came : (v : Checked) (before waits : Kinds) (n : ℕ) (kept : List ℕ) (s : State) (calls : ℕ) (e : Ended) (stack : Stand) (store : Store) (stack' : Stand) (store' : Store) (given : List ℕ) (u : Store) → IsStart (plain v.code) before waits n kept s → stack.code ≡ v → state_with stack s.lent store ≡ s → ((kinds : Kinds) (lent : List Typed) → KnowsRun stack.code kinds (state_with stack lent store) calls → RunsTo kinds (plain stack.code.code) (state_with stack lent store) calls e (state_with stack' lent store') stack'.given) → given ≡ stack'.given → u ≡ store' → Came (plain v.code) before s calls e given u
 machine_came v before waits n kept s calls e stack store stack' store' given u t code at runs same over =
     let knows : KnowsRun stack.code before (state_with stack s.lent store) calls =
     subst (λ (w : Checked). KnowsRun w before (state_with stack s.lent store) calls) (sym code)
     (subst (λ (q : State). KnowsRun v before q calls) (sym at) (known v before waits n kept s calls t)) in
-    let r : RunsTo before (R.plain v.code) s calls e (state_with stack' s.lent store') stack'.given =
-    subst (λ (q : State). RunsTo before (R.plain v.code) q calls e (state_with stack' s.lent store') stack'.given) at
-    (subst (λ (w : Checked). RunsTo before (R.plain w.code) (state_with stack s.lent store) calls e (state_with stack' s.lent store') stack'.given) code (runs before s.lent knows)) in
+    let r : RunsTo before (plain v.code) s calls e (state_with stack' s.lent store') stack'.given =
+    subst (λ (q : State). RunsTo before (plain v.code) q calls e (state_with stack' s.lent store') stack'.given) at
+    (subst (λ (w : Checked). RunsTo before (plain w.code) (state_with stack s.lent store) calls e (state_with stack' s.lent store') stack'.given) code (runs before s.lent knows)) in
     subst (λ gs. Came (plain v.code) before s calls e gs u) (sym same)
     (subst (λ us. Came (plain v.code) before s calls e stack'.given us) (sym over) (came v before waits n kept s calls e (state_with stack' s.lent store') stack'.given t r))

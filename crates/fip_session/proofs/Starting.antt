@@ -12,17 +12,16 @@ use Rattle.fip_language.specs.Table.{Table}
 use Rattle.fip_language.specs.Values.{Values}
 use Rattle.fip_machine.specs.machine_cells.Small.{store_of}
 use Rattle.session_correctness.specs.tree_refinement.code_rules.Breaks.{IsSound}
-use Rattle.session_correctness.specs.tree_refinement.code_rules.Codes.{PlainCode, PlainFunction, plain, plain_function, function_at}
+use Rattle.cell_code.specs.Plain.{PlainFunction, PlainCode, plain_function, plain, function_at}
 use Rattle.session_correctness.specs.tree_refinement.code_rules.Headers.{is_formed}
 use Rattle.session_correctness.specs.tree_refinement.code_rules.Limits.{most_registers}
 use Rattle.session_correctness.specs.tree_refinement.machine_semantics.Apart.{IsGiven}
 use Rattle.session_correctness.specs.tree_refinement.machine_semantics.Cells.{Store, IsStore, cell_in, cell_at, there, released_at}
-use Rattle.session_correctness.specs.tree_refinement.machine_semantics.Codes as R
 use Rattle.session_correctness.specs.tree_refinement.machine_semantics.Runs.{loaded, loaded_in, lent_words}
 use Rattle.session_correctness.specs.tree_refinement.machine_semantics.States.{State}
 use Rattle.session_correctness.specs.tree_refinement.machine_semantics.Steps.{Kinds, first_frame}
 use Rattle.session_correctness.specs.tree_refinement.machine_semantics.Trees.{StandAll}
-use Rattle.session_correctness.specs.tree_refinement.separation.Codes.{run_function, run_code, HasLiterals, AreKinds}
+use Rattle.session_correctness.specs.tree_refinement.separation.Codes.{HasLiterals, AreKinds}
 use Rattle.session_correctness.specs.tree_refinement.separation.Starts.{IsStart}
 use Rattle.session_correctness.proofs.tree_refinement.separation.Sound.{formed}
 use Rattle.session_correctness.proofs.tree_refinement.separation_kinds.Basics.{both, refuted}
@@ -110,25 +109,25 @@ module _ (code : Code) (n : ℕ) (f : Function) (is : slice_get code.functions.i
 
   -- what is held stands there still
   pub still : AllStand code.types first ls
-  still = still_stand code.types ls (store_of old.cells old.released) first (run_function function) gs h.trees h.spares r.words.items held distinct store same once stand (spare first f.credits.items h.spares h.zero) h.given (h.words ∙ ap (λ ws. words_of h.trees ++ ws) (names h.spares))
+  still = still_stand code.types ls (store_of old.cells old.released) first function gs h.trees h.spares r.words.items held distinct store same once stand (spare first f.credits.items h.spares h.zero) h.given (h.words ∙ ap (λ ws. words_of h.trees ++ ws) (names h.spares))
 
   abbrev pub kept : List ℕ
   kept = lodged_places (but_all (named_by_all code.types f.params gs) ls)
 
-  abbrev given : IsGiven code.types (run_function function) first kept r.words.items
-  given = is_given code.types ls (store_of old.cells old.released) first (run_function function) gs h.trees h.spares r.words.items held distinct store same once stand (spare first f.credits.items h.spares h.zero) h.given (h.words ∙ ap (λ ws. words_of h.trees ++ ws) (names h.spares))
+  abbrev given : IsGiven code.types function first kept r.words.items
+  given = is_given code.types ls (store_of old.cells old.released) first function gs h.trees h.spares r.words.items held distinct store same once stand (spare first f.credits.items h.spares h.zero) h.given (h.words ∙ ap (λ ws. words_of h.trees ++ ws) (names h.spares))
 
   abbrev pub state : ℕ → State
   state frames = record {
     store = first;
-    running = first_frame n (R.plain_function f) r.words.items;
+    running = first_frame n (plain_function f) r.words.items;
     waiting = [];
     free = frames;
-    lent = lent_words code.types (R.plain_function f).params r.words.items;
+    lent = lent_words code.types (plain_function f).params r.words.items;
   }
 
-  pub loads : (frames : ℕ) → loaded (R.plain code) n first r.words.items frames ≡ Some (state frames)
-  loads frames = ap (λ o. loaded_in code.types n o first r.words.items frames) (slice_get-map R.plain_function code.functions.items n ∙ ap (option_map R.plain_function) is)
+  pub loads : (frames : ℕ) → loaded (plain code) n first r.words.items frames ≡ Some (state frames)
+  loads frames = ap (λ o. loaded_in code.types n o first r.words.items frames) (slice_get-map plain_function code.functions.items n ∙ ap (option_map plain_function) is)
 
   abbrev pub begins : (frames : ℕ) → BeginsBeside code n function vs frames kept (state frames)
   begins frames = record { is = function_is; words = r.words.items; given = given; values = h.values; loaded = loads frames }
@@ -147,5 +146,5 @@ module _ (code : Code) (n : ℕ) (f : Function) (is : slice_get code.functions.i
     distinct = distinct;
     stand = still;
     trees = h.given;
-    others = others code.types ls (store_of old.cells old.released) first (run_function function) gs h.trees h.spares r.words.items held distinct store same once stand (spare first f.credits.items h.spares h.zero) h.given (h.words ∙ ap (λ ws. words_of h.trees ++ ws) (names h.spares));
+    others = others code.types ls (store_of old.cells old.released) first function gs h.trees h.spares r.words.items held distinct store same once stand (spare first f.credits.items h.spares h.zero) h.given (h.words ∙ ap (λ ws. words_of h.trees ++ ws) (names h.spares));
   }

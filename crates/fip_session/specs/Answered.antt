@@ -84,8 +84,8 @@ pub record CanRun (o : Setting) (s : State) (b : Book) (p : Plan) (ls : List Lod
     (d : Instance) (gs : List Written) (vs : Values) (old new : Loading) (r : Ready) : Type 0 where
   pub finds : Finds b.held ls
   pub table : b.table.now ≡ b.verified.now.code.types
-  pub calls : b.calls ≡ o.calls
-  pub frames : b.frames ≡ o.frames
+  pub calls : b.room.calls ≡ o.calls
+  pub frames : b.room.frames ≡ o.frames
   pub used : names_used p.arguments.given.items ≡ used_by b.verified.now.code.types p.function.now.params gs
   pub begun : IsBegun o s b.verified.now.code ls names p.entry p.function.now i d gs vs old new r
 

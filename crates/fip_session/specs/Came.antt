@@ -5,12 +5,11 @@
 use Rattle.std.specs.Prelude.{◌≡◌, ℕ, List}
 use Rattle.fip_machine.specs.declared.machine.Ended.{Ended}
 use Rattle.fip_machine.specs.declared.machine.Ended.TheVariants as M
-use Rattle.session_correctness.specs.tree_refinement.code_rules.Codes.{PlainCode}
+use Rattle.cell_code.specs.Plain.{PlainCode}
 use Rattle.session_correctness.specs.tree_refinement.machine_semantics.Cells.{Store}
 use Rattle.session_correctness.specs.tree_refinement.machine_semantics.Runs.{End, Value, Trap, Out, Deep, Unsound, Ends}
 use Rattle.session_correctness.specs.tree_refinement.machine_semantics.States.{State}
 use Rattle.session_correctness.specs.tree_refinement.machine_semantics.Steps.{Kinds}
-use Rattle.session_correctness.specs.tree_refinement.separation.Codes.{run_code}
 
 -- the end of a run is what was answered, with these words of results
 abbrev pub EndsWith : End → Ended → List ℕ → Type 0
@@ -27,6 +26,6 @@ pub record Came (c : PlainCode) (before : Kinds) (s : State) (calls : ℕ) (e : 
   pub last : State
   pub left : ℕ
   pub steps : ℕ
-  pub ends : Ends before (run_code c) s calls end last left steps
+  pub ends : Ends before c s calls end last left steps
   pub is : EndsWith end e given
   pub store : u ≡ last.store

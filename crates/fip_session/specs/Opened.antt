@@ -25,8 +25,8 @@ pub record IsSession (o : Setting) (t : Session) (s : State) : Type 0 where
   pub served : IsServed o t.book.verified.now.code
   pub table : t.book.table.now ≡ o.program.types
   pub entries : AreEntries t.book.verified.now.code.functions.items t.book.entries.numbers
-  pub calls : t.book.calls ≡ o.calls
-  pub frames : t.book.frames ≡ o.frames
+  pub calls : t.book.room.calls ≡ o.calls
+  pub frames : t.book.room.frames ≡ o.frames
   pub opened : IsOpen o.program.types o.words (found_as t.book.held)
       (record { cells = t.store.cells.cells; released = t.store.cells.released }) t.store.left s
 

@@ -6,7 +6,7 @@ ghost use Rattle.cell_code.specs.declared.code.Function.{Function as a_function}
 ghost use Rattle.fip_language.specs.Core.{Name};
 ghost use Rattle.fip_language.specs.Table.{is_scalar};
 ghost use Rattle.fip_language.specs.declared.limits.TheConstants.{MOST_FRAMES, MOST_STORE_WORDS};
-ghost use Rattle.session_correctness.specs.tree_refinement.code_rules.Codes.{plain};
+ghost use Rattle.cell_code.specs.Plain.{plain};
 ghost use Rattle.session_lines.specs.Named.{AreEntries, HasFrames, HasName};
 ghost use Rattle.store_trees.specs.Added.{places_of};
 ghost use Rattle.fip_language.specs.PrintedText.{printed};
@@ -25,6 +25,7 @@ use code_verify::Verified;
 use fip_base::plain::NoMemory;
 use fip_base::table::TypeTable;
 use fip_language::limits::MOST_STORE_WORDS;
+use fip_room::Room;
 use session_lines::{Entries, frames_of};
 use std::alloc::Global;
 use std::collections::BTreeMap;
@@ -38,14 +39,13 @@ pub struct Held {
     pub word: u64,
 }
 
-/// The program of a session, the calls and frames that each run is given, and what each name holds.
+/// The program of a session, the room of each run, and what each name holds.
 #[derive(Drop)]
 pub struct Book<'a> {
     pub alloc: Global,
     pub table: &'a TypeTable,
     pub verified: &'a Verified,
-    pub calls: u64,
-    pub frames: usize,
+    pub room: Room,
     entries: Entries<'a>,
     held: BTreeMap<Vec<u8>, Held>,
 }
@@ -56,13 +56,11 @@ impl<'a> Book<'a> {
         alloc: Global,
         table: &'a TypeTable,
         verified: &'a Verified,
-        calls: u64,
-        frames: usize,
+        room: Room,
     ) -> Result<Book<'a>, NoMemory>
         ensures table { IfOk result (λ b. b.table.now ≡ table.now) }
         ensures verified { IfOk result (λ b. b.verified.now ≡ verified.now) }
-        ensures calls { IfOk result (λ b. b.calls ≡ calls) }
-        ensures frames { IfOk result (λ b. b.frames ≡ frames) }
+        ensures room { IfOk result (λ b. b.room ≡ room) }
         ensures entries { IfOk result (λ b. AreEntries verified.now.code.functions.items b.entries.numbers) }
         ensures empty { IfOk result (λ b. (name : Name) → found b.held name ≡ None) }
     {
@@ -70,8 +68,7 @@ impl<'a> Book<'a> {
             alloc,
             table,
             verified,
-            calls,
-            frames,
+            room,
             entries: Entries::of(alloc, verified)?,
             held: BTreeMap::new(alloc),
         })
@@ -100,9 +97,9 @@ impl<'a> Book<'a> {
     /// The frames that a run of an entry is given.
     pub fn frames_for(&self, entry: usize) -> usize
         ensures few { result ≤ MOST_FRAMES }
-        ensures exact { HasFrames (plain self.now.verified.now.code) entry self.now.frames result }
+        ensures exact { HasFrames (plain self.now.verified.now.code) entry self.now.room.frames result }
     {
-        frames_of(self.verified, entry, self.frames)
+        frames_of(self.verified, entry, self.room.frames)
     }
 
     /// Whether no value of a type has a cell.

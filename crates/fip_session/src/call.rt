@@ -17,8 +17,7 @@ ghost use Rattle.fip_session.specs.Gone.{AreStanding, IsAny, IsLent, all_uses, l
 ghost use Rattle.fip_session.specs.Planned.{Finds, names_used};
 ghost use Rattle.cell_code.specs.declared.code.Function.{Function as a_function};
 ghost use Rattle.fip_machine.specs.machine_cells.Small.{store_of};
-ghost use Rattle.session_correctness.specs.tree_refinement.code_rules.Codes.{plain};
-ghost use Rattle.session_correctness.specs.tree_refinement.machine_semantics.Codes.{plain as run_plain};
+ghost use Rattle.cell_code.specs.Plain.{plain};
 ghost use Rattle.session_correctness.specs.tree_refinement.machine_semantics.Runs.{loaded};
 ghost use Rattle.session_correctness.specs.tree_refinement.machine_semantics.States.{State};
 ghost use Rattle.session_correctness.specs.tree_refinement.machine_semantics.Steps.{Kinds};
@@ -358,13 +357,13 @@ fn run_call(
     ensures came { (before waits : Kinds) (kept : List ℕ) (s : State) →
         IsStart (plain book.now.verified.now.code) before waits entry kept s → (f : a_function) →
         slice_get book.now.verified.now.code.functions.items entry ≡ Some f → length words.items ≤ f.registers →
-        loaded (run_plain book.now.verified.now.code) entry (store_of cells.cells cells.released) words.items frames
-        ≡ Some s → IfOk result (λ r. Came (plain book.now.verified.now.code) before s book.now.calls r.ended
+        loaded (plain book.now.verified.now.code) entry (store_of cells.cells cells.released) words.items frames
+        ≡ Some s → IfOk result (λ r. Came (plain book.now.verified.now.code) before s book.now.room.calls r.ended
         r.results.items (store_of r.cells.cells r.cells.released)) }
 {
     let loader = cells.reopen();
     let mut machine = Machine::start(book.alloc, book.verified, entry, loader, words, frames)?;
-    let ended = machine.run(book.calls, &mut Gauge::new());
+    let ended = machine.run(book.room.calls, &mut Gauge::new());
     let results = Vec::from_slice(book.alloc, machine.results())?;
     Ok(CallRun {
         ended,
@@ -410,7 +409,7 @@ fn run<'l>(
         return Ok((cells, Reply::Done));
     }
     release_all(book, &mut cells, noted, credits.as_slice())?;
-    let calls = book.calls;
+    let calls = book.room.calls;
     Ok((
         cells,
         Reply::NoValue {

@@ -1,6 +1,6 @@
 // Whole inputs: all lines of a session.
 ghost use Rattle.std.specs.Prelude.{◌≡◌, ◌≤◌, length, IfOk};
-ghost use Rattle.fip_language.specs.declared.limits.TheConstants.{MOST_FILE_BYTES, MOST_FRAMES, MOST_STORE_WORDS};
+ghost use Rattle.fip_language.specs.declared.limits.TheConstants.{MOST_FILE_BYTES};
 ghost use Rattle.session_lines.specs.session_semantics.Lines.{lines_of};
 ghost use Rattle.session_lines.specs.session_semantics.Talk.{Setting, Talks, at_first};
 ghost use Rattle.session_code.specs.Served.{IsServed};
@@ -8,18 +8,10 @@ ghost use Rattle.session_code.specs.Served.{IsServed};
 use crate::session::Session;
 use code_verify::Verified;
 use fip_base::plain::NoMemory;
+use fip_room::Room;
 use fip_trees::program::Typed;
 use session_lines::line_at;
 use std::alloc::Global;
-
-/// The room of runs: the words of their store, at most 16,777,216, the calls of each run, and the frames of each run
-/// of a function that isn't fip, at most 1,000,000.
-#[derive(Clone, Copy, PartialEq, Eq)]
-pub struct Room {
-    pub words: usize,
-    pub calls: u64,
-    pub frames: usize,
-}
 
 /// The replies to all lines of an input, each ended by LF. An error where memory runs out.
 pub fn session_reply(
@@ -29,13 +21,11 @@ pub fn session_reply(
     room: Room,
     input: &[u8],
 ) -> Result<Vec<u8>, NoMemory>
-    requires words { room.words ≤ MOST_STORE_WORDS }
-    requires frames { room.frames ≤ MOST_FRAMES }
     ensures talks { (o : Setting) → IsServed o verified.now.code → typed.now.program.types ≡ o.program.types →
         room.words ≡ o.words → room.calls ≡ o.calls → room.frames ≡ o.frames → length input.now ≤ MOST_FILE_BYTES →
         IfOk result (λ out. Talks o at_first (lines_of input.now) out.items) }
 {
-    let mut session = Session::new(alloc, typed, verified, room.words, room.calls, room.frames)?;
+    let mut session = Session::new(alloc, typed, verified, room)?;
     let mut out = Vec::new(alloc);
     let mut at = 0;
     while at < input.len() {

@@ -11,5 +11,5 @@ mod session;
 mod sweep;
 
 pub use book::Held;
-pub use commands::{Room, session_reply};
+pub use commands::session_reply;
 pub use session::Session;

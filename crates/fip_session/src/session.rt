@@ -1,5 +1,5 @@
 // A session: a store whose values have names.
-ghost use Rattle.fip_language.specs.declared.limits.TheConstants.{MOST_FILE_BYTES, MOST_FRAMES, MOST_STORE_WORDS};
+ghost use Rattle.fip_language.specs.declared.limits.TheConstants.{MOST_FILE_BYTES};
 ghost use Rattle.std.specs.Prelude.{◌≡◌, ◌≤◌, ◌++◌, ◌^◌, ℕ, List, codes, length, Some, None, IfOk, IfSome};
 ghost use Rattle.session_lines.specs.Said.{Says};
 ghost use Rattle.session_lines.specs.session_semantics.Lines.{Line as a_line, SpellsLine, GivesUp};
@@ -23,6 +23,7 @@ use crate::reply::{Reply, reply_text};
 use cell_store::{Loader, Sealed, seal};
 use code_verify::Verified;
 use fip_base::plain::NoMemory;
+use fip_room::Room;
 use fip_trees::program::Typed;
 use session_lines::{Line, line_of};
 use std::alloc::Global;
@@ -43,27 +44,24 @@ pub struct Session<'a> {
 }
 
 impl<'a> Session<'a> {
-    /// A session of a program and the code that it was lowered to, in which no name holds a value: over a store of so
-    /// many words, at most 16,777,216, with so many calls for each run, and so many frames, at most 1,000,000, for
-    /// each run of a function that isn't fip. An error where memory runs out.
+    /// A session of a program and the code that it was lowered to, in which no name holds a value: over a store of the
+    /// room's words, with its calls for each run, and its frames for each run of a function that isn't fip. An error
+    /// where memory runs out.
     pub fn new(
         alloc: Global,
         typed: &'a Typed,
         verified: &'a Verified,
-        words: usize,
-        calls: u64,
-        frames: usize,
+        room: Room,
     ) -> Result<Session<'a>, NoMemory>
-        requires words { words ≤ MOST_STORE_WORDS }
-        requires frames { frames ≤ MOST_FRAMES }
         ensures opens { (o : Setting) → IsServed o verified.now.code → typed.now.program.types ≡ o.program.types →
-            words ≡ o.words → calls ≡ o.calls → frames ≡ o.frames → IfOk result (λ t. IsSession o t at_first) }
+            room.words ≡ o.words → room.calls ≡ o.calls → room.frames ≡ o.frames →
+            IfOk result (λ t. IsSession o t at_first) }
     {
         Ok(Session {
-            book: Book::new(alloc, &typed.program.types, verified, calls, frames)?,
+            book: Book::new(alloc, &typed.program.types, verified, room)?,
             store: Store {
-                cells: seal(Loader::new(alloc, words)),
-                left: words,
+                cells: seal(Loader::new(alloc, room.words)),
+                left: room.words,
             },
         })
     }

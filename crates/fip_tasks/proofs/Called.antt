@@ -5,7 +5,7 @@ use Rattle.fip_language.specs.declared.TrapKind.{TrapKind}
 use Rattle.fip_machine.specs.cell_code.declared.code.Instr.{Instr}
 use Rattle.fip_machine.specs.cell_code.declared.code.Instr.TheVariants as I
 use Rattle.fip_machine.specs.cell_code.declared.kind.Kind.{Kind}
-use Rattle.task_semantics.specs.machine_semantics.Codes.{PlainFunction, PlainCode, function_at}
+use Rattle.fip_machine.specs.cell_code.Plain.{PlainFunction, PlainCode, function_at}
 use Rattle.task_semantics.specs.machine_semantics.Cells.{Store, changed_by}
 use Rattle.task_semantics.specs.machine_semantics.States.{Frame, State, Next, Went, Entered, Gave, Trapped, TooDeep, Stuck}
 use Rattle.task_semantics.specs.machine_semantics.Rows.{Done, read_all, write_all, operated, done, trap}

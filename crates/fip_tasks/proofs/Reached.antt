@@ -7,7 +7,7 @@ use Rattle.std.proofs.lemmas.Bool.Decides.{nat_tests}
 use Rattle.cell_store.specs.Cells.{Cells, count_live, size_of}
 use Rattle.fip_language.specs.Gauge.{highest_frames, highest_words}
 use Rattle.task_semantics.specs.machine_semantics.Cells.{Store, held_in, count_held}
-use Rattle.task_semantics.specs.machine_semantics.Codes.{PlainCode}
+use Rattle.code_verify.specs.cell_code.Plain.{PlainCode}
 use Rattle.task_semantics.specs.machine_semantics.Gauges.{seen}
 use Rattle.task_semantics.specs.machine_semantics.Runs.{Run, Going, Over, state_of, comes, later, after}
 use Rattle.task_semantics.specs.machine_semantics.States.{State, Next, Went, Entered, Gave, Trapped, TooDeep, Stuck, frames_held, words_held}

@@ -2,7 +2,7 @@
 use Rattle.std.proofs.Common.{◌≡◌, ◌≢◌, ℕ, zero, suc, ◌≤◌, max, Bool, true, false, List, [], ◌∷◌, refl, sym, ap, subst, ◌∙◌, arith}
 use Rattle.fip_language.specs.Gauge.{highest_frames, highest_words}
 use Rattle.task_semantics.specs.machine_semantics.Cells.{Store}
-use Rattle.task_semantics.specs.machine_semantics.Codes.{PlainCode}
+use Rattle.code_verify.specs.cell_code.Plain.{PlainCode}
 use Rattle.task_semantics.specs.machine_semantics.Gauges.{seen}
 use Rattle.task_semantics.specs.machine_semantics.Runs.{End, Run, Going, Over, state_of, comes, later, after}
 use Rattle.task_semantics.specs.machine_semantics.States.{State, Next, Went, Entered, Gave, Trapped, TooDeep, Stuck, frames_held, words_held}

@@ -5,7 +5,7 @@ use Rattle.std.specs.Prelude.{slice_get, slice_set, option_map}
 use Rattle.cell_store.specs.Cells.{Cells}
 use Rattle.cell_store.specs.Made.{Stored}
 use Rattle.code_verify.specs.Checked.{Checked}
-use Rattle.task_semantics.specs.machine_semantics.Codes.{PlainCode, plain}
+use Rattle.code_verify.specs.cell_code.Plain.{PlainCode, plain}
 use Rattle.task_semantics.specs.machine_semantics.Cells.{Store, count_held}
 use Rattle.task_semantics.specs.machine_semantics.Gauges as G
 use Rattle.task_semantics.specs.machine_semantics.States.{frames_held, words_held}

@@ -7,7 +7,7 @@
 use Rattle.std.specs.Prelude.{◌≡◌, ℕ, ◌+◌, ◌-◌, ◌≤◌, max, nat_eq, if◌then◌else◌, List, [], ◌∷◌, Option, Some, None, slice_get}
 use Rattle.fip_language.specs.declared.limits.TheConstants.{MOST_FIELDS}
 use Rattle.task_semantics.specs.machine_semantics.Cells.{count_held}
-use Rattle.task_semantics.specs.machine_semantics.Codes.{PlainCode, plain}
+use Rattle.code_verify.specs.cell_code.Plain.{PlainCode, plain}
 use Rattle.task_semantics.specs.machine_semantics.Runs.{Run, state_of}
 use Rattle.task_semantics.specs.machine_semantics.States.{frames_held, words_held}
 use Rattle.task_semantics.specs.machine_semantics.Steps.{Kinds}

@@ -2,7 +2,7 @@
 use Rattle.std.specs.Prelude.{◌≡◌, ℕ, ◌≤◌, max, List, [], Option, Some, None}
 use Rattle.cell_store.specs.Made.{Stored}
 use Rattle.fip_language.specs.Gauge.{Seen, highest_frames, highest_words}
-use Rattle.task_semantics.specs.machine_semantics.Codes.{plain}
+use Rattle.code_verify.specs.cell_code.Plain.{plain}
 use Rattle.task_semantics.specs.machine_semantics.Cells.{Store}
 use Rattle.task_semantics.specs.machine_semantics.Gauges.{seen}
 use Rattle.task_semantics.specs.machine_semantics.States.{frames_held, words_held}

@@ -4,7 +4,7 @@
 -- second at its second, as the runs of the two do after this schedule; neither has ended.
 use Rattle.std.specs.Prelude.{◌≡◌, ◌≢◌, ℕ, ◌≤◌, List, [], Option, Some, None, length, replicate, slice_get}
 use Rattle.fip_machine.specs.cell_code.declared.code.Function.{Function}
-use Rattle.task_semantics.specs.machine_semantics.Codes.{plain}
+use Rattle.fip_machine.specs.cell_code.Plain.{plain}
 use Rattle.task_semantics.specs.machine_semantics.Cells.{Store}
 use Rattle.task_semantics.specs.machine_semantics.States.{State, Stuck}
 use Rattle.task_semantics.specs.machine_semantics.Steps.{Kinds, next}

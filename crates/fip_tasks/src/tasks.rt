@@ -1,6 +1,6 @@
 // Tasks in one store.
 ghost use Rattle.std.specs.Prelude.{◌≡◌, ◌≢◌, ℕ, ◌<◌, List, [], ◌∷◌, ◌++◌, length, IfOk, All, Some, slice_get, replicate};
-ghost use Rattle.task_semantics.specs.machine_semantics.Codes.{plain};
+ghost use Rattle.code_verify.specs.cell_code.Plain.{plain};
 ghost use Rattle.task_semantics.specs.machine_semantics.Steps.{Kinds};
 ghost use Rattle.code_verify.specs.Checked.{Checked};
 ghost use Rattle.fip_machine.specs.machine_cells.Small.{store_of};

@@ -17,11 +17,11 @@ use Rattle.session_values.specs.Readable.{IsReadable}
 use Rattle.session_correctness.specs.Beside.{BeginsBeside}
 use Rattle.session_correctness.specs.tree_refinement.Runs.{IsSameEnd}
 use Rattle.session_correctness.specs.tree_refinement.code_rules.Breaks.{IsSound}
-use Rattle.session_correctness.specs.tree_refinement.code_rules.Codes.{PlainCode, plain, plain_function, results}
+use Rattle.session_correctness.specs.tree_refinement.cell_code.Plain.{PlainCode, plain_function, plain, results}
 use Rattle.session_correctness.specs.tree_refinement.machine_semantics.Runs.{End, Ends}
 use Rattle.session_correctness.specs.tree_refinement.machine_semantics.States.{State}
 use Rattle.session_correctness.specs.tree_refinement.machine_semantics.Steps.{Kinds}
-use Rattle.session_correctness.specs.tree_refinement.separation.Codes.{run_code, HasLiterals, AreKinds}
+use Rattle.session_correctness.specs.tree_refinement.separation.Codes.{HasLiterals, AreKinds}
 
 -- The run of function n from this state, with so many calls, is over after enough steps, as this answer says: with words
 -- that stand for its values and with the calls that it leaves, in the same trap, or out of calls or frames.
@@ -30,7 +30,7 @@ pub record ComesTo (c : PlainCode) (before : Kinds) (n : ℕ) (s : State) (calls
   pub last : State
   pub left : ℕ
   pub steps : ℕ
-  pub ends : Ends before (run_code c) s calls end last left steps
+  pub ends : Ends before c s calls end last left steps
   pub same : IsSameEnd c.types (results c n) last left end a
 
 -- Function f, which is number n of the code, runs as instance i means: a session gives it the frames of the instance,

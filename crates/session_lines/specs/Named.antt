@@ -8,7 +8,7 @@ use Rattle.fip_base.specs.declared.plain.Stack.{Stack}
 use Rattle.fip_language.specs.Core.{Name}
 use Rattle.fip_language.specs.declared.limits.TheConstants.{MOST_FRAMES}
 use Rattle.fip_trees.specs.Names.{meaning}
-use Rattle.code_verify.specs.code_rules.Codes.{PlainCode}
+use Rattle.code_verify.specs.cell_code.Plain.{PlainCode}
 use Rattle.code_verify.specs.code_rules.StackNumbers.{HasStack}
 use Rattle.session_semantics.specs.Talk.{frames_of}
 

@@ -3,7 +3,7 @@ ghost use Rattle.std.specs.Prelude.{◌≡◌, ◌<◌, ◌≤◌, ℕ, List, No
 ghost use Rattle.code_verify.specs.cell_code.declared.code.Function.{Function as a_function};
 ghost use Rattle.fip_language.specs.declared.limits.TheConstants.{MOST_FRAMES};
 ghost use Rattle.fip_trees.specs.Names.{with_meaning};
-ghost use Rattle.code_verify.specs.code_rules.Codes.{plain};
+ghost use Rattle.code_verify.specs.cell_code.Plain.{plain};
 ghost use Rattle.session_lines.specs.Named.{HasName, HasFrames, AreEntries};
 
 use code_verify::Verified;

@@ -4,10 +4,11 @@ ghost use Rattle.std.specs.Prelude.{◌≡◌, ◌<◌, length};
 use cell_store::Loader;
 use command_source::{Front, front};
 use fip_base::plain::NoMemory;
+use fip_room::Room;
 use fip_tasks::{Tasks, Turned};
 use std::alloc::Global;
 use std::test::Fail;
-use task_lines::{RunLimits, TaskList};
+use task_lines::TaskList;
 use value_text::print_value;
 
 const PROGRAM: &[u8] = b"data ints { Nil; Cons(int, ints) }
@@ -85,12 +86,13 @@ fn are_apart_anew(alloc: Global, known: &Front, before: usize) -> Result<bool, N
     let Ok(list) = TaskList::of(alloc, verified, CALLS) else {
         return Ok(false);
     };
-    let limits = RunLimits {
+    let room = Room {
         calls: 100,
         frames: 10,
+        words: WORDS,
     };
-    let loader = Loader::new(alloc, WORDS);
-    let (loader, starts) = list.starts(alloc, verified, limits, loader)?;
+    let loader = Loader::new(alloc, room.words);
+    let (loader, starts) = list.starts(alloc, verified, room, loader)?;
     let mut tasks = Tasks::new(alloc, verified, loader, starts.as_slice())?;
     if tasks.len() != 2 {
         return Ok(false);

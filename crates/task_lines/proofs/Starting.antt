@@ -16,7 +16,7 @@ use Rattle.fip_language.specs.Store.{Cell, Placed, PlacedInt, Bare, At, Parts, N
 use Rattle.fip_language.specs.Table.{Table}
 use Rattle.fip_tasks.specs.declared.task.Start.{Start}
 use Rattle.fip_tasks.specs.machine_cells.Small.{store_of}
-use Rattle.code_verify.specs.code_rules.Codes.{plain, plain_function, function_at}
+use Rattle.cell_code.specs.Plain.{plain_function, plain, function_at}
 use Rattle.value_text.specs.Loaded.{live_in, live, types_of, AreZero, cell_words}
 use Rattle.value_text.specs.Standing as V
 use Rattle.fip_tasks.specs.task_semantics.Lying.{Lying, LiesIn, uses_by, uses_by_all, call_words}
@@ -25,7 +25,7 @@ use Rattle.session_values.specs.Made.{AreMade}
 use Rattle.task_lines.specs.Making.{IsStartMade}
 use Rattle.task_lines.specs.Reading.{IsLineOf, AreLinesOf}
 use Rattle.task_lines.specs.Started.{IsStarted, AreStarted, AreReady}
-use Rattle.task_lines.specs.declared.list.RunLimits.{RunLimits}
+use Rattle.fip_room.specs.declared.room.Room.{Room}
 use Rattle.task_lines.specs.declared.task_line.TaskLine.{TaskLine}
 use Rattle.session_values.proofs.CellsKept.{all_on, zero_on, stay, made_none, made_both}
 pub use Rattle.fip_language.proofs.Facts.{drop_end as none_after, left_at}
@@ -59,34 +59,34 @@ uses_push : (ls : List Lying) (l : Lying) (p : ℕ) → uses_by_all (ls ++ l ∷
 uses_push [] l p = omega arith
 uses_push (m ∷ ls) l p = let h = uses_push ls l p in omega (arith, h)
 
-started_push : (code : Code) (limits : RunLimits) (cs : List Called) (ls : List Lying) (bs : List Start) (c : Called) (l : Lying) (b : Start) → AreStarted code limits cs ls bs → IsStarted code limits c l b → AreStarted code limits (cs ++ c ∷ []) (ls ++ l ∷ []) (bs ++ b ∷ [])
-started_push code limits [] [] [] c l b h k = (k, tt)
-started_push code limits [] [] (x ∷ bs) c l b h k = absurd h
-started_push code limits [] (y ∷ ls) bs c l b h k = absurd h
-started_push code limits (z ∷ cs) [] bs c l b h k = absurd h
-started_push code limits (z ∷ cs) (y ∷ ls) [] c l b h k = absurd h
-started_push code limits (z ∷ cs) (y ∷ ls) (x ∷ bs) c l b h k = (h.0, started_push code limits cs ls bs c l b h.1 k)
+started_push : (code : Code) (room : Room) (cs : List Called) (ls : List Lying) (bs : List Start) (c : Called) (l : Lying) (b : Start) → AreStarted code room cs ls bs → IsStarted code room c l b → AreStarted code room (cs ++ c ∷ []) (ls ++ l ∷ []) (bs ++ b ∷ [])
+started_push code room [] [] [] c l b h k = (k, tt)
+started_push code room [] [] (x ∷ bs) c l b h k = absurd h
+started_push code room [] (y ∷ ls) bs c l b h k = absurd h
+started_push code room (z ∷ cs) [] bs c l b h k = absurd h
+started_push code room (z ∷ cs) (y ∷ ls) [] c l b h k = absurd h
+started_push code room (z ∷ cs) (y ∷ ls) (x ∷ bs) c l b h k = (h.0, started_push code room cs ls bs c l b h.1 k)
 
 -- ---- one more
 
-pub record AreStarting (code : Code) (limits : RunLimits) (cs : List Called) (first now : Loading) (left : List TaskLine) (starts : List Start) : Type 0 where
+pub record AreStarting (code : Code) (room : Room) (cs : List Called) (first now : Loading) (left : List TaskLine) (starts : List Start) : Type 0 where
   pub before : List Called
   pub rest : List Called
   pub split : cs ≡ before ++ rest
   pub lines : AreLinesOf code left rest
   pub lying : List Lying
-  pub started : AreStarted code limits before lying starts
+  pub started : AreStarted code room before lying starts
   pub lie : Every (LiesOver code now) lying
   pub made : AreMade first now (uses_by_all lying)
 
-pub starting : (code : Code) (limits : RunLimits) (cs : List Called) (first : Loading) (left : List TaskLine) (starts : List Start) → starts ≡ [] → AreLinesOf code left cs → AreStarting code limits cs first first left starts
-starting code limits cs first left starts none lines = record {
+pub starting : (code : Code) (room : Room) (cs : List Called) (first : Loading) (left : List TaskLine) (starts : List Start) → starts ≡ [] → AreLinesOf code left cs → AreStarting code room cs first first left starts
+starting code room cs first left starts none lines = record {
   before = [];
   rest = cs;
   split = refl;
   lines = lines;
   lying = [];
-  started = subst (AreStarted code limits [] []) (sym none) tt;
+  started = subst (AreStarted code room [] []) (sym none) tt;
   lie = tt;
   made = made_none first (λ p. 0) (λ p. refl);
 }
@@ -95,41 +95,41 @@ names : (ps : List ℕ) → cell_words ps ≡ map (λ p. place_word p) ps
 names [] = refl
 names (p ∷ ps) = ap (λ ws. place_word p ∷ ws) (names ps)
 
-abbrev lying_of : (limits : RunLimits) (c : Called) (trees : Parts) (spares : List ℕ) (b : Start) → Lying
-lying_of limits c trees spares b = record {
-  task = record { function = c.entry; header = plain_function c.function; arguments = c.values; calls = limits.calls; frames = b.frames };
+abbrev lying_of : (room : Room) (c : Called) (trees : Parts) (spares : List ℕ) (b : Start) → Lying
+lying_of room c trees spares b = record {
+  task = record { function = c.entry; header = plain_function c.function; arguments = c.values; calls = room.calls; frames = b.frames };
   trees = trees;
   spares = spares;
 }
 
-module _ (code : Code) (limits : RunLimits) (cs : List Called) (first now next : Loading) (t : TaskLine) (left : List TaskLine) (starts new : List Start) (b : Start) where
+module _ (code : Code) (room : Room) (cs : List Called) (first now next : Loading) (t : TaskLine) (left : List TaskLine) (starts new : List Start) (b : Start) where
   abbrev pub Making : Called → Type 0
-  Making c = (trees : Parts) × (spares : List ℕ) × IsStartMade code limits c now next trees spares b
+  Making c = (trees : Parts) × (spares : List ℕ) × IsStartMade code room c now next trees spares b
 
-  step : (h : AreStarting code limits cs first now (t ∷ left) starts) → ((c : Called) → IsLineOf code t c → Making c) → new ≡ starts ++ b ∷ [] → (rest : List Called) → h.rest ≡ rest → AreLinesOf code (t ∷ left) rest → AreStarting code limits cs first next left new
+  step : (h : AreStarting code room cs first now (t ∷ left) starts) → ((c : Called) → IsLineOf code t c → Making c) → new ≡ starts ++ b ∷ [] → (rest : List Called) → h.rest ≡ rest → AreLinesOf code (t ∷ left) rest → AreStarting code room cs first next left new
   step h make pushed [] e k = absurd k
   step h make pushed (c ∷ rest) e k =
       let m = make c k.0 in
       let s = m.2 in
-      let l : Lying = lying_of limits c m.0 m.1 b in
+      let l : Lying = lying_of room c m.0 m.1 b in
       let more : AreMade now next (uses_by l) = s.cells.made in
       let stays = stay first now next (uses_by_all h.lying) (uses_by l) h.made more in
       let at : function_at (plain code) c.entry ≡ Some (plain_function c.function) = slice_get-map plain_function code.functions.items c.entry ∙ ap (option_map plain_function) k.0.there in
       let lies : LiesOver code next l = record { there = at; values = s.cells.values; stand = s.cells.stand; zero = s.cells.zero } in
       let words : b.words ≡ call_words l = s.cells.named ∙ ap (λ ws. words_of m.0 ++ ws) (names m.1) in
-      let is : IsStarted code limits c l b = record { task = refl; entry = s.entry; words = words; calls = s.calls; frames = s.frames } in
+      let is : IsStarted code room c l b = record { task = refl; entry = s.entry; words = words; calls = s.calls; frames = s.frames } in
       record {
         before = h.before ++ c ∷ [];
         rest = rest;
         split = h.split ∙ ap (λ xs. h.before ++ xs) e ∙ sym (append_assoc h.before (c ∷ []) rest);
         lines = k.1;
         lying = h.lying ++ l ∷ [];
-        started = subst (AreStarted code limits (h.before ++ c ∷ []) (h.lying ++ l ∷ [])) (sym pushed) (started_push code limits h.before h.lying starts c l b h.started is);
+        started = subst (AreStarted code room (h.before ++ c ∷ []) (h.lying ++ l ∷ [])) (sym pushed) (started_push code room h.before h.lying starts c l b h.started is);
         lie = every_push (LiesOver code next) h.lying l (all_lie_on code now next h.lying stays h.lie) lies;
         made = made_both first now next (uses_by_all h.lying) (uses_by l) (uses_by_all (h.lying ++ l ∷ [])) (λ p. uses_push h.lying l p) h.made more;
       }
 
-  pub starting_on : AreStarting code limits cs first now (t ∷ left) starts → ((c : Called) → IsLineOf code t c → Making c) → new ≡ starts ++ b ∷ [] → AreStarting code limits cs first next left new
+  pub starting_on : AreStarting code room cs first now (t ∷ left) starts → ((c : Called) → IsLineOf code t c → Making c) → new ≡ starts ++ b ∷ [] → AreStarting code room cs first next left new
   starting_on h make pushed = step h make pushed h.rest refl h.lines
 
 -- ---- the store of the cells
@@ -204,8 +204,8 @@ all_lie code now [] sized h = tt
 all_lie code now (l ∷ ls) sized h = (lies code now l sized h.0, all_lie code now ls sized h.1)
 
 -- the calls of all lines are ready
-pub ready : (code : Code) (limits : RunLimits) (cs : List Called) (first now : Loading) (left : List TaskLine) (starts : List Start) → first.cells ≡ [] → left ≡ [] → length now.released ≡ length now.cells → ((p : ℕ) (c : Cell) → L.cell_at now.cells p ≡ Some c → (0 < L.size_of c) × (L.size_of c ≤ 16)) → ((p : ℕ) → slice_get now.released p ≡ Some true → L.cell_at now.cells p ≢ None) → AreStarting code limits cs first now left starts → AreReady code limits cs now starts
-ready code limits cs first now left starts empty none flags each cells h =
+pub ready : (code : Code) (room : Room) (cs : List Called) (first now : Loading) (left : List TaskLine) (starts : List Start) → first.cells ≡ [] → left ≡ [] → length now.released ≡ length now.cells → ((p : ℕ) (c : Cell) → L.cell_at now.cells p ≡ Some c → (0 < L.size_of c) × (L.size_of c ≤ 16)) → ((p : ℕ) → slice_get now.released p ≡ Some true → L.cell_at now.cells p ≢ None) → AreStarting code room cs first now left starts → AreReady code room cs now starts
+ready code room cs first now left starts empty none flags each cells h =
     let sized : Every IsSized now.cells = every_sized now.cells each in
     let all : cs ≡ h.before = h.split ∙ ap (λ xs. h.before ++ xs) (nothing h.rest (subst (λ ls. AreLinesOf code ls h.rest) none h.lines)) ∙ append-nil h.before in
     record {
@@ -220,7 +220,7 @@ ready code limits cs first now left starts empty none flags each cells h =
             let e : one_if_some (L.cell_at now.cells p) ≡ one_if_some (cell_in now.cells p) = ap one_if_some (same_cell now.cells p) in
             omega (arith, o, z, x, e);
       };
-      started = subst (λ xs. AreStarted code limits xs h.lying starts) (sym all) h.started;
+      started = subst (λ xs. AreStarted code room xs h.lying starts) (sym all) h.started;
     }
   where
     nothing : (rest : List Called) → AreLinesOf code [] rest → rest ≡ []

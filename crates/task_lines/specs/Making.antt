@@ -8,12 +8,12 @@ use Rattle.cell_store.specs.Cells.{cell_at}
 use Rattle.cell_store.specs.Made.{Loading}
 use Rattle.value_text.specs.Loaded.{live, types_of, AreZero, cell_words}
 use Rattle.value_text.specs.Standing.{StandAll}
-use Rattle.code_verify.specs.code_rules.Codes.{plain}
+use Rattle.cell_code.specs.Plain.{plain}
 use Rattle.fip_tasks.specs.declared.task.Start.{Start}
 use Rattle.session_lines.specs.Named.{HasFrames}
 use Rattle.session_values.specs.Made.{AreMade}
 use Rattle.task_lines.specs.Called.{Called}
-use Rattle.task_lines.specs.declared.list.RunLimits.{RunLimits}
+use Rattle.fip_room.specs.declared.room.Room.{Room}
 
 -- Values with these trees were made, and have these words.
 pub record AreValued (tb : Table) (types : List ℕ) (first now : Loading) (vs : Values) (trees : Parts)
@@ -40,9 +40,9 @@ pub record IsMadeOf (tb : Table) (c : Called) (first now : Loading) (trees : Par
   pub made : AreMade first now (λ p. uses_of_all p trees + count p spares)
 
 -- A call's cells were made, and its task is started so.
-pub record IsStartMade (code : Code) (limits : RunLimits) (c : Called) (first now : Loading) (trees : Parts)
+pub record IsStartMade (code : Code) (room : Room) (c : Called) (first now : Loading) (trees : Parts)
     (spares : List ℕ) (b : Start) : Type 0 where
   pub cells : IsMadeOf code.types c first now trees spares b.words
   pub entry : b.entry ≡ c.entry
-  pub calls : b.calls ≡ limits.calls
-  pub frames : HasFrames (plain code) c.entry limits.frames b.frames
+  pub calls : b.calls ≡ room.calls
+  pub frames : HasFrames (plain code) c.entry room.frames b.frames

@@ -6,4 +6,4 @@ mod list;
 mod making;
 mod task_line;
 
-pub use list::{ListError, RunLimits, TaskList};
+pub use list::{ListError, TaskList};

@@ -20,18 +20,12 @@ use cell_store::Loader;
 use code_verify::Verified;
 use fip_base::plain::NoMemory;
 use fip_language::limits::MOST_FIELDS;
+use fip_room::Room;
 use fip_tasks::Start;
 use session_lines::{Entries, frames_of, line_at};
 use std::alloc::{AllocFailed, Global};
 use thiserror::Error;
 use value_text::Counts;
-
-/// The calls of each run, and the frames of each run of a function that isn't fip.
-#[derive(Clone, Copy, PartialEq, Eq)]
-pub struct RunLimits {
-    pub calls: u64,
-    pub frames: usize,
-}
 
 /// Why an input is no list of tasks.
 #[derive(Clone, Copy, Debug, PartialEq, Eq, Error)]
@@ -111,21 +105,21 @@ fn start_of(
     alloc: Global,
     verified: &Verified,
     line: &TaskLine,
-    limits: RunLimits,
+    room: Room,
     loader: Loader,
 ) -> Result<(Loader, Start), NoMemory>
     requires there { line.now.entry < length verified.now.code.functions.items }
     ensures can { IfOk result (λ r. CanStart verified.now r.1) }
     ensures made { IsReadable verified.now.code → (c : Called) → IsLineOf verified.now.code line.now c →
         IfOk result (λ r. (trees : Parts) × (spares : List ℕ)
-        × IsStartMade verified.now.code limits c loader r.0 trees spares r.1) }
+        × IsStartMade verified.now.code room c loader r.0 trees spares r.1) }
 {
     let (loader, words) = line.make(alloc, verified.code(), loader)?;
     let start = Start {
         entry: line.entry,
         words,
-        frames: frames_of(verified, line.entry, limits.frames),
-        calls: limits.calls,
+        frames: frames_of(verified, line.entry, room.frames),
+        calls: room.calls,
     };
     Ok((loader, start))
 }
@@ -168,7 +162,7 @@ impl<'l> TaskList<'l> {
         &self,
         alloc: Global,
         verified: &Verified,
-        limits: RunLimits,
+        room: Room,
         loader: Loader,
     ) -> Result<(Loader, Vec<Start>), NoMemory>
         requires there { All (λ l. l.entry < length verified.now.code.functions.items) self.now.lines.items }
@@ -176,12 +170,12 @@ impl<'l> TaskList<'l> {
         // The cells of the tasks are apart, and each is started with the words that name its own.
         ensures ready { IsReadable verified.now.code → loader.cells ≡ [] → (cs : List Called) →
             AreLinesOf verified.now.code self.now.lines.items cs → IfOk result (λ r.
-            AreReady verified.now.code limits cs r.0 r.1.items) }
+            AreReady verified.now.code room cs r.0 r.1.items) }
     {
         let mut loader = loader;
         let mut starts = Vec::new(alloc);
         for line in self.lines.as_slice() {
-            let (next, start) = start_of(alloc, verified, line, limits, loader)?;
+            let (next, start) = start_of(alloc, verified, line, room, loader)?;
             loader = next;
             starts.push(start)?;
         }

@@ -1,11 +1,10 @@
 // Sessions of drawn lines.
-ghost use Rattle.std.specs.Prelude.{◌≤◌};
-
 use crate::sessions::cells::count_of_names;
 use crate::sessions::draws::Draws;
 use crate::sessions::lines::{Drawn, drawn_line};
 use command_source::{Front, front};
 use fip_base::plain::NoMemory;
+use fip_room::Room;
 use fip_session::Session;
 use std::alloc::Global;
 use std::process::Abort;
@@ -34,15 +33,6 @@ fbip fun unpack(p: pair): (ints, tree) { match! p { Pair(xs, t) -> (xs, t) } }
 fbip fun len(xs: ints, n: int): int { match! xs { Nil -> n; Cons(_, rest) -> len(rest, n + 1) } }
 fbip fun inc(xs: ints): ints { match! xs { Nil -> Nil; Cons(x, rest) -> Cons(x + 1, inc(rest)) } }
 ";
-
-// The room of a session, and how many of a hundred of its values are long.
-#[derive(Clone, Copy)]
-struct Room {
-    words: usize,
-    calls: u64,
-    frames: usize,
-    long: usize,
-}
 
 // How the replies begin that aren't values.
 const REPLIES: &[&[u8]] = &[
@@ -94,22 +84,20 @@ fn has_names(session: &Session, line: &Drawn, reply: &[u8]) -> bool {
     reply != b"ok".as_slice() || are_held(session, line.results.as_slice(), true)
 }
 
-// A session of drawn lines, after each of which the names and the cells are looked at: how often each reply came.
+// A session of drawn lines, so many of a hundred of whose values are long, after each of which the names and the cells are
+// looked at: how often each reply came.
 fn talk(
     rt: &impl Abort,
     alloc: Global,
     known: &Front,
     room: Room,
+    long: usize,
     seed: u64,
     lines: usize,
-) -> Result<Vec<usize>, NoMemory>
-    requires words { room.words ≤ 16777216 }
-    requires frames { room.frames ≤ 1000000 }
-{
+) -> Result<Vec<usize>, NoMemory> {
     let mut counts = Vec::from_elem(alloc, 0, REPLIES.len())?;
-    let mut draws = Draws::of(seed, room.long);
-    let (words, calls, frames) = (room.words, room.calls, room.frames);
-    let mut session = Session::new(alloc, &known.typed, &known.verified, words, calls, frames)?;
+    let mut draws = Draws::of(seed, long);
+    let mut session = Session::new(alloc, &known.typed, &known.verified, room)?;
     for number in 0..lines {
         let line = drawn_line(alloc, &session, known.verified.code(), &mut draws)?;
         let (after, reply) = session.line(line.text.as_slice())?;
@@ -137,9 +125,8 @@ fn the_cells_are_those_of_the_held_names(rt: HostRuntime) -> Result<(), Fail> {
         words: 60_000,
         calls: 3000,
         frames: 1000,
-        long: 3,
     };
-    let counts = talk(&rt, alloc, &known, room, 1, 400)?;
+    let counts = talk(&rt, alloc, &known, room, 3, 1, 400)?;
     assert!(rt; counts.first().copied().unwrap_or(0) > 100, "too few runs");
     Ok(())
 }
@@ -167,7 +154,12 @@ fn the_cells_of_a_long_run_without_a_value_are_released(rt: HostRuntime) -> Resu
         return Ok(());
     };
     let types = &known.typed.program.types;
-    let session = Session::new(alloc, &known.typed, &known.verified, 60_000, 100, 0)?;
+    let room = Room {
+        words: 60_000,
+        calls: 100,
+        frames: 0,
+    };
+    let session = Session::new(alloc, &known.typed, &known.verified, room)?;
     let (session, reply) = session.line(b"a = push(1, Cons(2, Nil))")?;
     assert_eq!(rt; reply.as_slice(), b"ok".as_slice());
     let line = long_line(alloc, 3000)?;
@@ -188,9 +180,8 @@ fn nothing_stays_where_runs_end_without_a_value(rt: HostRuntime) -> Result<(), F
         words: 120,
         calls: 5,
         frames: 2,
-        long: 0,
     };
-    let counts = talk(&rt, alloc, &known, room, 1, 400)?;
+    let counts = talk(&rt, alloc, &known, room, 0, 1, 400)?;
     for (i, count) in counts.iter().enumerate() {
         assert!(rt; *count > 0, "reply {i}");
     }
@@ -206,7 +197,12 @@ fn a_cell_of_another_name_is_reported(rt: HostRuntime) -> Result<(), Fail> {
         return Ok(());
     };
     let types = &known.typed.program.types;
-    let session = Session::new(alloc, &known.typed, &known.verified, 100, 10, 0)?;
+    let room = Room {
+        words: 100,
+        calls: 10,
+        frames: 0,
+    };
+    let session = Session::new(alloc, &known.typed, &known.verified, room)?;
     let (session, reply) = session.line(b"z = push(1, Cons(2, Nil))")?;
     assert_eq!(rt; reply.as_slice(), b"ok".as_slice());
     assert_eq!(rt; count_of_names(alloc, types, &session)?, None);

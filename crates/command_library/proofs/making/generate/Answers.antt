@@ -2,8 +2,11 @@ use Rattle.std.proofs.Common.{◌∙◌}
 use Rattle.command_library.specs.GenAnswer.{gen_room}
 use Rattle.command_library.specs.MadeTree.{gen_input}
 use Rattle.command_library.proofs.Runs.{left_of, ran_text, kept_text}
-use Rattle.command_library.proofs.Texts.{tree_text_is}
+use Rattle.command_library.proofs.Texts.{tree_text_is, tree_named, no_text}
 use Rattle.command_library.proofs.making.generate.Goals as goal
+
+pub unreachable-requires : goal.unreachable-requires
+unreachable-requires c = no_text c.text.result c.in-None.is (c.text.ensures.named.1 tree_named)
 
 pub returns-in-Ok-clause-generates : goal.returns-in-Ok-clause-generates
 returns-in-Ok-clause-generates c =

@@ -3,10 +3,9 @@ use Rattle.fip_language.specs.declared.limits.TheConstants.{MOST_FILE_BYTES}
 use Rattle.fip_machine.specs.code_verify.Checked.{Checked, HasMachineInts}
 use Rattle.fip_machine.specs.GaugeView.{IsUnseen}
 use Rattle.command_tasks.specs.command_run.machine_correctness.Starts.{IsSoundCode}
-use Rattle.command_tasks.specs.command_run.Rooms.{IsAllowed}
 use Rattle.command_tasks.specs.command_run.Starting.{ReportsEnded}
 use Rattle.command_tasks.specs.command_run.code_rules.Breaks.{IsSound}
-use Rattle.command_tasks.specs.command_run.code_rules.Codes.{plain}
+use Rattle.fip_machine.specs.cell_code.Plain.{plain}
 use Rattle.command_tasks.proofs.command_run.machine_correctness.Literals.{has_literals}
 use Rattle.command_tasks.proofs.command_run.Entry as N
 use Rattle.command_tasks.proofs.command_run.Execs as X
@@ -26,9 +25,8 @@ returns-in-Err-started-clause-makes c = λ source ready is.
     let input = c.as_slice.result.now in
     let text = c.as_slice.ensures.value ∙ c.in-Ok.ensures.text in
     let short : length input ≤ MOST_FILE_BYTES = (let h = c.if-len-gt-MOST_FILE_BYTES.false in let k = c.len.ensures in let e = ap length c.as_slice.ensures.value in omega (arith, h, k, e)) in
-    let allowed : IsAllowed (record { calls = 1000000000; frames = 10000; words = 16777216 }) = record { frames = omega arith; words = omega arith } in
     let literals = has_literals (plain r.checked.code) (subst (λ (v : Checked). HasMachineInts (plain v.code)) c.verified.ensures.same c.code.ensures.literals) in
-    no_tree source c.args.seed c.args.count input text short c.in-Err-started.failure (X.keeps_exec source build input r ready is literals gen_room false c.in-Err-started.failure (c.in-Err-started.ensures.keeps (N.table_sound source build r ready is) allowed short))
+    no_tree source c.args.seed c.args.count input text short c.in-Err-started.failure (X.keeps_exec source build input r ready is literals gen_room false c.in-Err-started.failure (c.in-Err-started.ensures.keeps (N.table_sound source build r ready is) short))
 
 pub returns-in-Some-clause-makes : goal.returns-in-Some-clause-makes
 returns-in-Some-clause-makes c = λ source ready is.
@@ -36,11 +34,10 @@ returns-in-Some-clause-makes c = λ source ready is.
     let input = c.as_slice.result.now in
     let text = c.as_slice.ensures.value ∙ c.in-Ok.ensures.text in
     let short : length input ≤ MOST_FILE_BYTES = (let h = c.if-len-gt-MOST_FILE_BYTES.false in let k = c.len.ensures in let e = ap length c.as_slice.ensures.value in omega (arith, h, k, e)) in
-    let allowed : IsAllowed (record { calls = 1000000000; frames = 10000; words = 16777216 }) = record { frames = omega arith; words = omega arith } in
     let literals = has_literals (plain r.checked.code) (subst (λ (v : Checked). HasMachineInts (plain v.code)) c.verified.ensures.same c.code.ensures.literals) in
     let sound : IsSoundCode r.checked.code = record { sound = subst (λ (v : Checked). IsSound (plain v.code)) c.verified.ensures.same c.code.ensures.sound; literals = literals } in
     let m = c.in-Ok-started.machine in
-    let st = c.in-Ok-started.ensures.begins (N.table_sound source build r ready is) allowed short in
+    let st = c.in-Ok-started.ensures.begins (N.table_sound source build r ready is) short in
     let unseen : IsUnseen c.new-seen.result = record { seen = c.new-seen.ensures.unseen; highest = c.new-seen.ensures.highest; frames = c.new-seen.ensures.frames; words = c.new-seen.ensures.words } in
     let o = c.run-ended.result in
     let new = c.run-ended.new.self in
@@ -56,11 +53,10 @@ returns-in-Some-clause-meant c = λ source ready is.
     let input = c.as_slice.result.now in
     let text = c.as_slice.ensures.value ∙ c.in-Ok.ensures.text in
     let short : length input ≤ MOST_FILE_BYTES = (let h = c.if-len-gt-MOST_FILE_BYTES.false in let k = c.len.ensures in let e = ap length c.as_slice.ensures.value in omega (arith, h, k, e)) in
-    let allowed : IsAllowed (record { calls = 1000000000; frames = 10000; words = 16777216 }) = record { frames = omega arith; words = omega arith } in
     let literals = has_literals (plain r.checked.code) (subst (λ (v : Checked). HasMachineInts (plain v.code)) c.verified.ensures.same c.code.ensures.literals) in
     let sound : IsSoundCode r.checked.code = record { sound = subst (λ (v : Checked). IsSound (plain v.code)) c.verified.ensures.same c.code.ensures.sound; literals = literals } in
     let m = c.in-Ok-started.machine in
-    let st = c.in-Ok-started.ensures.begins (N.table_sound source build r ready is) allowed short in
+    let st = c.in-Ok-started.ensures.begins (N.table_sound source build r ready is) short in
     let unseen : IsUnseen c.new-seen.result = record { seen = c.new-seen.ensures.unseen; highest = c.new-seen.ensures.highest; frames = c.new-seen.ensures.frames; words = c.new-seen.ensures.words } in
     let o = c.run-ended.result in
     let new = c.run-ended.new.self in
@@ -77,11 +73,10 @@ returns-in-Ok-tree_of-clause-makes c = λ source ready is.
     let input = c.as_slice.result.now in
     let text = c.as_slice.ensures.value ∙ c.in-Ok.ensures.text in
     let short : length input ≤ MOST_FILE_BYTES = (let h = c.if-len-gt-MOST_FILE_BYTES.false in let k = c.len.ensures in let e = ap length c.as_slice.ensures.value in omega (arith, h, k, e)) in
-    let allowed : IsAllowed (record { calls = 1000000000; frames = 10000; words = 16777216 }) = record { frames = omega arith; words = omega arith } in
     let literals = has_literals (plain r.checked.code) (subst (λ (v : Checked). HasMachineInts (plain v.code)) c.verified.ensures.same c.code.ensures.literals) in
     let sound : IsSoundCode r.checked.code = record { sound = subst (λ (v : Checked). IsSound (plain v.code)) c.verified.ensures.same c.code.ensures.sound; literals = literals } in
     let m = c.in-Ok-started.machine in
-    let st = c.in-Ok-started.ensures.begins (N.table_sound source build r ready is) allowed short in
+    let st = c.in-Ok-started.ensures.begins (N.table_sound source build r ready is) short in
     let unseen : IsUnseen c.new-seen.result = record { seen = c.new-seen.ensures.unseen; highest = c.new-seen.ensures.highest; frames = c.new-seen.ensures.frames; words = c.new-seen.ensures.words } in
     let o = c.run-ended.result in
     let new = c.run-ended.new.self in
@@ -96,11 +91,10 @@ returns-in-Ok-tree_of-clause-meant c = λ source ready is.
     let input = c.as_slice.result.now in
     let text = c.as_slice.ensures.value ∙ c.in-Ok.ensures.text in
     let short : length input ≤ MOST_FILE_BYTES = (let h = c.if-len-gt-MOST_FILE_BYTES.false in let k = c.len.ensures in let e = ap length c.as_slice.ensures.value in omega (arith, h, k, e)) in
-    let allowed : IsAllowed (record { calls = 1000000000; frames = 10000; words = 16777216 }) = record { frames = omega arith; words = omega arith } in
     let literals = has_literals (plain r.checked.code) (subst (λ (v : Checked). HasMachineInts (plain v.code)) c.verified.ensures.same c.code.ensures.literals) in
     let sound : IsSoundCode r.checked.code = record { sound = subst (λ (v : Checked). IsSound (plain v.code)) c.verified.ensures.same c.code.ensures.sound; literals = literals } in
     let m = c.in-Ok-started.machine in
-    let st = c.in-Ok-started.ensures.begins (N.table_sound source build r ready is) allowed short in
+    let st = c.in-Ok-started.ensures.begins (N.table_sound source build r ready is) short in
     let unseen : IsUnseen c.new-seen.result = record { seen = c.new-seen.ensures.unseen; highest = c.new-seen.ensures.highest; frames = c.new-seen.ensures.frames; words = c.new-seen.ensures.words } in
     let o = c.run-ended.result in
     let new = c.run-ended.new.self in

@@ -1,5 +1,5 @@
 use Rattle.std.proofs.Common.{◌≡◌, drop, map}
-use Rattle.code_verify.specs.code_rules.Codes.{plain_function}
+use Rattle.cell_code.specs.Plain.{plain_function}
 use Rattle.command_source.specs.Codes.{has_named}
 use Rattle.command_source.proofs.entry.first_named.Given as goal
 

@@ -1,5 +1,5 @@
 use Rattle.std.proofs.Common.{◌∙◌, ◌++◌, ℕ, suc, List, map, drop, sym, ap, subst, add-one}
-use Rattle.code_verify.specs.code_rules.Codes.{plain, plain_function}
+use Rattle.cell_code.specs.Plain.{plain_function, plain}
 use Rattle.command_source.specs.Codes.{AreLines}
 use Rattle.command_source.proofs.CodeFiles.{more_lines, all_lines, drop_at, drop_end}
 use Rattle.command_source.proofs.listing.functions_text.Goals as goal

@@ -1,5 +1,5 @@
 use Rattle.std.proofs.Common.{◌++◌, ℕ, List, drop, map}
-use Rattle.code_verify.specs.code_rules.Codes.{plain, plain_function}
+use Rattle.cell_code.specs.Plain.{plain_function, plain}
 use Rattle.command_source.specs.Codes.{AreLines}
 use Rattle.command_source.proofs.listing.functions_text.Given as goal
 

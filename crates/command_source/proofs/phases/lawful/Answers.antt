@@ -1,7 +1,7 @@
 use Rattle.std.proofs.Common.{subst}
 use Rattle.fip_trees.specs.TreeView.{program}
 use Rattle.program_front.specs.cell_lower.LaidProgram.{IsAsked, IsLaidOut}
-use Rattle.code_verify.specs.code_rules.Codes.{plain}
+use Rattle.cell_code.specs.Plain.{plain}
 use Rattle.machine_correctness.proofs.compiler_correctness.SoundnessFunctions.{headed_in_memory}
 use Rattle.machine_correctness.proofs.compiler_correctness.SoundnessWhole.{laid_out_is_sound}
 use Rattle.machine_correctness.proofs.compiler_correctness.StackNumbers.{laid_out_has_stacks}

@@ -9,7 +9,7 @@ use Rattle.fip_machine.specs.Traces.{HasTrace}
 use Rattle.command_run.specs.machine_correctness.Starts.{IsSoundCode}
 use Rattle.command_run.specs.Starting.{ReportsEnded}
 use Rattle.command_run.specs.code_rules.Breaks.{IsSound}
-use Rattle.command_run.specs.code_rules.Codes.{plain}
+use Rattle.code_verify.specs.cell_code.Plain.{plain}
 use Rattle.command_run.proofs.machine_correctness.Literals.{has_literals}
 use Rattle.command_run.proofs.Entry as N
 use Rattle.command_run.proofs.Execs as X
@@ -21,25 +21,25 @@ use Rattle.command_trace.proofs.Kept.{Says, kept_own, kept_trace, long, long_tra
 use Rattle.command_trace.proofs.tracing.trace_leaving.Goals as goal
 
 pub returns-in-Err-clause-traces : goal.returns-in-Err-clause-traces
-returns-in-Err-clause-traces c = λ source name ready is allowed le.
+returns-in-Err-clause-traces c = λ source name ready is le.
     let room = room_of c.args.room in
     let r = c.args.ready.now in
     let input = c.args.input.now in
     let literals = has_literals (plain r.checked.code) (subst (λ (v : Checked). HasMachineInts (plain v.code)) c.verified.ensures.same c.code.ensures.literals) in
-    failed source name input room c.in-Err.failure (X.keeps_exec source name input r ready is literals room false c.in-Err.failure (c.in-Err.ensures.keeps (N.table_sound source name r ready is) allowed le))
+    failed source name input room c.in-Err.failure (X.keeps_exec source name input r ready is literals room false c.in-Err.failure (c.in-Err.ensures.keeps (N.table_sound source name r ready is) le))
 
 pub returns-in-Err-clause-own : goal.returns-in-Err-clause-own
-returns-in-Err-clause-own c = λ source name ready is allowed le. kept_own (plain c.args.ready.now.checked.code) c.args.ready.now.entry c.args.input.now (room_of c.args.room) c.in-Err.failure c.in-Err.ensures.stage
+returns-in-Err-clause-own c = λ source name ready is le. kept_own (plain c.args.ready.now.checked.code) c.args.ready.now.entry c.args.input.now (room_of c.args.room) c.in-Err.failure c.in-Err.ensures.stage
 
 pub returns-in-Ok-traced_text-clause-traces : goal.returns-in-Ok-traced_text-clause-traces
-returns-in-Ok-traced_text-clause-traces c = λ source name ready is allowed le.
+returns-in-Ok-traced_text-clause-traces c = λ source name ready is le.
     let room = room_of c.args.room in
     let r = c.args.ready.now in
     let input = c.args.input.now in
     let literals = has_literals (plain r.checked.code) (subst (λ (v : Checked). HasMachineInts (plain v.code)) c.verified.ensures.same c.code.ensures.literals) in
     let sound : IsSoundCode r.checked.code = record { sound = subst (λ (v : Checked). IsSound (plain v.code)) c.verified.ensures.same c.code.ensures.sound; literals = literals } in
     let m = c.in-Ok.machine in
-    let st = c.in-Ok.ensures.begins (N.table_sound source name r ready is) allowed le in
+    let st = c.in-Ok.ensures.begins (N.table_sound source name r ready is) le in
     let unseen : IsUnseen c.new-seen.result = record { seen = c.new-seen.ensures.unseen; highest = c.new-seen.ensures.highest; frames = c.new-seen.ensures.frames; words = c.new-seen.ensures.words } in
     let o = c.in-Ok-run_traced.ended in
     let new = c.in-Ok-run_traced.machine in
@@ -55,14 +55,14 @@ returns-in-Ok-traced_text-clause-traces c = λ source name ready is allowed le.
     stored source name input r ready is room m st sound kept.file.items kept.text.items own execs
 
 pub returns-in-Ok-traced_text-clause-own : goal.returns-in-Ok-traced_text-clause-own
-returns-in-Ok-traced_text-clause-own c = λ source name ready is allowed le.
+returns-in-Ok-traced_text-clause-own c = λ source name ready is le.
     let room = room_of c.args.room in
     let r = c.args.ready.now in
     let input = c.args.input.now in
     let literals = has_literals (plain r.checked.code) (subst (λ (v : Checked). HasMachineInts (plain v.code)) c.verified.ensures.same c.code.ensures.literals) in
     let sound : IsSoundCode r.checked.code = record { sound = subst (λ (v : Checked). IsSound (plain v.code)) c.verified.ensures.same c.code.ensures.sound; literals = literals } in
     let m = c.in-Ok.machine in
-    let st = c.in-Ok.ensures.begins (N.table_sound source name r ready is) allowed le in
+    let st = c.in-Ok.ensures.begins (N.table_sound source name r ready is) le in
     let unseen : IsUnseen c.new-seen.result = record { seen = c.new-seen.ensures.unseen; highest = c.new-seen.ensures.highest; frames = c.new-seen.ensures.frames; words = c.new-seen.ensures.words } in
     let o = c.in-Ok-run_traced.ended in
     let new = c.in-Ok-run_traced.machine in
@@ -75,14 +75,14 @@ returns-in-Ok-traced_text-clause-own c = λ source name ready is allowed le.
     own
 
 pub returns-in-Ok-traced_text-clause-meant : goal.returns-in-Ok-traced_text-clause-meant
-returns-in-Ok-traced_text-clause-meant c = λ source name ready is allowed le.
+returns-in-Ok-traced_text-clause-meant c = λ source name ready is le.
     let room = room_of c.args.room in
     let r = c.args.ready.now in
     let input = c.args.input.now in
     let literals = has_literals (plain r.checked.code) (subst (λ (v : Checked). HasMachineInts (plain v.code)) c.verified.ensures.same c.code.ensures.literals) in
     let sound : IsSoundCode r.checked.code = record { sound = subst (λ (v : Checked). IsSound (plain v.code)) c.verified.ensures.same c.code.ensures.sound; literals = literals } in
     let m = c.in-Ok.machine in
-    let st = c.in-Ok.ensures.begins (N.table_sound source name r ready is) allowed le in
+    let st = c.in-Ok.ensures.begins (N.table_sound source name r ready is) le in
     let unseen : IsUnseen c.new-seen.result = record { seen = c.new-seen.ensures.unseen; highest = c.new-seen.ensures.highest; frames = c.new-seen.ensures.frames; words = c.new-seen.ensures.words } in
     let o = c.in-Ok-run_traced.ended in
     let new = c.in-Ok-run_traced.machine in
@@ -90,15 +90,18 @@ returns-in-Ok-traced_text-clause-meant c = λ source name ready is allowed le.
     let q = ran r input room m st o new g sound c.in-Ok-run_traced.ensures.run (c.in-Ok-run_traced.ensures.gauge unseen) in
     last_store r input room m st o new g c.into_sealed.result q c.into_sealed.ensures.cells
 
+pub untraced-requires : goal.untraced-requires
+untraced-requires c = without_trace c.in-Ok-run_traced.ended c.in-Ok-run_traced.trace c.in-Ok-run_traced.ensures.trace c.in-None.is
+
 pub returns-in-None-clause-traces : goal.returns-in-None-clause-traces
-returns-in-None-clause-traces c = λ source name ready is allowed le.
+returns-in-None-clause-traces c = λ source name ready is le.
     let room = room_of c.args.room in
     let r = c.args.ready.now in
     let input = c.args.input.now in
     let literals = has_literals (plain r.checked.code) (subst (λ (v : Checked). HasMachineInts (plain v.code)) c.verified.ensures.same c.code.ensures.literals) in
     let sound : IsSoundCode r.checked.code = record { sound = subst (λ (v : Checked). IsSound (plain v.code)) c.verified.ensures.same c.code.ensures.sound; literals = literals } in
     let m = c.in-Ok.machine in
-    let st = c.in-Ok.ensures.begins (N.table_sound source name r ready is) allowed le in
+    let st = c.in-Ok.ensures.begins (N.table_sound source name r ready is) le in
     let unseen : IsUnseen c.new-seen.result = record { seen = c.new-seen.ensures.unseen; highest = c.new-seen.ensures.highest; frames = c.new-seen.ensures.frames; words = c.new-seen.ensures.words } in
     let o = c.in-Ok-run_traced.ended in
     let new = c.in-Ok-run_traced.machine in
@@ -110,17 +113,17 @@ returns-in-None-clause-traces c = λ source name ready is allowed le.
     failed source name input room failure (X.finished source name input r ready is literals room false m st o new g q (Err failure) (or_memory (ReportsEnded r.checked.code.types is.named.function.results room _ new.store new.stack.given o) failure reported))
 
 pub returns-in-None-clause-own : goal.returns-in-None-clause-own
-returns-in-None-clause-own c = λ source name ready is allowed le. kept_own (plain c.args.ready.now.checked.code) c.args.ready.now.entry c.args.input.now (room_of c.args.room) c.untraced.result c.untraced.ensures.stage
+returns-in-None-clause-own c = λ source name ready is le. kept_own (plain c.args.ready.now.checked.code) c.args.ready.now.entry c.args.input.now (room_of c.args.room) c.untraced.result c.untraced.ensures.stage
 
 pub returns-in-None-clause-meant : goal.returns-in-None-clause-meant
-returns-in-None-clause-meant c = λ source name ready is allowed le.
+returns-in-None-clause-meant c = λ source name ready is le.
     let room = room_of c.args.room in
     let r = c.args.ready.now in
     let input = c.args.input.now in
     let literals = has_literals (plain r.checked.code) (subst (λ (v : Checked). HasMachineInts (plain v.code)) c.verified.ensures.same c.code.ensures.literals) in
     let sound : IsSoundCode r.checked.code = record { sound = subst (λ (v : Checked). IsSound (plain v.code)) c.verified.ensures.same c.code.ensures.sound; literals = literals } in
     let m = c.in-Ok.machine in
-    let st = c.in-Ok.ensures.begins (N.table_sound source name r ready is) allowed le in
+    let st = c.in-Ok.ensures.begins (N.table_sound source name r ready is) le in
     let unseen : IsUnseen c.new-seen.result = record { seen = c.new-seen.ensures.unseen; highest = c.new-seen.ensures.highest; frames = c.new-seen.ensures.frames; words = c.new-seen.ensures.words } in
     let o = c.in-Ok-run_traced.ended in
     let new = c.in-Ok-run_traced.machine in
@@ -134,26 +137,26 @@ returns-in-None-clause-some c =
     sym (run_failed c.in-Ok-run_traced.ended c.args.room.calls c.args.room.frames c.untraced.result (c.untraced.ensures.exact other))
 
 pub returns-in-Err-TooLong-clause-traces : goal.returns-in-Err-TooLong-clause-traces
-returns-in-Err-TooLong-clause-traces c = λ source name ready is allowed le.
+returns-in-Err-TooLong-clause-traces c = λ source name ready is le.
     let room = room_of c.args.room in
     let r = c.args.ready.now in
     let input = c.args.input.now in
     let literals = has_literals (plain r.checked.code) (subst (λ (v : Checked). HasMachineInts (plain v.code)) c.verified.ensures.same c.code.ensures.literals) in
     let sound : IsSoundCode r.checked.code = record { sound = subst (λ (v : Checked). IsSound (plain v.code)) c.verified.ensures.same c.code.ensures.sound; literals = literals } in
     let m = c.in-Ok.machine in
-    let st = c.in-Ok.ensures.begins (N.table_sound source name r ready is) allowed le in
+    let st = c.in-Ok.ensures.begins (N.table_sound source name r ready is) le in
     let own = long_trace source name input r ready is room m st sound (c.run_traced.ensures.long (c.in-Err-TooLong.is ∙ ap Err c.in-Err-TooLong.field-0-is)) in
     subst (λ (f : Failure). KeptOrNoMemory (Traces source name input room) (Err f)) (sym c.too_long.ensures.names) (long source name input r ready is room m st sound own)
 
 pub returns-in-Err-TooLong-clause-own : goal.returns-in-Err-TooLong-clause-own
-returns-in-Err-TooLong-clause-own c = λ source name ready is allowed le.
+returns-in-Err-TooLong-clause-own c = λ source name ready is le.
     let room = room_of c.args.room in
     let r = c.args.ready.now in
     let input = c.args.input.now in
     let literals = has_literals (plain r.checked.code) (subst (λ (v : Checked). HasMachineInts (plain v.code)) c.verified.ensures.same c.code.ensures.literals) in
     let sound : IsSoundCode r.checked.code = record { sound = subst (λ (v : Checked). IsSound (plain v.code)) c.verified.ensures.same c.code.ensures.sound; literals = literals } in
     let m = c.in-Ok.machine in
-    let st = c.in-Ok.ensures.begins (N.table_sound source name r ready is) allowed le in
+    let st = c.in-Ok.ensures.begins (N.table_sound source name r ready is) le in
     let own = long_trace source name input r ready is room m st sound (c.run_traced.ensures.long (c.in-Err-TooLong.is ∙ ap Err c.in-Err-TooLong.field-0-is)) in
     subst (λ (f : Failure). TracesRun (plain r.checked.code) r.entry input room (Err f)) (sym c.too_long.ensures.names) own
 

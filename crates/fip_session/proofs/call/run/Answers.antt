@@ -84,4 +84,4 @@ returns-clause-answers c = λ o s ls i d gs vs first can.
     let gone : ℕ → ℕ = λ q. all_uses trees q + named_uses ls (names_used p.arguments.given.items) q in
     let release = R.can_release o s b p ls names i d gs vs first new r can cells0 same0 released0 frames exact e given cells1 runs not b1 c.in_ok-noted.noted (ap (λ (x : Book). x.table.now) c.forget_used.ensures.others) c.forget_used.ensures.forgets are in
     let up = c.in_ok-release_all.ensures.gone small store following gone can.begun.ready.spares (subst (λ ws. CanRelease b1 following u c.in_ok-noted.noted gone ws can.begun.ready.spares) (sym c.as_slice-2.ensures.value) release) in
-    R.end_answered o s b p ls names i d gs vs first new r can cells0 same0 released0 frames exact e given cells1 runs not b1.held c.release_all.new.cells b1.calls (ap (λ (x : Book). x.calls) c.forget_used.ensures.others) c.forget_used.ensures.forgets up
+    R.end_answered o s b p ls names i d gs vs first new r can cells0 same0 released0 frames exact e given cells1 runs not b1.held c.release_all.new.cells b1.room.calls (ap (λ (x : Book). x.room.calls) c.forget_used.ensures.others) c.forget_used.ensures.forgets up

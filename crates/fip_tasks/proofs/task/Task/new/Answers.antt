@@ -1,7 +1,7 @@
 -- The frames are loaded, and the entry takes a call.
 use Rattle.std.proofs.Common.{◌≡◌, ◌≤◌, ◌∙◌, ℕ, suc, length, List, Some, None, sym, ap, subst, arith}
 use Rattle.fip_machine.specs.declared.machine.Ended.TheVariants as M
-use Rattle.task_semantics.specs.machine_semantics.Codes.{plain}
+use Rattle.code_verify.specs.cell_code.Plain.{plain}
 use Rattle.task_semantics.specs.machine_semantics.Runs.{loaded}
 use Rattle.fip_tasks.specs.Turns.{Standing}
 use Rattle.fip_tasks.proofs.Landings.{IsLoaded, is_new, has_begun}

@@ -10,5 +10,5 @@ use Rattle.task_lines.proofs.list.TaskList.starts.Given as goal
 abbrev pub invariant-loop-line : goal.invariant-loop-line
 invariant-loop-line l = record {
   can : All (CanStart l.verified) l.starts.items;
-  starting : IsReadable l.verified.code → (cs : List Called) → AreLinesOf l.verified.code l.self.lines.items cs → AreStarting l.verified.code l.limits cs l.initial.loader l.loader (drop l.line-index l.self.lines.items) l.starts.items;
+  starting : IsReadable l.verified.code → (cs : List Called) → AreLinesOf l.verified.code l.self.lines.items cs → AreStarting l.verified.code l.room cs l.initial.loader l.loader (drop l.line-index l.self.lines.items) l.starts.items;
 }

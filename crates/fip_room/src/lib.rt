@@ -1,0 +1,6 @@
+// The room of a run: how much it may take.
+#![tactic(auto)]
+
+mod room;
+
+pub use room::Room;

@@ -3,10 +3,9 @@ use Rattle.std.proofs.Common.{◌≡◌, ℕ, List, sym, subst, arith}
 use Rattle.fip_language.specs.Prefix.{IsPlace}
 use Rattle.code_file.specs.CodeText.{IsFileOf}
 use Rattle.fip_host.specs.declared.answer.FipVerdict.{FipVerdict}
-use Rattle.code_file.specs.Plain.{plain_code}
+use Rattle.cell_code.specs.Plain.{plain}
 use Rattle.code_verify.specs.cell_code.declared.code.Code.{Code}
 use Rattle.code_verify.specs.code_rules.Breaks.{IsLeast}
-use Rattle.code_verify.specs.code_rules.Codes.{plain}
 use Rattle.code_verify.specs.code_rules.declared.rule.SoundRule.{SoundRule}
 use Rattle.fip_host.specs.Verdicts.{IsVerdict, SpellsSound, rule_number}
 
@@ -25,7 +24,7 @@ verdict_bad bytes v e place = record {
 }
 
 pub verdict_unsound : (bytes : List ℕ) (v : FipVerdict) (code : Code) (n i : ℕ) (rule : SoundRule) → v.status ≡ 11 → v.function ≡ n → v.at ≡ i →
-    v.rule ≡ rule_number rule → IsFileOf bytes (plain_code code) → IsLeast (plain code) n i rule → IsVerdict bytes v
+    v.rule ≡ rule_number rule → IsFileOf bytes (plain code) → IsLeast (plain code) n i rule → IsVerdict bytes v
 verdict_unsound bytes v code n i rule e at_n at_i number spelled least = record {
   sound = λ h. absurd (omega (arith, e, h));
   bad = λ h. absurd (omega (arith, e, h));

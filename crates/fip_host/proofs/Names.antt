@@ -7,9 +7,8 @@ use Rattle.fip_language.specs.SoundTable.{AreTypes, IsSoundTable}
 use Rattle.fip_language.specs.Table.{Shape, Table, shapes}
 use Rattle.code_verify.specs.cell_code.declared.code.Code.{Code}
 use Rattle.code_file.specs.CodeText.{IsFileOf, code_text, functions_text, table_text, type_text, shape_text, types_text, version_number}
-use Rattle.code_file.specs.Plain.{PlainCode, plain_code}
+use Rattle.cell_code.specs.Plain.{PlainCode, plain}
 use Rattle.code_file.specs.Spelling.{◌+++◌, each, four, two, name_text, upper_name_text}
-use Rattle.code_verify.specs.code_rules.Codes.{plain}
 use Rattle.code_verify.specs.code_rules.Tables.{AreSoundTables, IsSoundType}
 
 -- ---- pieces of a text
@@ -79,12 +78,12 @@ types_there : (tb : Table) (ts : List ℕ) → ((i t : ℕ) → slice_get ts i �
 types_there tb [] h = tt
 types_there tb (t ∷ ts) h = (h 0 t refl, types_there tb ts (λ i u e. h (suc i) u e))
 
-pub file_table : (bytes : List ℕ) (code : Code) → IsFileOf bytes (plain_code code) → AreSoundTables (plain code) → IsSoundTable code.types
+pub file_table : (bytes : List ℕ) (code : Code) → IsFileOf bytes (plain code) → AreSoundTables (plain code) → IsSoundTable code.types
 file_table bytes code file tables =
     let sound : (t : ℕ) → t < length code.types → IsSoundType code.types (suc t) = λ t less. tables.types (suc t) (omega arith) (omega (arith, less)) in
     let of_row : (t c : ℕ) (x : Shape) → slice_get (shapes code.types t) c ≡ Some x → IsSoundType code.types (suc t) = λ t c x at. sound t (get_within code.types t (shapes code.types t) (row_there code.types t c x at)) in
     record {
-      names = λ t c x at. file_spelt bytes (plain_code code) t c x file at;
+      names = λ t c x at. file_spelt bytes (plain code) t c x file at;
       unlike = λ t c d x y a b same. (of_row t c x a).apart c d x y a b same;
       known = λ t c x at. types_there code.types x.fields ((of_row t c x at).shapes c x at).typed;
       narrow = λ t c x at. ((of_row t c x at).shapes c x at).few;

@@ -7,7 +7,7 @@
 use Rattle.std.specs.Prelude.{◌≡◌, ◌≤◌, ℕ, Bool, true, false, List, [], ◌++◌, Option, Some, None, length, slice_get}
 use Rattle.std.specs.Prelude.{IfSome}
 use Rattle.fip_language.specs.SoundTable.{IsSoundTable}
-use Rattle.fip_machine.specs.machine_cells.machine_semantics.Codes.{plain}
+use Rattle.cell_code.specs.Plain.{plain}
 use Rattle.fip_machine.specs.machine_cells.machine_semantics.Cells.{Store}
 use Rattle.fip_machine.specs.machine_cells.machine_semantics.States.{Typed, State}
 use Rattle.fip_machine.specs.machine_cells.machine_semantics.Steps.{Kinds, next}

@@ -8,7 +8,7 @@ use Rattle.fip_base.specs.declared.plain.Stack.{Stack}
 use Rattle.fip_language.specs.declared.limits.TheConstants.{MOST_FRAMES}
 use Rattle.fip_machine.specs.cell_code.declared.code.Function.{Function}
 use Rattle.fip_machine.specs.code_verify.Checked.{Checked}
-use Rattle.code_verify.specs.code_rules.Codes.{plain}
+use Rattle.cell_code.specs.Plain.{plain}
 use Rattle.code_verify.specs.code_rules.StackNumbers.{HasStack}
 use Rattle.fip_host.specs.declared.answer.FipNeed.{FipNeed}
 

@@ -4,7 +4,8 @@ use Rattle.std.specs.Prelude.{length, take, drop, slice_get, slice_set, slice_in
 use Rattle.fip_base.specs.declared.plain.Stack.{Stack}
 use Rattle.fip_machine.specs.cell_code.declared.code.Function.{Function}
 use Rattle.fip_machine.specs.code_verify.Checked.{Checked}
-use Rattle.fip_machine.specs.code_verify.code_rules.Codes.{is_fip, plain}
+use Rattle.cell_code.specs.Plain.{plain}
+use Rattle.fip_machine.specs.code_verify.code_rules.Codes.{is_fip}
 use Rattle.fip_machine.specs.code_verify.code_rules.StackNumbers.{HasStack}
 use Rattle.fip_machine.specs.fip_language.Store.{Cell}
 use Rattle.fip_machine.specs.fip_language.Table.{Shape}

@@ -3,11 +3,10 @@
 use Rattle.std.specs.Prelude.{◌≡◌, ℕ, List}
 use Rattle.fip_language.specs.Prefix.{IsPlace}
 use Rattle.code_file.specs.CodeText.{IsFileOf}
-use Rattle.code_file.specs.Plain.{plain_code}
+use Rattle.cell_code.specs.Plain.{plain}
 use Rattle.code_verify.specs.Checked.{Checked}
 use Rattle.code_verify.specs.cell_code.declared.code.Code.{Code}
 use Rattle.code_verify.specs.code_rules.Breaks.{IsLeast, IsSound}
-use Rattle.code_verify.specs.code_rules.Codes.{plain}
 use Rattle.code_verify.specs.code_rules.declared.rule.SoundRule.{SoundRule}
 use Rattle.code_verify.specs.code_rules.declared.rule.SoundRule.TheVariants as R
 use Rattle.fip_host.specs.declared.answer.FipVerdict.{FipVerdict}
@@ -26,19 +25,19 @@ rule_number R.S9 = 9
 
 -- The bytes spell this code, and it is sound.
 pub record IsCodeOf (bytes : List ℕ) (v : Checked) : Type 0 where
-  pub spelled : IsFileOf bytes (plain_code v.code)
+  pub spelled : IsFileOf bytes (plain v.code)
   pub sound : IsSound (plain v.code)
 
 -- The bytes spell a sound code.
 pub record SpellsSound (bytes : List ℕ) : Type 0 where
   pub code : Code
-  pub spelled : IsFileOf bytes (plain_code code)
+  pub spelled : IsFileOf bytes (plain code)
   pub sound : IsSound (plain code)
 
 -- The bytes spell a code whose least violation is this one.
 pub record SpellsUnsound (bytes : List ℕ) (function at rule : ℕ) : Type 0 where
   pub code : Code
-  pub spelled : IsFileOf bytes (plain_code code)
+  pub spelled : IsFileOf bytes (plain code)
   pub broken : SoundRule
   pub number : rule ≡ rule_number broken
   pub least : IsLeast (plain code) function at broken

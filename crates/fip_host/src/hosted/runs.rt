@@ -8,7 +8,7 @@ ghost use Rattle.fip_machine.specs.Tasks.{ended_by, state_with, IsFresh};
 ghost use Rattle.fip_machine.specs.Ending.{KnowsRun, RunsTo};
 ghost use Rattle.fip_machine.specs.GaugeView.{IsUnseen, ReportsRun};
 ghost use Rattle.fip_machine.specs.machine_cells.Small.{IsSmall};
-ghost use Rattle.fip_machine.specs.machine_cells.machine_semantics.Codes.{plain};
+ghost use Rattle.cell_code.specs.Plain.{plain};
 ghost use Rattle.fip_machine.specs.machine_cells.machine_semantics.States.{Typed};
 ghost use Rattle.fip_machine.specs.machine_cells.machine_semantics.Steps.{Kinds};
 ghost use Rattle.fip_host.specs.Hosting.{StepsTo, RunsOn, IsAtStart, IsStarted, IsIdle, end_now, results_of};

@@ -1,9 +1,8 @@
 use Rattle.std.proofs.Common.{◌≡◌, ◌∙◌, sym, subst}
 use Rattle.code_file.specs.CodeText.{IsFileOf}
-use Rattle.code_file.specs.Plain.{plain_code}
+use Rattle.cell_code.specs.Plain.{plain}
 use Rattle.code_verify.specs.cell_code.declared.code.Code.{Code}
 use Rattle.code_verify.specs.code_rules.Breaks.{IsLeast}
-use Rattle.code_verify.specs.code_rules.Codes.{plain}
 use Rattle.fip_host.specs.Verdicts.{IsVerdict}
 use Rattle.fip_host.proofs.Judging.{verdict_unsound}
 use Rattle.fip_host.proofs.Names.{file_table}
@@ -20,4 +19,4 @@ returns-in-Err-Unsound-clause-verdict c v e =
 pub returns-in-Ok-verify-clause-table : goal.returns-in-Ok-verify-clause-table
 returns-in-Ok-verify-clause-table c =
     let v = c.in-Ok-verify.verified in
-    file_table c.args.bytes.now v.code (subst (λ (d : Code). IsFileOf c.args.bytes.now (plain_code d)) (sym c.in-Ok-verify.ensures.same) c.in-Ok.ensures.text) c.code-code.ensures.tables
+    file_table c.args.bytes.now v.code (subst (λ (d : Code). IsFileOf c.args.bytes.now (plain d)) (sym c.in-Ok-verify.ensures.same) c.in-Ok.ensures.text) c.code-code.ensures.tables

@@ -1,7 +1,7 @@
 use Rattle.std.proofs.Common.{◌≡◌, ◌∙◌, ℕ, ◌+◌, ◌*◌, ap, subst}
 use Rattle.cell_code.specs.declared.code.Code.{Code}
 use Rattle.code_verify.specs.Checked.{Checked}
-use Rattle.code_verify.specs.code_rules.Codes.{plain}
+use Rattle.cell_code.specs.Plain.{plain}
 use Rattle.code_verify.specs.code_rules.StackNumbers.{HasStack}
 use Rattle.fip_host.specs.Hosting.{Seen}
 use Rattle.fip_host.specs.Needing.{capped, largest_frame, words_held}

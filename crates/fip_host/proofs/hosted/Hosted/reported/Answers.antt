@@ -1,6 +1,6 @@
 use Rattle.std.proofs.Common.{ap, subst, length}
 use Rattle.code_verify.specs.Checked.{Checked}
-use Rattle.code_verify.specs.code_rules.Codes.{plain}
+use Rattle.cell_code.specs.Plain.{plain}
 use Rattle.code_verify.specs.code_rules.StackNumbers.{HasStack}
 use Rattle.fip_host.specs.Hosting.{Seen}
 use Rattle.fip_host.proofs.hosted.Hosted.reported.Goals as goal

@@ -14,7 +14,7 @@ use Rattle.command_answers.specs.command_library.command_outcome.declared.failur
 use Rattle.worked_examples.specs.code_file.CodeText.{CodeText, code_text, table_text, type_text, shape_text, types_text, functions_text}
 use Rattle.worked_examples.specs.code_file.Spelling.{◌+++◌, each, one, two, four, upper_name_text, name_text}
 use Rattle.worked_examples.specs.code_file.declared.tags.Version.TheVariants.{Second}
-use Rattle.command_answers.specs.command_library.command_source.Codes.{sound_view, names_one, IsSoundFile, IsCodeListing, IsUpgraded}
+use Rattle.command_answers.specs.command_library.command_source.Codes.{names_one, IsSoundFile, IsCodeListing, IsUpgraded}
 use Rattle.command_answers.specs.command_library.command_source.Roots.{IsListing}
 use Rattle.command_answers.specs.command_library.command_source.Wanted.{Lawful, Root, Compiled, IsReady, Refuses, of_entry}
 use Rattle.command_answers.specs.command_library.session_semantics.Lines.{lines_of, Symbol, Line, Calls, Shows, GivesUp, SpellsLine}
@@ -67,7 +67,7 @@ types_sound zero h k = absurd (omega (arith, h))
 types_sound (suc zero) h k = bool_sound
 types_sound (suc (suc t)) h k = absurd (omega (arith, k))
 
-tables_sound : AreSoundTables (sound_view empty_code)
+tables_sound : AreSoundTables empty_code
 tables_sound = record {
   few_types = omega arith;
   few_functions = omega arith;
@@ -76,7 +76,7 @@ tables_sound = record {
   names = λ m n f g h k l e. absurd (none-some f h);
 }
 
-pub code_sound : IsSound (sound_view empty_code)
+pub code_sound : IsSound empty_code
 code_sound n i rule (inl (h, a, b, d)) = h tables_sound
 code_sound n i rule (inr (h, (f, there, breaks))) = none-some f there
 
@@ -110,7 +110,7 @@ code_listing = record { code = empty_code; file = file_sound; lines = refl }
 pub upgraded : IsUpgraded empty_file empty_file
 upgraded = record { code = empty_code; of' = file_sound; spelt = file_spelt; short = omega arith }
 
-pub names_none : (entry : List ℕ) → names_one entry (sound_view empty_code).functions ≡ false
+pub names_none : (entry : List ℕ) → names_one entry empty_code.functions ≡ false
 names_none [] = refl
 names_none (b ∷ bs) = refl
 

@@ -9,17 +9,16 @@ use Rattle.command_answers.specs.command_library.fip_language.declared.rule.Rule
 use Rattle.command_answers.specs.command_library.fip_base.declared.refusal.Refusal.{Refusal}
 use Rattle.worked_examples.specs.fip_trees.Tree.{Instance, Program}
 use Rattle.worked_examples.specs.cell_lower.Shape.{Header, header_of, headers}
-use Rattle.worked_examples.specs.code_file.Plain as F
+use Rattle.worked_examples.specs.cell_code.Plain.{PlainFunction, PlainCode, function_at}
 use Rattle.worked_examples.specs.code_file.declared.tags.Version.TheVariants.{Second}
 use Rattle.worked_examples.specs.source_report.Report.{IsAccepted}
 use Rattle.command_answers.proofs.command_tasks.source_report.Once.{accepted_not, accepted_once}
 use Rattle.command_answers.specs.command_library.command_words.Words.{Request, Exec, Run}
 use Rattle.command_answers.specs.command_library.command_outcome.declared.failure.Failure.TheVariants as O
-use Rattle.command_answers.specs.command_library.code_rules.Codes.{PlainFunction, function_at}
 use Rattle.command_answers.proofs.command_library.command_run.machine_correctness.Entries.{plain_header, IsNamed, named}
 use Rattle.command_answers.proofs.command_library.command_run.compiler_correctness.Headers.{typed_named}
 use Rattle.command_answers.proofs.command_library.command_run.compiler_correctness.SoundTypes.{typed_sound}
-use Rattle.command_answers.specs.command_library.command_source.Codes.{sound_view, IsSoundFile, HasFunction, IsUpgraded, names_one}
+use Rattle.command_answers.specs.command_library.command_source.Codes.{IsSoundFile, HasFunction, IsUpgraded, names_one}
 use Rattle.command_answers.specs.command_library.command_source.Roots.{root_named}
 use Rattle.command_answers.specs.command_library.command_source.Wanted.{Compiled, IsCompiled, IsReady, MissesCode, Refuses, of_entry}
 use Rattle.command_answers.proofs.command_library.command_eval.Meant.{typed_of}
@@ -31,7 +30,6 @@ use Rattle.compile_correctness.proofs.Alike.{ran_function, none_or_one}
 use Rattle.compile_correctness.proofs.Files.{code_same, refused_not_sound}
 use Rattle.compile_correctness.proofs.Rooted.{ruled_at, root_found, names_there, names_found, function_with, among_at}
 use Rattle.compile_correctness.proofs.Upgraded.{upgraded_once}
-use Rattle.compile_correctness.proofs.Views.{headers_view}
 use Rattle.command_answers.specs.Answer.{OnFound, ComesTo}
 use Rattle.command_answers.specs.CodeOf.{IsSourceCode, IsSourceFile}
 use Rattle.command_answers.specs.Ends as A
@@ -42,28 +40,28 @@ use Rattle.answer_correctness.proofs.MeantRuns.{runs_as_its_source}
 
 -- ---- the functions of a code of a source
 
-module _ (source name : List ℕ) (code : F.PlainCode) (of' : IsSourceCode source code) where
+module _ (source name : List ℕ) (code : PlainCode) (of' : IsSourceCode source code) where
   abbrev p : Program
   p = of'.program
 
-  pub headed : map plain_header (sound_view code).functions ≡ headers of'.is.members p.instances
-  headed = headers_view code.functions ∙ of'.is.functions
+  pub headed : map plain_header code.functions ≡ headers of'.is.members p.instances
+  headed = of'.is.functions
 
   -- a root that isn't plain has a function of its name
-  root_has_function : (d : Instance) → root_named name p.instances ≡ Some d → (d.kind ≡ Fun → ⊥) → names_one name (sound_view code).functions ≡ true
+  root_has_function : (d : Instance) → root_named name p.instances ≡ Some d → (d.kind ≡ Fun → ⊥) → names_one name code.functions ≡ true
   root_has_function d e ruled =
       let r = root_at name p.instances d e in
       let x = header_at of'.is.members 0 p.instances r.place d r.there ruled in
-      let y = function_with (sound_view code).functions x.0 (header_of x.1 d) (ap (λ hs. slice_get hs x.0) headed ∙ x.2) in
+      let y = function_with code.functions x.0 (header_of x.1 d) (ap (λ hs. slice_get hs x.0) headed ∙ x.2) in
       let called : (y.0).name ≡ name = ap (λ (q : Header). q.name) y.2 ∙ (ap (λ b. if b then d.name else []) r.root ∙ r.named) in
       let some = (typed_named source p (typed_of source p of'.accepted) d (among_at p.instances r.place d r.there)).0.1 in
       let none : name ≡ [] → ⊥ = λ z. let zero_long : length d.name ≡ 0 = ap length (r.named ∙ z) in absurd (omega (arith, some, zero_long)) in
-      names_there name (sound_view code).functions x.0 y.0 none y.1 called
+      names_there name code.functions x.0 y.0 none y.1 called
 
   -- a function of the name is that of a root that isn't plain
-  module _ (n : ℕ) (f : PlainFunction) (there : function_at (sound_view code) n ≡ Some f) (called : f.name ≡ name) (some : name ≡ [] → ⊥) where
-    own : IsNamed p (sound_view code) n f
-    own = named p of'.is.members (sound_view code) n f of'.is.types headed there (subst (λ x. 0 < length x) (sym called) (long name some))
+  module _ (n : ℕ) (f : PlainFunction) (there : function_at code n ≡ Some f) (called : f.name ≡ name) (some : name ≡ [] → ⊥) where
+    own : IsNamed p code n f
+    own = named p of'.is.members code n f of'.is.types headed there (subst (λ x. 0 < length x) (sym called) (long name some))
 
     instance_same : (d : Instance) → IsRootAt name p.instances d → own.instance ≡ d
     instance_same d r =
@@ -89,7 +87,7 @@ module _ (source file name : List ℕ) (h : IsSourceFile source file) where
       let same = accepted_once source ready.program (h.of').program ready.accepted (h.of').accepted in
       (h.code, file_sound source file h, by (root_named name (h.of').program.instances) refl (subst (λ (q : Program). IsCompiled (root_named name q.instances)) same ready.has))
     where
-      by : (o : Option Instance) → root_named name (h.of').program.instances ≡ o → IsCompiled o → names_one name (sound_view h.code).functions ≡ true
+      by : (o : Option Instance) → root_named name (h.of').program.instances ≡ o → IsCompiled o → names_one name h.code.functions ≡ true
       by None e k = absurd k
       by (Some d) e k = root_has_function source name h.code h.of' d e k
 
@@ -97,7 +95,7 @@ module _ (source file name : List ℕ) (h : IsSourceFile source file) where
   entry_missing : (q : Program) (r : Refusal) → IsAccepted source q → MissesCode (root_named name q.instances) name r → HasFunction file name → ⊥
   entry_missing q r accepted misses (code, sound, one) =
       let here : code ≡ h.code = code_same file code h.code sound (file_sound source file h) in
-      let x = names_found name (sound_view h.code).functions (subst (λ c. names_one name (sound_view c).functions ≡ true) here one) in
+      let x = names_found name h.code.functions (subst (λ c. names_one name c.functions ≡ true) here one) in
       let same = accepted_once source q (h.of').program accepted (h.of').accepted in
       not_missed source name h.code h.of' (x.0).number (x.0).function (x.0).there (x.0).called x.1 r (subst (λ (z : Program). MissesCode (root_named name z.instances) name r) same misses)
 

@@ -6,6 +6,7 @@ mod Joined
 mod LongCodes
 mod MeantRuns
 mod OneAnswer
+mod PlainSource
 mod Refused
 mod Shown
 mod SomeAnswer
@@ -15,6 +16,7 @@ mod SomeSource
 mod SomeTalk
 mod SomeTurns
 mod SomeVerdict
+mod EachCommand
 mod TracedRuns
 mod WholeExample
 mod WholeAnswers

@@ -3,7 +3,7 @@ use Rattle.std.proofs.Common.{◌<◌, ◌≤◌, ℕ, List, length, subst, arit
 use Rattle.command_answers.specs.command_library.fip_language.declared.limits.TheConstants.{MOST_FILE_BYTES}
 use Rattle.worked_examples.specs.fip_trees.Tree.{Program}
 use Rattle.worked_examples.specs.code_file.CodeText.{CodeText}
-use Rattle.worked_examples.specs.code_file.Plain.{PlainCode}
+use Rattle.worked_examples.specs.cell_code.Plain.{PlainCode}
 use Rattle.worked_examples.specs.code_file.declared.tags.Version.TheVariants.{Second}
 use Rattle.worked_examples.specs.source_report.Report.{IsAccepted}
 use Rattle.command_answers.proofs.command_tasks.source_report.Once.{accepted_once}

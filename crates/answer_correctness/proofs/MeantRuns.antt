@@ -3,7 +3,7 @@
 -- The idea: `run` reports one thing, wherever the cells of the arguments lie; so the run may be that from the state in which
 -- they are loaded, which ends as the program means, with its peak; and its cells are counted by trees, as of every sound
 -- code.
-use Rattle.std.proofs.Common.{◌≡◌, ◌∙◌, ◌<◌, ◌≤◌, ◌+◌, ℕ, Bool, true, List, [], ◌∷◌, ◌++◌, length, map, Some, slice_get, refl, sym, ap, subst, arith}
+use Rattle.std.proofs.Common.{◌≡◌, ◌∙◌, ◌<◌, ◌≤◌, ◌+◌, ℕ, Bool, true, List, [], ◌++◌, length, Some, slice_get, refl, sym, ap, subst, arith}
 use Rattle.std.specs.Prelude.{Ok, Err}
 use Rattle.std.proofs.lemmas.Option.{same_Some}
 use Rattle.command_answers.specs.command_library.fip_language.Character.{characters}
@@ -19,7 +19,7 @@ use Rattle.command_answers.specs.command_library.fip_base.declared.plain.Stack.{
 use Rattle.worked_examples.specs.fip_trees.Tree.{Instance, Program}
 use Rattle.worked_examples.specs.instance_semantics.Meaning.{flat_meaning}
 use Rattle.worked_examples.specs.cell_lower.Shape.{Header, header_of}
-use Rattle.worked_examples.specs.code_file.Plain as F
+use Rattle.worked_examples.specs.cell_code.Plain.{PlainFunction, PlainCode, results_of, results}
 use Rattle.worked_examples.specs.lowering_relation.LoweredBodies.{function_of}
 use Rattle.worked_examples.specs.lowering_simulation.CellEnds.{EndsAs}
 use Rattle.worked_examples.specs.source_report.Report.{IsAccepted}
@@ -33,8 +33,7 @@ use Rattle.command_answers.specs.command_library.machine_semantics.Runs as C
 use Rattle.command_answers.specs.command_library.machine_semantics.Runs.{End, begun, loaded}
 use Rattle.command_answers.specs.command_library.machine_semantics.States.{State}
 use Rattle.command_answers.specs.command_library.machine_semantics.Steps.{Kinds}
-use Rattle.command_answers.specs.command_library.code_rules.Codes.{PlainCode, PlainFunction, results, results_of}
-use Rattle.command_answers.specs.command_library.separation.Codes.{run_code, HasLiterals}
+use Rattle.command_answers.specs.command_library.separation.Codes.{HasLiterals}
 use Rattle.command_answers.specs.command_library.separation.Starts.{IsStart}
 use Rattle.command_answers.proofs.command_library.separation.KindsFound.{kinds_found}
 use Rattle.command_answers.proofs.command_library.separation.Loading.{loaded_is}
@@ -49,8 +48,7 @@ use Rattle.command_answers.proofs.command_library.command_run.machine_correctnes
 use Rattle.command_answers.proofs.command_library.command_run.machine_correctness.tree_refinement.Overs.{seen_at_end}
 use Rattle.command_answers.proofs.command_library.command_run.machine_correctness.specialisation_correctness.Meant.{root_meant}
 use Rattle.command_answers.proofs.command_library.command_run.machine_correctness.compiler_correctness.SoundTypes.{typed_sound}
-use Rattle.command_answers.specs.command_library.command_source.Codes.{sound_function, sound_view, IsSoundFile}
-use Rattle.command_answers.specs.command_library.command_source.ProgramCode as P
+use Rattle.command_answers.specs.command_library.command_source.Codes.{IsSoundFile}
 use Rattle.command_answers.specs.command_library.command_eval.EvalAnswer.{Entry}
 use Rattle.command_answers.proofs.command_library.command_eval.Meant.{typed_of}
 use Rattle.command_answers.specs.command_library.command_run.CodeRun as D
@@ -68,10 +66,6 @@ use Rattle.command_answers.proofs.TreesOnce.{trees_once}
 use Rattle.command_answers.specs.CodeOf.{IsCodeOf, IsLoaded}
 use Rattle.command_answers.proofs.CodeOf.{some_calls}
 use Rattle.command_answers.proofs.FileTexts.{literals}
-
-headers_view : (fs : List F.PlainFunction) → map plain_header (map sound_function fs) ≡ map P.plain_header fs
-headers_view [] = refl
-headers_view (f ∷ fs) = ap (λ hs. P.plain_header f ∷ hs) (headers_view fs)
 
 -- an end, reported by the code and by trees
 reported_both : (r : Running) (vs : Values) (calls frames : ℕ) (gauge : Bool) (peak : Peak) (following : List ℕ) (last : State) (left : ℕ) (end : End) (a : Answer) → ((us : Values) (k : ℕ) (ws : List ℕ) → a ≡ Gives us k → end ≡ C.Value ws → AreWordsOf r.types last.store (r.instance).results ws us → following ≡ if_asked gauge (gauge_by_trees r vs us peak)) → IsSameEnd r.types (r.instance).results last left end a → (e : Reported) × ReportsCode r.types (r.instance).results calls frames following last end e × ReportsRun r vs calls frames gauge peak a e
@@ -104,7 +98,7 @@ reported_both r vs calls frames gauge peak following last left C.Unsound Stuck s
 
 module _ (source name bytes : List ℕ) (y : Entry source name) (x : Chosen bytes name) (h : IsCodeOf y.program x.code) where
   abbrev c : PlainCode
-  c = sound_view x.code
+  c = x.code
 
   abbrev p : Program
   p = y.program
@@ -114,7 +108,7 @@ module _ (source name bytes : List ℕ) (y : Entry source name) (x : Chosen byte
 
   -- the function is that of the entry's root
   xn : IsNamed p c x.number x.function
-  xn = named p h.members c x.number x.function h.types (headers_view (x.code).functions ∙ h.functions) x.there (subst (λ n. 0 < length n) (sym x.named) (long name x.some))
+  xn = named p h.members c x.number x.function h.types h.functions x.there (subst (λ n. 0 < length n) (sym x.named) (long name x.some))
 
   root : IsRootAt name p.instances d
   root = root_at name p.instances d y.named
@@ -185,7 +179,7 @@ module _ (source name bytes : List ℕ) (y : Entry source name) (x : Chosen byte
       there = root.there;
       is = number root.place root.there;
       typed = spells_same (λ tb ks. HaveTypes tb ks vs) typed;
-      begins = subst (λ ks. loaded (run_code c) n (first_store vs ks) (first_words vs ks) frames ≡ Some first) credits_same (is_loaded c n x.function vs frames x.there).1;
+      begins = subst (λ ks. loaded c n (first_store vs ks) (first_words vs ks) frames ≡ Some first) credits_same (is_loaded c n x.function vs frames x.there).1;
     }
 
     abbrev meant : Run
@@ -219,12 +213,12 @@ module _ (source name bytes : List ℕ) (y : Entry source name) (x : Chosen byte
 
     measured : (us : Values) (ws : List ℕ) → ends.end ≡ C.Value ws → AreWordsOf c.types (ends.last).store (results c n) ws us → IsMeasured vs us d.params d.credits meant.peak (all_seen run)
     measured us ws is are =
-        let words : C.Ends before (run_code c) first room.calls (C.Value ws) ends.last ends.left ends.steps = subst (λ e. C.Ends before (run_code c) first room.calls e ends.last ends.left ends.steps) is ends.ends in
+        let words : C.Ends before c first room.calls (C.Value ws) ends.last ends.left ends.steps = subst (λ e. C.Ends before c first room.calls e ends.last ends.left ends.steps) is ends.ends in
         let enough = words.enough in
-        let at_end = seen_at_end before (run_code c) first room.calls (C.Value ws) ends.last ends.left ends.steps words in
-        let own = seen_at_end before (run_code c) first room.calls ends.end ends.last ends.left ends.steps ends.ends in
+        let at_end = seen_at_end before c first room.calls (C.Value ws) ends.last ends.left ends.steps words in
+        let own = seen_at_end before c first room.calls ends.end ends.last ends.left ends.steps ends.ends in
         let all = sym at_end ∙ own in
-        let stack = h.peaks before (kinds_found c).1 (kinds_found c).2 root.place n vs room.calls frames first l (some_calls before (run_code c) first room.calls ws ends.last ends.left ends.steps words) (C.Value ws) ends.last ends.left ends.steps words in
+        let stack = h.peaks before (kinds_found c).1 (kinds_found c).2 root.place n vs room.calls frames first l (some_calls before c first room.calls ws ends.last ends.left ends.steps words) (C.Value ws) ends.last ends.left ends.steps words in
         subst (λ ss. IsMeasured vs us d.params d.credits meant.peak ss) all
         (record {
           lowest = λ size one. lowest_by_trees c before (kinds_found c).1 n first vs us room.calls size ws ends.last ends.left ends.steps starts.0 starts.1 one words are
@@ -271,7 +265,7 @@ entry_in source name input room gauge d (X.Misspelt y at place) = y
 entry_in source name input room gauge d (X.Small y vs spelt less) = y
 entry_in source name input room gauge d (X.Ran s vs e spelt fits reported) = s.entry
 
-module _ (source name bytes input : List ℕ) (room : Room) (gauge : Bool) (y : Entry source name) (code : F.PlainCode) (h : IsCodeOf y.program code) (file : IsSoundFile bytes code) where
+module _ (source name bytes input : List ℕ) (room : Room) (gauge : Bool) (y : Entry source name) (code : PlainCode) (h : IsCodeOf y.program code) (file : IsSoundFile bytes code) where
   code_in : (z : Chosen bytes name) → IsCodeOf y.program z.code
   code_in z = subst (IsCodeOf y.program) (code_same bytes code z.code file.spelt (z.file).spelt) h
 
@@ -288,7 +282,7 @@ module _ (source name bytes input : List ℕ) (room : Room) (gauge : Bool) (y : 
       let b = ran source name bytes y z (code_in z) input room gauge vs spelt fits in
       trees_once source name input room gauge d b.0 k b.2 ∙ code_run_once bytes name input room gauge b.0 e b.1 (D.Ran z vs r e spelt fits reported)
 
-pub runs_as_its_source : (source bytes name input : List ℕ) (room : Room) (gauge : Bool) (p : Program) (code : F.PlainCode) (d e : Reported) → IsAccepted source p → IsCodeOf p code → IsSoundFile bytes code → Execs source name input room gauge d → RunsCode bytes name input room gauge e → d ≡ e
+pub runs_as_its_source : (source bytes name input : List ℕ) (room : Room) (gauge : Bool) (p : Program) (code : PlainCode) (d e : Reported) → IsAccepted source p → IsCodeOf p code → IsSoundFile bytes code → Execs source name input room gauge d → RunsCode bytes name input room gauge e → d ≡ e
 runs_as_its_source source bytes name input room gauge p code d e accepted h file k r =
     let y = entry_in source name input room gauge d k in
     reported_once source name bytes input room gauge y code (subst (λ (q : Program). IsCodeOf q code) (accepted_once source p y.program accepted y.accepted) h) file d e k r

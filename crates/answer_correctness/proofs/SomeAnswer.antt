@@ -12,15 +12,15 @@ use Rattle.command_answers.specs.command_library.command_outcome.declared.failur
 use Rattle.command_answers.specs.command_library.command_outcome.declared.failure.Failure.TheVariants as F
 use Rattle.command_answers.specs.command_library.command_outcome.declared.failure.Object.TheVariants as O
 use Rattle.worked_examples.specs.code_file.CodeText.{IsFileOf, code_text}
-use Rattle.worked_examples.specs.code_file.Plain.{PlainCode}
+use Rattle.worked_examples.specs.cell_code.CodeKinds.{fun_kind}
+use Rattle.worked_examples.specs.cell_code.Plain.{PlainFunction, PlainCode}
 use Rattle.worked_examples.specs.code_file.Reading.{Answer, Got, Stop, read_all, code_reader}
 use Rattle.worked_examples.specs.code_file.declared.tags.Version.{Version}
 use Rattle.worked_examples.proofs.code_file.Whole.{read_text, read_place}
 use Rattle.command_answers.specs.command_library.code_rules.Breaks.{IsSound, Breaks, IsLeast, IsBefore, digit}
-use Rattle.command_answers.specs.command_library.code_rules.Codes as S
 use Rattle.command_answers.specs.command_library.code_rules.declared.rule.SoundRule.{SoundRule}
 use Rattle.worked_examples.proofs.separation_bounds.Solving.{least_one}
-use Rattle.command_answers.specs.command_library.command_source.Codes.{sound_view, IsSoundFile, RefusesCode, LongFile, BadFile, UnsoundFile, names_one, IsLine, AreLines, IsCodeListing}
+use Rattle.command_answers.specs.command_library.command_source.Codes.{IsSoundFile, RefusesCode, LongFile, BadFile, UnsoundFile, names_one, IsLine, AreLines, IsCodeListing}
 use Rattle.command_answers.specs.command_library.command_source.Wanted.{of_entry}
 use Rattle.answer_correctness.proofs.SomeRun.{some_run}
 use Rattle.command_answers.specs.command_library.command_outcome.Successes.{function_text}
@@ -49,7 +49,7 @@ before n i m j r s a b c = elim (le_or_less m n) as (λ v. IsBefore n i r m j s)
       ]
 ]
 
-least_violation : (c : S.PlainCode) (n i : ℕ) (r : SoundRule) → Breaks c n i r → ((m j : ℕ) (s : SoundRule) → IsLeast c m j s → ⊥) → ⊥
+least_violation : (c : PlainCode) (n i : ℕ) (r : SoundRule) → Breaks c n i r → ((m j : ℕ) (s : SoundRule) → IsLeast c m j s → ⊥) → ⊥
 least_violation c n i r h none =
     least_one (λ m. (j : ℕ) × (s : SoundRule) × Breaks c m j s) n (i, r, h) (λ a.
     least_one (λ j. (s : SoundRule) × Breaks c a.0 j s) a.1.has.0 (a.1.has.1, a.1.has.2) (λ b.
@@ -73,7 +73,7 @@ file_read bytes short refused sound = by (read_all code_reader bytes) refl
     by : (x : Answer (Version × PlainCode)) → read_all code_reader bytes ≡ x → ⊥
     by (Got y rest) e =
         let spelt : IsFileOf bytes y.1 = (y.0, read_text bytes rest y e) in
-        let right : IsSound (sound_view y.1) = λ n i r h. least_violation (sound_view y.1) n i r h (λ m j s least. refused (F.Unsound m j s) (UnsoundFile y.1 m j s short spelt least)) in
+        let right : IsSound y.1 = λ n i r h. least_violation y.1 n i r h (λ m j s least. refused (F.Unsound m j s) (UnsoundFile y.1 m j s short spelt least)) in
         sound y.1 (record { short = short; spelt = spelt; sound = right })
     by (Stop left) e = refused (F.BadCode (length bytes - left)) (BadFile (length bytes - left) short (read_place bytes left e))
 
@@ -86,9 +86,9 @@ refused_or_sound bytes refused sound = elim (le_or_less (length bytes) MOST_FILE
 -- ---- some answer
 
 some_of_code : (bytes input : List ℕ) (r : Request) → ((e : End) → OnCode bytes input (Run r) e → ⊥) → ⊥
-some_of_code bytes input r none = refused_or_sound bytes (λ f h. none (Err f) (CodeRefused f h)) (λ code file. by code file (names_one r.entry (sound_view code).functions) refl)
+some_of_code bytes input r none = refused_or_sound bytes (λ f h. none (Err f) (CodeRefused f h)) (λ code file. by code file (names_one r.entry code.functions) refl)
   where
-    by : (code : PlainCode) → IsSoundFile bytes code → (b : Bool) → names_one r.entry (sound_view code).functions ≡ b → ⊥
+    by : (code : PlainCode) → IsSoundFile bytes code → (b : Bool) → names_one r.entry code.functions ≡ b → ⊥
     by code file false e = none (Err (F.Refused (of_entry E70 r.entry))) (CodeSound (Err (F.Refused (of_entry E70 r.entry))) (NoFunction code file e))
     by code file true e = elim (le_or_less (length input) MOST_FILE_BYTES) as (λ v. ⊥) [
       | inl short ↦ some_run bytes r.entry input r.room r.gauge (code, file, e) (λ o h. none o (CodeSound o (Runs o short h)))
@@ -104,17 +104,17 @@ some_answer files input r = by (file_of r.file files)
 
 -- ---- the lines of a code
 
-some_line : (c : S.PlainCode) (n : ℕ) (f : S.PlainFunction) (name : List ℕ) → IsSound c → ((line : List ℕ) → IsLine c n f name line → ⊥) → ⊥
+some_line : (c : PlainCode) (n : ℕ) (f : PlainFunction) (name : List ℕ) → IsSound c → ((line : List ℕ) → IsLine c n f name line → ⊥) → ⊥
 some_line c n f [] sound none = none [] refl
-some_line c n f (b ∷ name) sound none = has_stack c n sound (λ held stack. none (function_text (b ∷ name) f.kind f.credits held) (held, stack, refl))
+some_line c n f (b ∷ name) sound none = has_stack c n sound (λ held stack. none (function_text (b ∷ name) (fun_kind f.kind) f.credits held) (held, stack, refl))
 
-some_lines : (c : S.PlainCode) (n : ℕ) (fs : List S.PlainFunction) → IsSound c → ((text : List ℕ) → AreLines c n fs text → ⊥) → ⊥
+some_lines : (c : PlainCode) (n : ℕ) (fs : List PlainFunction) → IsSound c → ((text : List ℕ) → AreLines c n fs text → ⊥) → ⊥
 some_lines c n [] sound none = none [] refl
 some_lines c n (f ∷ fs) sound none =
     some_line c n f f.name sound (λ line is. some_lines c (suc n) fs sound (λ rest more. none (line ++ rest) (line, rest, is, more, refl)))
 
 some_listing : (bytes : List ℕ) (code : PlainCode) → IsSoundFile bytes code → ((text : List ℕ) → IsCodeListing bytes text → ⊥) → ⊥
-some_listing bytes code file none = some_lines (sound_view code) 0 (sound_view code).functions file.sound (λ text lines. none text (record { code = code; file = file; lines = lines }))
+some_listing bytes code file none = some_lines code 0 code.functions file.sound (λ text lines. none text (record { code = code; file = file; lines = lines }))
 
 -- ---- verify
 

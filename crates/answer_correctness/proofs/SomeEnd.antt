@@ -7,7 +7,7 @@ use Rattle.command_answers.specs.fip_outside.Files.{File, file_of}
 use Rattle.command_answers.specs.command_library.fip_language.declared.limits.TheConstants.{MOST_FILE_BYTES}
 use Rattle.command_answers.specs.command_library.fip_language.declared.rule.Rule.TheVariants.{E61, E74}
 use Rattle.command_answers.specs.command_library.fip_base.declared.refusal.Refusal.{Refusal as a_refusal}
-use Rattle.worked_examples.specs.code_file.Plain.{PlainCode}
+use Rattle.worked_examples.specs.cell_code.Plain.{PlainCode}
 use Rattle.worked_examples.specs.fip_trees.Tree.{Program}
 use Rattle.worked_examples.specs.source_report.Report.{bare, IsMatched}
 use Rattle.command_answers.specs.command_library.command_words.Words.{Command, Check, Compile, Verify, Upgrade, Exec, Run, Eval, Trace, Session, Tasks, Derive, Audit, Replay, Library, Gen}

@@ -13,9 +13,8 @@ use Rattle.command_answers.specs.command_library.fip_language.Table.{Table, Have
 use Rattle.command_answers.specs.command_library.fip_language.Values.{Values}
 use Rattle.command_answers.specs.command_library.command_words.Words.{Room}
 use Rattle.command_answers.specs.command_library.command_outcome.declared.failure.Failure.TheVariants as F
-use Rattle.worked_examples.specs.code_file.Plain.{PlainCode}
+use Rattle.worked_examples.specs.cell_code.Plain.{PlainFunction, PlainCode, function_at, results_of, results}
 use Rattle.command_answers.specs.command_library.machine_semantics.Runs as R
-use Rattle.command_answers.specs.command_library.code_rules.Codes as S
 use Rattle.command_answers.specs.command_library.code_rules.Tables.{AreSoundTables}
 use Rattle.command_answers.proofs.command_library.separation.KindsFound.{kinds_found}
 use Rattle.command_answers.proofs.command_library.separation.Sound.{formed, has_form}
@@ -29,7 +28,7 @@ use Rattle.command_answers.specs.command_library.value_text.Machine.{step, final
 use Rattle.command_answers.proofs.command_library.value_text.Exact.{accepted_text, stopped_text}
 use Rattle.command_answers.proofs.command_library.value_text.Tables.{is_table, types_alive}
 use Rattle.command_answers.proofs.command_library.value_text.Typed.{input_typed}
-use Rattle.command_answers.specs.command_library.command_source.Codes.{sound_view, IsSoundFile, has_named, names_one, HasFunction}
+use Rattle.command_answers.specs.command_library.command_source.Codes.{IsSoundFile, has_named, names_one, HasFunction}
 use Rattle.command_answers.proofs.command_library.command_run.FileTypes.{file_spelt}
 use Rattle.command_answers.proofs.command_library.command_run.RunTables.{tables, sound_table, params_known}
 use Rattle.command_answers.specs.command_library.command_run.CodeRun.{Chosen, SpellsFor, RunOf, frames_for, words_of, all_seen, ReportsCode, RunsCode, Misspelt, Small, Ran}
@@ -42,13 +41,13 @@ use Rattle.command_answers.proofs.FileTexts.{literals}
 
 -- ---- the function
 
-record IsNamed (name : List ℕ) (fs : List S.PlainFunction) : Type 0 where
+record IsNamed (name : List ℕ) (fs : List PlainFunction) : Type 0 where
   number : ℕ
-  function : S.PlainFunction
+  function : PlainFunction
   there : slice_get fs number ≡ Some function
   named : function.name ≡ name
 
-named_in : (name : List ℕ) (fs : List S.PlainFunction) → has_named name fs ≡ true → IsNamed name fs
+named_in : (name : List ℕ) (fs : List PlainFunction) → has_named name fs ≡ true → IsNamed name fs
 named_in name [] e = cc
 named_in name (f ∷ fs) e = by (bytes_eq f.name name) refl (named_in name fs) e
   where
@@ -56,11 +55,11 @@ named_in name (f ∷ fs) e = by (bytes_eq f.name name) refl (named_in name fs) e
     by true h later e = record { number = 0; function = f; there = refl; named = (bytes_eq-Decides f.name name).0 h }
     by false h later e = let r = later e in record { number = suc r.number; function = r.function; there = r.there; named = r.named }
 
-chosen : (bytes name : List ℕ) (code : PlainCode) → IsSoundFile bytes code → names_one name (sound_view code).functions ≡ true → (Chosen bytes name → ⊥) → ⊥
+chosen : (bytes name : List ℕ) (code : PlainCode) → IsSoundFile bytes code → names_one name code.functions ≡ true → (Chosen bytes name → ⊥) → ⊥
 chosen bytes [] code file e none = cc
 chosen bytes (b ∷ name) code file e none =
-    let x = named_in (b ∷ name) (sound_view code).functions e in
-    has_stack (sound_view code) x.number file.sound (λ held stack. none (record {
+    let x = named_in (b ∷ name) code.functions e in
+    has_stack code x.number file.sound (λ held stack. none (record {
       code = code;
       file = file;
       number = x.number;
@@ -91,13 +90,13 @@ reports tb results calls frames following last R.Unsound left M.Stuck h = absurd
 
 -- ---- the run
 
-results_are : (c : S.PlainCode) (n : ℕ) (f : S.PlainFunction) → S.function_at c n ≡ Some f → S.results c n ≡ f.results
-results_are c n f e = ap S.results_of e
+results_are : (c : PlainCode) (n : ℕ) (f : PlainFunction) → function_at c n ≡ Some f → results c n ≡ f.results
+results_are c n f e = ap results_of e
 
 runs : (bytes name input : List ℕ) (room : Room) (gauge : Bool) (c : Chosen bytes name) (vs : Values) → SpellsFor c input vs → words_of c vs ≤ room.words → (e : End) × RunsCode bytes name input room gauge e
 runs bytes name input room gauge c vs spelt fits =
-    let code : S.PlainCode = sound_view c.code in
-    let f : S.PlainFunction = c.function in
+    let code : PlainCode = c.code in
+    let f : PlainFunction = c.function in
     let frames : ℕ = frames_for c room in
     let sound = (c.file).sound in
     let kinds = kinds_found code in
@@ -123,7 +122,7 @@ runs bytes name input room gauge c vs spelt fits =
     let reported = reports code.types f.results room.calls frames (if_asked gauge (gauge_by_states (all_seen r) c.held)) over.1 over.0 over.2 trees.0 (subst (λ ts. A.IsSameEnd code.types ts over.1 over.2 over.0 trees.0) (results_are code c.number f c.there) trees.3) in
     (reported.0, Ran c vs r reported.0 spelt fits reported.1)
 
-by_tables : (bytes name input : List ℕ) (room : Room) (gauge : Bool) (c : Chosen bytes name) → AreSoundTables (sound_view c.code) → ((e : End) → RunsCode bytes name input room gauge e → ⊥) → ⊥
+by_tables : (bytes name input : List ℕ) (room : Room) (gauge : Bool) (c : Chosen bytes name) → AreSoundTables c.code → ((e : End) → RunsCode bytes name input room gauge e → ⊥) → ⊥
 by_tables bytes name input room gauge c t none = by (P.run (step tb) (final tb) (start ks) input 0) refl
   where
     tb : Table
@@ -133,10 +132,10 @@ by_tables bytes name input room gauge c t none = by (P.run (step tb) (final tb) 
     ks = types_of (c.function).params
 
     table : IsSoundTable tb
-    table = sound_table (sound_view c.code) t (λ u k x at. file_spelt bytes c.code u k x c.file at)
+    table = sound_table c.code t (λ u k x at. file_spelt bytes c.code u k x c.file at)
 
     known : AreTypes tb ks
-    known = params_known tb (c.function).params (has_form (sound_view c.code) c.function (formed (sound_view c.code) c.number c.function (c.file).sound c.there)).params
+    known = params_known tb (c.function).params (has_form c.code c.function (formed c.code c.number c.function (c.file).sound c.there)).params
 
     by : (x : P.Outcome Values) → P.run (step tb) (final tb) (start ks) input 0 ≡ x → ⊥
     by (P.Stopped at) e = none (Err (F.BadInput at)) (Misspelt c at (stopped_text tb (is_table tb table) ks (types_alive tb table ks known) input at e))
@@ -149,4 +148,4 @@ by_tables bytes name input room gauge c t none = by (P.run (step tb) (final tb) 
 
 pub some_run : (bytes name input : List ℕ) (room : Room) (gauge : Bool) → HasFunction bytes name → ((e : End) → RunsCode bytes name input room gauge e → ⊥) → ⊥
 some_run bytes name input room gauge (code, file, one) none =
-    chosen bytes name code file one (λ c. tables (sound_view c.code) (c.file).sound (λ t. by_tables bytes name input room gauge c t none))
+    chosen bytes name code file one (λ c. tables c.code (c.file).sound (λ t. by_tables bytes name input room gauge c t none))

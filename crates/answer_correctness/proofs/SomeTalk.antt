@@ -20,7 +20,7 @@ use Rattle.command_answers.specs.command_library.session_semantics.Talk.{Setting
 use Rattle.command_answers.specs.command_library.session_semantics.Talk.{EndText, answer_of, at_first, free_frames, held_as, hold_all, holding, left, made_then, named_by, needed, ok_text, running, store_text, reported, used_by, without, without_all}
 use Rattle.command_answers.specs.command_library.session_semantics.Turns.{type_of}
 use Rattle.command_answers.specs.command_library.session_semantics.Typed.{IsEntry}
-use Rattle.command_answers.proofs.Written.{typed}
+use Rattle.command_answers.proofs.command_tasks.Weighing.{typed}
 use Rattle.worked_examples.specs.fip_trees.Tree.{Instance, Program}
 use Rattle.worked_examples.specs.source_report.Report.{IsAccepted}
 use Rattle.worked_examples.specs.type_safety.Soundness.{IsSoundAnswer}

@@ -13,7 +13,7 @@ use Rattle.command_answers.specs.command_library.session_semantics.Lines.{lines_
 use Rattle.command_answers.specs.command_library.session_semantics.Talk.{Setting, answer_of, free_frames}
 use Rattle.command_answers.specs.command_library.session_semantics.Turns.{Task, IsTask, AreTasks, IsBadFrom, TaskText, TaskLines, Comes, Bad, Small, Answered, joined, most_tasks, type_of, words_of_tasks}
 use Rattle.command_answers.specs.command_tasks.TasksAnswer.{IsSetting, TakesTurns}
-use Rattle.command_answers.proofs.Written.{all_typed}
+use Rattle.command_answers.proofs.command_tasks.Weighing.{all_typed}
 use Rattle.worked_examples.specs.fip_trees.Tree.{Program}
 use Rattle.worked_examples.specs.source_report.Report.{IsAccepted}
 use Rattle.worked_examples.specs.type_safety.Soundness.{IsSoundAnswer}

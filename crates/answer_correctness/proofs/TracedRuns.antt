@@ -20,7 +20,7 @@ use Rattle.command_answers.specs.command_library.fip_base.declared.plain.Stack.{
 use Rattle.worked_examples.specs.fip_trees.declared.groups.Member.{Member}
 use Rattle.worked_examples.specs.fip_trees.Tree.{Instance, Program}
 use Rattle.worked_examples.specs.cell_lower.Shape.{Header, header_of, headers}
-use Rattle.worked_examples.specs.code_file.Plain as F
+use Rattle.worked_examples.specs.cell_code.Plain.{PlainFunction, PlainCode, results}
 use Rattle.worked_examples.specs.instance_semantics.Meaning.{flat_meaning}
 use Rattle.worked_examples.specs.lowering_relation.LoweredBodies.{function_of}
 use Rattle.worked_examples.specs.lowering_simulation.CellEnds.{EndsAs}
@@ -35,9 +35,8 @@ use Rattle.command_answers.specs.command_library.machine_semantics.Runs as C
 use Rattle.command_answers.specs.command_library.machine_semantics.Runs.{loaded}
 use Rattle.command_answers.specs.command_library.machine_semantics.States.{State}
 use Rattle.command_answers.specs.command_library.machine_semantics.Steps.{Kinds}
-use Rattle.command_answers.specs.command_library.code_rules.Codes.{PlainCode, PlainFunction, results}
 use Rattle.command_answers.specs.command_library.code_rules.StackNumbers.{HasStack}
-use Rattle.command_answers.specs.command_library.separation.Codes.{run_code, AreKinds}
+use Rattle.command_answers.specs.command_library.separation.Codes.{AreKinds}
 use Rattle.command_answers.proofs.command_library.separation.KindsFound.{kinds_found}
 use Rattle.command_answers.specs.command_library.run_loading.Loading.{first_store, first_words}
 use Rattle.command_answers.specs.command_library.run_loading.TraceText.{Trace, trace_text}
@@ -48,7 +47,6 @@ use Rattle.command_answers.proofs.command_library.value_text.Typed.{input_typed}
 use Rattle.command_answers.proofs.command_library.command_run.machine_correctness.Entries.{plain_header, IsNamed, named}
 use Rattle.command_answers.proofs.command_library.command_run.compiler_correctness.Headers.{typed_named}
 use Rattle.command_answers.proofs.command_library.command_run.compiler_correctness.SoundTypes.{typed_sound}
-use Rattle.command_answers.specs.command_library.command_source.Codes.{sound_view}
 use Rattle.command_answers.specs.command_library.command_source.Roots.{root_named, held}
 use Rattle.command_answers.specs.command_library.command_source.Wanted.{Compiled, IsCompiled, IsReady}
 use Rattle.command_answers.specs.command_library.command_eval.EvalAnswer.{Spells}
@@ -95,12 +93,12 @@ words_given tb ts last left C.Out us k h = absurd h
 words_given tb ts last left C.Deep us k h = absurd h
 words_given tb ts last left C.Unsound us k h = absurd h
 
-module _ (source name : List ℕ) (code : F.PlainCode) (of' : IsSourceCode source code) (d : Instance) (found : root_named name (of'.program).instances ≡ Some d) (ruled : d.kind ≡ Fun → ⊥) where
+module _ (source name : List ℕ) (code : PlainCode) (of' : IsSourceCode source code) (d : Instance) (found : root_named name (of'.program).instances ≡ Some d) (ruled : d.kind ≡ Fun → ⊥) where
   abbrev p : Program
   p = of'.program
 
   abbrev c : PlainCode
-  c = sound_view code
+  c = code
 
   abbrev s : Start source name
   s = started source name p of'.accepted d found
@@ -172,7 +170,7 @@ module _ (source name : List ℕ) (code : F.PlainCode) (of' : IsSourceCode sourc
         subst (λ tb. SpellsValues tb (types_of f.params) input vs) (sym of'.is.types)
         (subst (λ ks. SpellsValues p.types ks input vs) (sym (ap types_of params_same)) spelt)
 
-    first : (t : State) × (loaded (run_code c) n (first_store vs f.credits) (first_words vs f.credits) frames ≡ Some t)
+    first : (t : State) × (loaded c n (first_store vs f.credits) (first_words vs f.credits) frames ≡ Some t)
     first = is_loaded c n f vs frames y.1
 
     l : IsLoaded p c r.place n vs frames first.0
@@ -181,7 +179,7 @@ module _ (source name : List ℕ) (code : F.PlainCode) (of' : IsSourceCode sourc
       there = r.there;
       is = number;
       typed = input_typed p.types (parameter_types d) (characters input) vs spelt;
-      begins = subst (λ ks. loaded (run_code c) n (first_store vs ks) (first_words vs ks) frames ≡ Some first.0) credits_same first.1;
+      begins = subst (λ ks. loaded c n (first_store vs ks) (first_words vs ks) frames ≡ Some first.0) credits_same first.1;
     }
 
     kinds : (before : Kinds) × (waits : Kinds) × AreKinds c before waits
@@ -290,7 +288,7 @@ ruled_in : (o : Option Instance) → IsCompiled o → (d : Instance) × (o ≡ S
 ruled_in None h = absurd h
 ruled_in (Some d) h = (d, refl, h)
 
-pub traced : (source name input : List ℕ) (room : Room) (code : F.PlainCode) → IsReady source (Compiled name) → IsSourceCode source code → (e : End) × TracesTo source name input room e
+pub traced : (source name input : List ℕ) (room : Room) (code : PlainCode) → IsReady source (Compiled name) → IsSourceCode source code → (e : End) × TracesTo source name input room e
 traced source name input room code ready of' =
     let same = accepted_once source ready.program of'.program ready.accepted of'.accepted in
     let root = ruled_in (root_named name (of'.program).instances) (subst (λ (q : Program). IsCompiled (root_named name q.instances)) same ready.has) in

@@ -1,7 +1,7 @@
 -- The examples of a source without any text. Its code has no functions, and the file of this code is 33 bytes.
 use Rattle.std.specs.Prelude.{List, [], ◌∷◌, ◌++◌, ℕ, codes}
 use Rattle.command_answers.specs.fip_outside.Files.{File}
-use Rattle.worked_examples.specs.code_file.Plain.{PlainCode}
+use Rattle.worked_examples.specs.cell_code.Plain.{PlainCode}
 use Rattle.worked_examples.specs.Empty.{bool_alone}
 
 abbrev pub empty_code : PlainCode

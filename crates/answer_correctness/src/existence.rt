@@ -1,11 +1,11 @@
 // The theorems that a command has an answer. Each is the contract of a function that does nothing.
-ghost use Rattle.std.specs.Prelude.{◌≡◌, ◌⊎◌, ℕ, List, Some, Ok, Err};
+ghost use Rattle.std.specs.Prelude.{◌≡◌, ◌⊎◌, ℕ, List, Some, Ok, Err, slice_get};
+ghost use Rattle.command_answers.specs.command_library.fip_language.declared.FunKind.TheVariants.{Fun};
 ghost use Rattle.command_answers.specs.command_library.fip_language.declared.rule.Rule.TheVariants.{E61};
 ghost use Rattle.command_answers.specs.command_library.fip_base.declared.refusal.Refusal.{Refusal as a_refusal};
 ghost use Rattle.command_answers.specs.command_library.command_outcome.declared.failure.Failure.TheVariants.{Refused};
-ghost use Rattle.command_answers.specs.command_library.command_source.Judged.{IsEarlyReport};
-ghost use Rattle.command_answers.specs.command_library.command_source.Wanted.{Wanted, Lawful, Compiled, Refuses, IsReady};
-ghost use Rattle.command_answers.specs.command_library.command_words.Words.{Command, Room, Session, Tasks, Audit, Library, Gen, IsTextName};
+ghost use Rattle.command_answers.specs.command_library.command_source.Wanted.{Wanted, Compiled, Refuses, IsReady};
+ghost use Rattle.command_answers.specs.command_library.command_words.Words.{Command, Room, Library, Gen, IsCommand, IsTextName};
 ghost use Rattle.command_answers.specs.fip_outside.Files.{File, file_of};
 ghost use Rattle.command_answers.specs.Answer.{ComesTo, Host, IsAnswer};
 ghost use Rattle.command_answers.specs.Asks.{fetched_name, wanted};
@@ -14,10 +14,10 @@ ghost use Rattle.command_answers.specs.Ends.{Compiles, TracesTo};
 ghost use Rattle.command_answers.specs.Exec.{End as an_end};
 ghost use Rattle.command_answers.specs.Stored.{IsMadeBy};
 ghost use Rattle.answer_correctness.specs.Alike.{Finds};
-ghost use Rattle.worked_examples.specs.code_file.Plain.{PlainCode};
-ghost use Rattle.worked_examples.specs.fip_trees.Tree.{Program};
-ghost use Rattle.worked_examples.specs.source_report.Report.{bare, IsMatched};
-ghost use Rattle.answer_correctness.specs.Certain.{IsCertain};
+ghost use Rattle.worked_examples.specs.cell_code.Plain.{PlainCode};
+ghost use Rattle.worked_examples.specs.fip_trees.Tree.{Instance, Program};
+ghost use Rattle.worked_examples.specs.source_report.Report.{bare, IsAccepted};
+ghost use Rattle.answer_correctness.specs.Certain.{IsCertain, IsCoded};
 
 /// `check`, `exec`, `eval` and `derive` have an answer on a source that is refused, or has what the command wants,
 /// whatever the input is. For who asks whether a command may be without one.
@@ -42,19 +42,28 @@ pub fn a_source_with_a_code_is_compiled()
         ⊎ Compiles source (Err (Refused (bare E61))) }
 {}
 
-/// `session` and `tasks` are never without an answer on a source that is refused or breaks no rule, whatever the input is;
-/// nor is `audit` on one that has an early report, or whose types and matches are right, whatever the proof file is, or
-/// where it is missing. For who asks whether a command may be without one.
-pub fn a_source_is_never_without_an_answer()
-    ensures session { (files : List File) (source input file : List ℕ) (room : Room) →
-        file_of file files ≡ Some source → ((r : a_refusal) × Refuses source Lawful r) ⊎ IsReady source Lawful →
-        ((e : an_end) → ComesTo files input (Session file room) e → ⊥) → ⊥ }
-    ensures tasks { (files : List File) (source input file : List ℕ) (seed turns : ℕ) (room : Room) →
-        file_of file files ≡ Some source → ((r : a_refusal) × Refuses source Lawful r) ⊎ IsReady source Lawful →
-        ((e : an_end) → ComesTo files input (Tasks file seed turns room) e → ⊥) → ⊥ }
-    ensures audit { (files : List File) (source input file proof : List ℕ) → file_of file files ≡ Some source →
-        ((p : Program) × IsMatched source p) ⊎ ((r : a_refusal) × IsEarlyReport source r) →
-        ((e : an_end) → ComesTo files input (Audit file proof) e → ⊥) → ⊥ }
+/// An accepted source whose functions are all plain has a code, which has no functions. So `compile` has an end on it (of a
+/// source with fip or fbip functions it isn't said that there is a code). For who asks whether a source can be compiled.
+pub fn a_plain_source_has_a_code()
+    ensures theorem { (source : List ℕ) (p : Program) → IsAccepted source p →
+        ((i : ℕ) (d : Instance) → slice_get p.instances i ≡ Some d → d.kind ≡ Fun) →
+        (code : PlainCode) × IsSourceCode source code }
+{}
+
+/// Each source is refused or has what is wanted, for whatever is wanted: no source is without both (`some`) or has both
+/// (`apart`), and it has one refusal at most (`one`). For who asks whether some source is left without a verdict.
+pub fn each_source_is_refused_or_ready()
+    ensures some { (source : List ℕ) (w : Wanted) → ((r : a_refusal) → Refuses source w r → ⊥) →
+        (IsReady source w → ⊥) → ⊥ }
+    ensures apart { (source : List ℕ) (w : Wanted) (r : a_refusal) → Refuses source w r → IsReady source w → ⊥ }
+    ensures one { (source : List ℕ) (w : Wanted) (q r : a_refusal) → Refuses source w q → Refuses source w r → q ≡ r }
+{}
+
+/// No command is without an answer, whatever the files and the input are. Of `compile` and `trace` it is so where an accepted
+/// source has a code (`IsCoded`). For who asks whether a call may come to nothing.
+pub fn each_command_has_an_answer()
+    ensures theorem { (words : List (List ℕ)) (files : List File) (input : List ℕ) (c : Command) → IsCommand words c →
+        IsCoded files c → ((e : an_end) → ComesTo files input c e → ⊥) → ⊥ }
 {}
 
 /// An end has a whole answer, whatever stood on out and err before: it is shown, and where it is a text what the command

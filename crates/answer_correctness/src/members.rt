@@ -19,7 +19,7 @@ ghost use Rattle.command_answers.specs.command_library.command_outcome.Successes
 ghost use Rattle.command_answers.specs.command_library.command_outcome.declared.failure.Failure.{Failure};
 ghost use Rattle.command_answers.specs.command_library.command_outcome.declared.failure.Failure.TheVariants as F;
 ghost use Rattle.command_answers.specs.command_library.command_outcome.declared.failure.Object.TheVariants as O;
-ghost use Rattle.worked_examples.specs.code_file.Plain.{PlainCode};
+ghost use Rattle.worked_examples.specs.cell_code.Plain.{PlainCode};
 ghost use Rattle.worked_examples.specs.source_report.Report.{bare, IsMatched};
 ghost use Rattle.command_answers.specs.command_library.command_source.Codes.{IsSoundFile, IsCodeListing, IsUpgraded, IsUnspelt, RefusesCode};
 ghost use Rattle.command_answers.specs.command_library.command_source.Derived.{IsDerivedFile, IsUnderived};

@@ -12,16 +12,16 @@ ghost use Rattle.command_answers.specs.command_library.fip_language.declared.lim
 ghost use Rattle.worked_examples.specs.fip_trees.Tree.{Program};
 ghost use Rattle.worked_examples.specs.fip_trees.declared.groups.Member.{Member};
 ghost use Rattle.worked_examples.specs.code_file.CodeText.{CodeText};
-ghost use Rattle.worked_examples.specs.code_file.Plain.{PlainCode};
+ghost use Rattle.worked_examples.specs.cell_code.Plain.{PlainCode};
 ghost use Rattle.worked_examples.specs.code_file.declared.tags.Version.TheVariants.{Second};
 ghost use Rattle.command_answers.specs.command_library.machine_semantics.Gauges.{seen};
 ghost use Rattle.command_answers.specs.command_library.machine_semantics.Runs.{Value, Ends, begun};
 ghost use Rattle.command_answers.specs.command_library.machine_semantics.States.{State};
 ghost use Rattle.command_answers.specs.command_library.machine_semantics.Steps.{Kinds};
-ghost use Rattle.command_answers.specs.command_library.separation.Codes.{run_code, AreKinds};
+ghost use Rattle.command_answers.specs.command_library.separation.Codes.{AreKinds};
 ghost use Rattle.worked_examples.specs.lowering_relation.LoweredBodies.{function_of};
 ghost use Rattle.command_answers.specs.command_library.code_rules.StackNumbers.{HasStack};
-ghost use Rattle.command_answers.specs.command_library.command_source.Codes.{sound_view, IsSoundFile, IsUnspelt};
+ghost use Rattle.command_answers.specs.command_library.command_source.Codes.{IsSoundFile, IsUnspelt};
 ghost use Rattle.command_answers.specs.command_library.command_source.ProgramCode.{IsCodeOfSource};
 ghost use Rattle.command_answers.specs.command_library.command_words.Words.{Command, Room, IsCommand};
 ghost use Rattle.command_answers.specs.command_library.command_run.CodeRun.{RunsCode};
@@ -136,12 +136,12 @@ pub fn a_code_is_no_longer_than_its_program_allows()
 pub fn a_code_holds_what_its_program_does()
     ensures stacks { (p : Program) (code : PlainCode) (c : IsCodeOf p code) (i n : ℕ) (m : Member) →
         function_of p.instances i ≡ Some n → slice_get c.members i ≡ Some m →
-        HasStack (sound_view code) n m.stack }
+        HasStack code n m.stack }
     ensures peak { (p : Program) (code : PlainCode) (before waits : Kinds) (i n : ℕ) (vs : Values)
         (calls frames : ℕ) (first last : State) (words : List ℕ) (left steps : ℕ) → IsCodeOf p code →
-        AreKinds (sound_view code) before waits → IsLoaded p (sound_view code) i n vs frames first →
-        Ends before (run_code (sound_view code)) first calls (Value words) last left steps →
-        highest_frames (seen before (run_code (sound_view code)) steps (begun first calls))
+        AreKinds code before waits → IsLoaded p code i n vs frames first →
+        Ends before code first calls (Value words) last left steps →
+        highest_frames (seen before code steps (begun first calls))
         ≡ (flat_meaning p i vs calls frames).peak.frames }
 {}
 

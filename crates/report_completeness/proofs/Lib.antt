@@ -1,0 +1,9 @@
+pub mod LeastOrNone
+pub mod Spelling
+pub mod FewBroken
+pub mod Numbering
+pub mod Declaring
+pub mod Missing
+pub mod Covering
+pub mod Grouping
+pub mod Complete

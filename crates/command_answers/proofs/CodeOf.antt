@@ -16,33 +16,29 @@ use Rattle.command_library.specs.command_tasks.source_report.tail_groups.Registe
 use Rattle.command_library.specs.command_tasks.source_report.instance_semantics.Meaning.{flat_meaning}
 use Rattle.command_library.specs.command_tasks.source_report.cell_lower.Limits.{registers}
 use Rattle.command_library.specs.command_tasks.source_report.cell_lower.Shape.{Header, header_of, headers}
-use Rattle.command_library.specs.command_tasks.code_file.Plain as F
+use Rattle.command_library.specs.code_rules.cell_code.Plain.{PlainFunction, PlainCode, function_at, all_instrs}
 use Rattle.command_library.specs.command_tasks.code_file.declared.tags.Version.TheVariants.{Second}
 use Rattle.command_library.specs.command_tasks.source_report.lowering_relation.LoweredBodies.{function_of}
 use Rattle.command_library.specs.command_tasks.source_report.lowering_relation.LoweredFunctions.{AreLowered}
 use Rattle.command_library.specs.command_tasks.source_report.lowering_simulation.CellEnds.{EndsAs, IsFunctionOf}
-use Rattle.command_library.specs.command_tasks.source_report.lowering_simulation.Lowered as L
 use Rattle.command_library.specs.command_tasks.source_report.lowering_simulation.RunEnds.{RunsTo, height, highest, words_of_all}
 use Rattle.command_library.specs.command_tasks.source_report.lowering_simulation.Wide.{AreWide}
 use Rattle.command_library.specs.command_tasks.run_loading.tree_refinement.Runs.{BeginsWith}
 use Rattle.command_library.specs.command_tasks.run_loading.tree_refinement.tree_semantics.Runs as T
 use Rattle.command_library.specs.command_tasks.run_loading.tree_refinement.tree_semantics.States as U
-use Rattle.command_library.specs.machine_semantics.Codes as R
 use Rattle.command_library.specs.machine_semantics.Gauges.{seen}
 use Rattle.command_library.specs.machine_semantics.Limits.{frame_words}
 use Rattle.command_library.specs.machine_semantics.Runs as C
 use Rattle.command_library.specs.machine_semantics.Runs.{End, Value, Ends, Over, begun, after, loaded}
 use Rattle.command_library.specs.machine_semantics.States.{State}
 use Rattle.command_library.specs.machine_semantics.Steps.{Kinds}
-use Rattle.command_library.specs.code_rules.Codes.{PlainCode, PlainFunction, function_at, params, params_of}
-use Rattle.command_library.specs.separation.Codes.{run_code, run_function, AreKinds, HasLiterals}
+use Rattle.command_library.specs.code_rules.Codes.{params, params_of}
+use Rattle.command_library.specs.separation.Codes.{AreKinds, HasLiterals}
 use Rattle.command_library.specs.separation.Starts.{IsStart}
 use Rattle.command_library.specs.run_loading.Loading.{first_store, first_words}
 use Rattle.command_library.proofs.run_loading.Begins.{begins}
 use Rattle.command_library.proofs.separation.Loading.{loaded_is}
 use Rattle.command_library.specs.command_run.GaugeText.{highest_stack}
-use Rattle.command_library.specs.command_source.Codes.{sound_function, sound_view}
-use Rattle.command_library.specs.command_source.ProgramCode as P
 use Rattle.command_library.specs.command_source.ProgramCode.{IsCodeOfSource}
 use Rattle.command_library.proofs.command_run.machine_correctness.Entries.{plain_header}
 use Rattle.command_library.proofs.command_run.machine_correctness.Peaks.{header_at, counted_at}
@@ -62,14 +58,6 @@ use Rattle.command_answers.specs.CodeOf.{IsLoaded, IsCodeOf}
 use Rattle.command_answers.proofs.FileTexts.{literals}
 use Rattle.command_library.proofs.fip_language.Facts.{max_none}
 
-headers_view : (fs : List F.PlainFunction) → map plain_header (map sound_function fs) ≡ map P.plain_header fs
-headers_view [] = refl
-headers_view (f ∷ fs) = ap (λ hs. P.plain_header f ∷ hs) (headers_view fs)
-
-instrs_view : (fs : List F.PlainFunction) → map L.instrs_of (map run_function (map sound_function fs)) ≡ map P.instrs_of fs
-instrs_view [] = refl
-instrs_view (f ∷ fs) = ap (λ is. f.instrs ∷ is) (instrs_view fs)
-
 -- a function of this header
 of_header : (fs : List PlainFunction) (n : ℕ) (h : Header) → slice_get (map plain_header fs) n ≡ Some h → (f : PlainFunction) × (slice_get fs n ≡ Some f) × (plain_header f ≡ h)
 of_header [] n h e = absurd (none-some h e)
@@ -82,7 +70,7 @@ all_same : (c : PlainCode) (gs : List U.Frame) → wide_all c gs ≡ words_of_al
 all_same c [] = refl
 all_same c (g ∷ gs) = ap (λ w. wide_at c g.function + w) (all_same c gs)
 
-frames_same : (c : PlainCode) (code : R.PlainCode) (n : ℕ) (r : T.Run) → tree_highest (tree_frames c) code n r ≡ (highest code (wide_at c) n r).frames
+frames_same : (c : PlainCode) (code : PlainCode) (n : ℕ) (r : T.Run) → tree_highest (tree_frames c) code n r ≡ (highest code (wide_at c) n r).frames
 frames_same c code zero (T.Going t left m) = omega arith
 frames_same c code (suc n) (T.Going t left m) = ap (max (length t.waiting)) (frames_same c code n (T.later code (T.Going t left m)))
 frames_same c code zero (T.Over a t left m) = omega arith
@@ -91,7 +79,7 @@ frames_same c code (suc n) (T.Over a t left m) = omega arith
 words_state : (c : PlainCode) (t : U.State) → tree_words c t ≡ (height (wide_at c) t).words
 words_state c t = ap (λ w. wide_at c t.running.function + w) (all_same c t.waiting)
 
-words_same : (c : PlainCode) (code : R.PlainCode) (n : ℕ) (r : T.Run) → tree_highest (tree_words c) code n r ≡ (highest code (wide_at c) n r).words
+words_same : (c : PlainCode) (code : PlainCode) (n : ℕ) (r : T.Run) → tree_highest (tree_words c) code n r ≡ (highest code (wide_at c) n r).words
 words_same c code zero (T.Going t left m) = max_none (tree_words c t) _ (words_state c t)
 words_same c code (suc n) (T.Going t left m) =
     ap (λ x. max x (tree_highest (tree_words c) code n (T.later code (T.Going t left m)))) (words_state c t)
@@ -99,11 +87,11 @@ words_same c code (suc n) (T.Going t left m) =
 words_same c code zero (T.Over a t left m) = max_none (tree_words c t) _ (words_state c t)
 words_same c code (suc n) (T.Over a t left m) = max_none (tree_words c t) _ (words_state c t)
 
-highest_over : (code : R.PlainCode) (width : ℕ → ℕ) (m : ℕ) (a : _) (s : U.State) (left j : ℕ) → highest code width m (T.Over a s left j) ≡ height width s
+highest_over : (code : PlainCode) (width : ℕ → ℕ) (m : ℕ) (a : _) (s : U.State) (left j : ℕ) → highest code width m (T.Over a s left j) ≡ height width s
 highest_over code width zero a s left j = refl
 highest_over code width (suc m) a s left j = refl
 
-highest_enough : (code : R.PlainCode) (width : ℕ → ℕ) (n m : ℕ) (r : T.Run) (a : _) (last : U.State) (left steps : ℕ) → T.after code n r ≡ T.Over a last left steps → highest code width (n + m) r ≡ highest code width n r
+highest_enough : (code : PlainCode) (width : ℕ → ℕ) (n m : ℕ) (r : T.Run) (a : _) (last : U.State) (left steps : ℕ) → T.after code n r ≡ T.Over a last left steps → highest code width (n + m) r ≡ highest code width n r
 highest_enough code width zero m (T.Going s l j) a last left steps is = absurd cc
 highest_enough code width (suc n) m (T.Going s l j) a last left steps is =
     let more : suc n + m ≡ suc (n + m) = omega arith in
@@ -112,7 +100,7 @@ highest_enough code width (suc n) m (T.Going s l j) a last left steps is =
 highest_enough code width n m (T.Over b s l j) a last left steps is = highest_over code width (n + m) b s l j ∙ sym (highest_over code width n b s l j)
 
 -- with no call left a run gives no words
-pub some_calls : (before : Kinds) (code : R.PlainCode) (s : State) (calls : ℕ) (ws : List ℕ) (last : State) (left steps : ℕ) → Ends before code s calls (Value ws) last left steps → 0 < calls
+pub some_calls : (before : Kinds) (code : PlainCode) (s : State) (calls : ℕ) (ws : List ℕ) (last : State) (left steps : ℕ) → Ends before code s calls (Value ws) last left steps → 0 < calls
 some_calls before code s zero ws last left steps x = absurd (never x.enough x.is)
   where
     never : (n : ℕ) → after before code n (begun s zero) ≡ Over (Value ws) last left steps → ⊥
@@ -120,21 +108,21 @@ some_calls before code s zero ws last left steps x = absurd (never x.enough x.is
     never (suc n) e = never n e
 some_calls before code s (suc k) ws last left steps x = omega arith
 
-module _ (source : List ℕ) (code : F.PlainCode) (h : IsCodeOfSource source code) where
+module _ (source : List ℕ) (code : PlainCode) (h : IsCodeOfSource source code) where
   abbrev c : PlainCode
-  c = sound_view code
+  c = code
 
   abbrev p : Program
   p = h.program
 
-  abbrev trees : R.PlainCode
-  trees = run_code c
+  abbrev trees : PlainCode
+  trees = c
 
-  lowered : AreLowered p (L.all_instrs trees)
-  lowered = subst (AreLowered p) (sym (instrs_view code.functions)) h.lowered.lowered
+  lowered : AreLowered p (all_instrs trees)
+  lowered = h.lowered.lowered
 
   headed : map plain_header c.functions ≡ headers h.lowered.members p.instances
-  headed = headers_view code.functions ∙ h.lowered.functions
+  headed = h.lowered.functions
 
   written : HasLiterals c
   written = literals h.filed.0 code (Second, h.filed.1)

@@ -1,6 +1,6 @@
 -- What a code file's text says of its code: its ints have 64 bits.
 -- The idea: a text put together of pieces is there only where each piece is.
-use Rattle.std.proofs.Common.{◌≡◌, ℕ, zero, suc, List, [], ◌∷◌, Option, Some, None, map, slice_get, true, Bool, refl, sym, ap, ◌∙◌, subst}
+use Rattle.std.proofs.Common.{◌≡◌, ℕ, zero, suc, List, [], ◌∷◌, Option, Some, None, slice_get, true, Bool, refl, sym, ◌∙◌, subst}
 use Rattle.std.specs.Prelude.{FitsSigned, ℤ, pos, negsuc, nat_lt, ◌^◌}
 use Rattle.std.specs.Int.{w64}
 use Rattle.std.proofs.lemmas.Bool.{ltb-true}
@@ -9,16 +9,14 @@ use Rattle.std.proofs.lemmas.Option.{none-some, same_Some}
 use Rattle.command_library.specs.command_tasks.run_loading.cell_code.declared.code.Instr.{Instr}
 use Rattle.command_library.specs.command_tasks.run_loading.cell_code.declared.code.Instr.TheVariants as I
 use Rattle.command_library.specs.command_tasks.code_file.CodeText.{table_text, functions_text, function_text, instrs_text, instr_text, code_text, IsFileOf}
-use Rattle.command_library.specs.command_tasks.code_file.Plain.{PlainFunction, PlainCode}
+use Rattle.command_library.specs.code_rules.cell_code.Plain.{PlainFunction, PlainCode}
 use Rattle.command_library.specs.command_tasks.code_file.Spelling.{◌+++◌, each, only, mark, two, eight}
 use Rattle.command_library.proofs.command_tasks.code_file.Readers.{Front}
 use Rattle.command_library.specs.command_tasks.code_file.declared.tags.Version.{Version}
 use Rattle.command_library.proofs.command_tasks.code_file.Fields.{front_only}
 use Rattle.command_library.proofs.command_tasks.code_file.InstrTexts.{const_is}
-use Rattle.command_library.specs.code_rules.Codes as S
 use Rattle.command_library.specs.separation.Rows.{FitsLiteral}
 use Rattle.command_library.specs.separation.Codes.{HasLiterals}
-use Rattle.command_library.specs.command_source.Codes.{sound_function, sound_view}
 
 -- ---- pieces
 
@@ -93,14 +91,6 @@ instr_in : (xs : List Instr) (i : ℕ) (x : Instr) → IsText (instrs_text xs) �
 unfolding instrs_text
 instr_in xs i x h e = item instr_text xs i x (right _ _ h) e
 
--- a function of the code, as the rules speak of it
-of_view : (fs : List PlainFunction) (n : ℕ) (f : S.PlainFunction) → slice_get (map sound_function fs) n ≡ Some f → (g : PlainFunction) × (slice_get fs n ≡ Some g) × (sound_function g ≡ f)
-of_view [] n f e = absurd (none-some f e)
-of_view (g ∷ fs) zero f e = (g, refl, same_Some (sound_function g) f e)
-of_view (g ∷ fs) (suc n) f e = of_view fs n f e
-
-pub literals : (bytes : List ℕ) (code : PlainCode) → IsFileOf bytes code → HasLiterals (sound_view code)
+pub literals : (bytes : List ℕ) (code : PlainCode) → IsFileOf bytes code → HasLiterals code
 literals bytes code file n i f x is at =
-    let g = of_view code.functions n f is in
-    let there : slice_get (g.0).instrs i ≡ Some x = ap (λ (f : S.PlainFunction). slice_get f.instrs i) g.2 ∙ at in
-    literal_fits x (instr_in (g.0).instrs i x (instrs_of file.0 g.0 (functions_in file.0 code.functions n g.0 (code_parts file.0 code (bytes, file.1)).1 g.1)) there)
+    literal_fits x (instr_in f.instrs i x (instrs_of file.0 f (functions_in file.0 code.functions n f (code_parts file.0 code (bytes, file.1)).1 is)) at)

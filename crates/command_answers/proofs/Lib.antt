@@ -9,7 +9,6 @@ pub mod FileTexts
 pub mod CodeOf
 pub mod SourceCode
 pub mod OneCode
-pub mod Written
 pub mod TalkOnce
 pub mod OneEnd
 pub mod OneCommand

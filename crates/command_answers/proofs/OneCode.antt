@@ -7,16 +7,16 @@ use Rattle.std.proofs.lemmas.Slice.Eq.{bytes_eq-Decides}
 use Rattle.command_library.proofs.fip_language.OnePlace.{IsPlace-unique, IsPlace-not_spelt}
 use Rattle.command_library.specs.command_words.Words.{Room, Request, Command, Verify, Upgrade, Run}
 use Rattle.command_library.specs.command_tasks.code_file.CodeText.{IsFileOf}
-use Rattle.command_library.specs.command_tasks.code_file.Plain.{PlainCode}
+use Rattle.command_library.specs.code_rules.cell_code.CodeKinds.{fun_kind}
+use Rattle.command_library.specs.code_rules.cell_code.Plain.{PlainFunction, PlainCode}
 use Rattle.command_library.proofs.command_tasks.code_file.Whole.{one_code}
 use Rattle.command_library.specs.code_rules.Breaks.{IsLeast}
-use Rattle.command_library.specs.code_rules.Codes as S
 use Rattle.command_library.proofs.code_rules.Numbers.{has_once}
 use Rattle.command_library.proofs.code_rules.Order.{least_once}
 use Rattle.command_library.specs.command_outcome.Successes.{function_text}
 use Rattle.command_library.specs.command_outcome.declared.failure.Failure.{Failure}
 use Rattle.command_library.specs.command_outcome.declared.failure.Failure.TheVariants as F
-use Rattle.command_library.specs.command_source.Codes.{sound_view, IsSoundFile, RefusesCode, LongFile, BadFile, UnsoundFile, IsLine, AreLines, IsCodeListing, IsUpgraded, IsUnspelt, HasFunction, has_named, names_one}
+use Rattle.command_library.specs.command_source.Codes.{IsSoundFile, RefusesCode, LongFile, BadFile, UnsoundFile, IsLine, AreLines, IsCodeListing, IsUpgraded, IsUnspelt, HasFunction, has_named, names_one}
 use Rattle.command_library.specs.command_run.CodeRun.{RunsCode}
 use Rattle.command_library.proofs.command_run.CodeOnce.{code_run_once, code_run_there}
 use Rattle.command_answers.specs.Ends.{Upgrades, RunsFile, NoFunction, LongRun, Runs, DoesCode, OnCode, CodeRefused, CodeSound}
@@ -32,7 +32,7 @@ refused_not_sound bytes f c (LongFile more) h = let le = h.short in omega (arith
 refused_not_sound bytes f c (BadFile at le place) h = IsPlace-not_spelt IsFileOf bytes at c place h.spelt
 refused_not_sound bytes f c (UnsoundFile code function at rule le spelt least) h =
     let same = code_same bytes code c spelt h.spelt in
-    h.sound function at rule (subst (λ c. IsLeast (sound_view c) function at rule) same least).breaks
+    h.sound function at rule (subst (λ c. IsLeast c function at rule) same least).breaks
 
 refused_once : (bytes : List ℕ) (f g : Failure) → RefusesCode bytes f → RefusesCode bytes g → f ≡ g
 refused_once bytes f g (LongFile more) (LongFile other) = refl
@@ -45,17 +45,17 @@ refused_once bytes f g (UnsoundFile code function i rule lo spelt least) (LongFi
 refused_once bytes f g (UnsoundFile code function i rule lo spelt least) (BadFile at le place) = absurd (IsPlace-not_spelt IsFileOf bytes at code place spelt)
 refused_once bytes f g (UnsoundFile c n i r lo spelt least) (UnsoundFile d m j s le also other) =
     let same = code_same bytes c d spelt also in
-    let one = least_once (sound_view d) n i r m j s (subst (λ c. IsLeast (sound_view c) n i r) same least) other in
+    let one = least_once d n i r m j s (subst (λ c. IsLeast c n i r) same least) other in
     (λ k. F.Unsound (one.0 k) (one.1 k) (one.2 k))
 
 -- ---- its lines
 
-line_once : (c : S.PlainCode) (n : ℕ) (f : S.PlainFunction) (name t u : List ℕ) → IsLine c n f name t → IsLine c n f name u → t ≡ u
+line_once : (c : PlainCode) (n : ℕ) (f : PlainFunction) (name t u : List ℕ) → IsLine c n f name t → IsLine c n f name u → t ≡ u
 line_once c n f [] t u h k = h ∙ sym k
 line_once c n f (b ∷ name) t u h k =
-    h.2 ∙ ap (λ s. function_text (b ∷ name) f.kind f.credits s) (has_once c n h.0 k.0 h.1 k.1) ∙ sym k.2
+    h.2 ∙ ap (λ s. function_text (b ∷ name) (fun_kind f.kind) f.credits s) (has_once c n h.0 k.0 h.1 k.1) ∙ sym k.2
 
-lines_once : (c : S.PlainCode) (n : ℕ) (fs : List S.PlainFunction) (t u : List ℕ) → AreLines c n fs t → AreLines c n fs u → t ≡ u
+lines_once : (c : PlainCode) (n : ℕ) (fs : List PlainFunction) (t u : List ℕ) → AreLines c n fs t → AreLines c n fs u → t ≡ u
 lines_once c n [] t u h k = h ∙ sym k
 lines_once c n (f ∷ fs) t u (line, rest, is, more, same) (other, end, was, further, also) =
     same ∙ ap₂ (λ a b. a ++ b) (line_once c n f f.name line other is was) (lines_once c (suc n) fs rest end more further) ∙ sym also
@@ -63,7 +63,7 @@ lines_once c n (f ∷ fs) t u (line, rest, is, more, same) (other, end, was, fur
 listing_once : (bytes t u : List ℕ) → IsCodeListing bytes t → IsCodeListing bytes u → t ≡ u
 listing_once bytes t u h k =
     let same = code_same bytes h.code k.code h.file.spelt k.file.spelt in
-    lines_once (sound_view k.code) 0 (sound_view k.code).functions t u (subst (λ c. AreLines (sound_view c) 0 (sound_view c).functions t) same h.lines) k.lines
+    lines_once k.code 0 k.code.functions t u (subst (λ c. AreLines c 0 c.functions t) same h.lines) k.lines
 
 spelt_or_unspelt : (bytes again : List ℕ) (code : PlainCode) → IsUpgraded bytes again → IsSoundFile bytes code → IsUnspelt code → ⊥
 spelt_or_unspelt bytes again code h k none =
@@ -72,19 +72,19 @@ spelt_or_unspelt bytes again code h k none =
     let le = h.short in
     omega (arith, more, le)
 
-named_or_not : (bytes name other : List ℕ) (code : PlainCode) → name ≡ other → IsSoundFile bytes code → names_one name (sound_view code).functions ≡ false → HasFunction bytes other → ⊥
+named_or_not : (bytes name other : List ℕ) (code : PlainCode) → name ≡ other → IsSoundFile bytes code → names_one name code.functions ≡ false → HasFunction bytes other → ⊥
 named_or_not bytes name other code e h none (d, k, one) =
     let same = code_same bytes code d h.spelt k.spelt in
-    let yes : names_one name (sound_view code).functions ≡ true = ap₂ (λ n c. names_one n (sound_view c).functions) e same ∙ one in
+    let yes : names_one name code.functions ≡ true = ap₂ (λ n c. names_one n c.functions) e same ∙ one in
     absurd (let no : false ≡ true = sym none ∙ yes in cc)
 
 -- ---- its run
 
 -- a function that is there is found by its name
-named_there : (name : List ℕ) (fs : List S.PlainFunction) (n : ℕ) (f : S.PlainFunction) → slice_get fs n ≡ Some f → f.name ≡ name → has_named name fs ≡ true
+named_there : (name : List ℕ) (fs : List PlainFunction) (n : ℕ) (f : PlainFunction) → slice_get fs n ≡ Some f → f.name ≡ name → has_named name fs ≡ true
 named_there name [] n f at is = absurd (none-some f at)
 named_there name (g ∷ fs) zero f at is =
-    let same : g.name ≡ name = ap (λ (h : S.PlainFunction). h.name) (same_Some g f at) ∙ is in
+    let same : g.name ≡ name = ap (λ (h : PlainFunction). h.name) (same_Some g f at) ∙ is in
     ap (λ b. if b then true else has_named name fs) ((bytes_eq-Decides g.name name).1 same)
 named_there name (g ∷ fs) (suc n) f at is = by (bytes_eq g.name name) (named_there name fs n f at is)
   where
@@ -92,7 +92,7 @@ named_there name (g ∷ fs) (suc n) f at is = by (bytes_eq g.name name) (named_t
     by true h = refl
     by false h = h
 
-names_there : (name : List ℕ) (fs : List S.PlainFunction) (n : ℕ) (f : S.PlainFunction) → (name ≡ [] → ⊥) → slice_get fs n ≡ Some f → f.name ≡ name → names_one name fs ≡ true
+names_there : (name : List ℕ) (fs : List PlainFunction) (n : ℕ) (f : PlainFunction) → (name ≡ [] → ⊥) → slice_get fs n ≡ Some f → f.name ≡ name → names_one name fs ≡ true
 names_there [] fs n f some at is = absurd (some refl)
 names_there (b ∷ name) fs n f some at is = named_there (b ∷ name) fs n f at is
 
@@ -100,7 +100,7 @@ names_there (b ∷ name) fs n f some at is = named_there (b ∷ name) fs n f at 
 ran_function : (bytes name input : List ℕ) (room : Room) (gauge : Bool) (e : End) → RunsCode bytes name input room gauge e → HasFunction bytes name
 ran_function bytes name input room gauge e h =
     let x = code_run_there bytes name input room gauge e h in
-    ((x.0).code, (x.1).file, names_there name (sound_view (x.0).code).functions (x.0).number (x.0).function (x.1).some (x.1).there (x.1).named)
+    ((x.0).code, (x.1).file, names_there name (x.0).code.functions (x.0).number (x.0).function (x.1).some (x.1).there (x.1).named)
 
 -- ---- the commands
 

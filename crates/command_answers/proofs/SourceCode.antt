@@ -9,7 +9,7 @@ use Rattle.command_library.specs.command_source.Entries.{Chosen}
 use Rattle.command_library.specs.command_source.ProgramCode.{IsCodeOfSource, IsEntryOf, IsCompiledFile, IsUncompiled}
 use Rattle.command_library.specs.command_source.Wanted.{Lawful, IsReady}
 use Rattle.command_library.specs.command_tasks.code_file.CodeText.{CodeText}
-use Rattle.command_library.specs.command_tasks.code_file.Plain.{PlainCode, plain_code}
+use Rattle.command_library.specs.code_rules.cell_code.Plain.{PlainCode, plain}
 use Rattle.command_library.specs.command_tasks.code_file.declared.tags.Version.TheVariants.{Second}
 use Rattle.command_library.specs.command_tasks.run_loading.TraceText.{Trace}
 use Rattle.command_trace.specs.TraceAnswer.{IsTraceOf}
@@ -20,7 +20,7 @@ pub source_code : (source : List ℕ) (code : PlainCode) → IsCodeOfSource sour
 source_code source code h = record { program = h.program; accepted = h.accepted; is = code_of source code h }
 
 pub source_entry : (source name : List ℕ) (r : Chosen) → IsEntryOf source name r → IsSourceEntry source name r
-source_entry source name r h = record { code = source_code source (plain_code r.checked.code) h.code; named = h.named }
+source_entry source name r h = record { code = source_code source (plain r.checked.code) h.code; named = h.named }
 
 pub source_file : (source file : List ℕ) → IsCompiledFile source file → IsSourceFile source file
 source_file source file h = record { code = h.code; of' = source_code source h.code h.of'; spelt = h.spelt; short = h.short }

@@ -27,7 +27,7 @@ use Rattle.command_library.proofs.command_run.session_semantics.OneForm.{line_on
 use Rattle.command_library.proofs.command_run.compiler_correctness.SoundTypes.{typed_sound}
 use Rattle.command_library.proofs.command_eval.Meant.{typed_of}
 use Rattle.command_library.proofs.command_source.Once.{held_same}
-use Rattle.command_answers.proofs.Written.{value_once}
+use Rattle.command_library.proofs.command_tasks.Once.{value_once}
 use Rattle.command_library.proofs.command_tasks.source_report.FipCalls.{fip_calls}
 use Rattle.command_library.proofs.command_tasks.source_report.Once.{accepted_once}
 use Rattle.command_answers.specs.Ends as X

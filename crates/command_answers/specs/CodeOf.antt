@@ -20,13 +20,13 @@ use Rattle.command_library.specs.command_tasks.source_report.fip_trees.declared.
 use Rattle.command_library.specs.command_tasks.source_report.fip_trees.Tree.{Instance, Program}
 use Rattle.command_library.specs.command_tasks.source_report.tail_groups.Members.{AreMembers}
 use Rattle.command_library.specs.command_tasks.source_report.instance_semantics.Meaning.{flat_meaning}
-use Rattle.command_library.specs.command_tasks.source_report.cell_lower.Shape.{headers}
+use Rattle.command_library.specs.command_tasks.source_report.cell_lower.Shape.{headers, plain_header}
 use Rattle.command_library.specs.command_tasks.source_report.type_safety.Soundness.{parameter_types}
 use Rattle.command_library.specs.command_tasks.source_report.lowering_relation.LoweredBodies.{function_of}
 use Rattle.command_library.specs.command_tasks.source_report.lowering_simulation.CellEnds.{EndsAs}
 use Rattle.command_library.specs.command_tasks.source_report.Report.{IsAccepted}
 use Rattle.command_library.specs.command_tasks.code_file.CodeText.{CodeText}
-use Rattle.command_library.specs.command_tasks.code_file.Plain.{PlainCode, plain_code}
+use Rattle.command_library.specs.code_rules.cell_code.Plain.{PlainFunction, PlainCode, plain, function_at}
 use Rattle.command_library.specs.command_tasks.code_file.declared.tags.Version.TheVariants.{Second}
 use Rattle.command_library.specs.command_words.Words.{Room}
 use Rattle.command_library.specs.machine_semantics.States.{State}
@@ -34,39 +34,37 @@ use Rattle.command_library.specs.machine_semantics.Steps.{Kinds}
 use Rattle.command_library.specs.machine_semantics.Runs.{End, Ends, loaded, begun}
 use Rattle.command_library.specs.machine_semantics.Gauges.{seen}
 use Rattle.command_library.specs.code_rules.Breaks.{IsSound}
-use Rattle.command_library.specs.code_rules.Codes as S
-use Rattle.command_library.specs.code_rules.Codes.{function_at}
-use Rattle.command_library.specs.separation.Codes.{run_code, AreKinds}
+use Rattle.command_library.specs.separation.Codes.{AreKinds}
 use Rattle.command_library.specs.run_loading.Loading.{first_store, first_words}
-use Rattle.command_library.specs.command_source.Codes.{sound_view, IsUnspelt}
+use Rattle.command_library.specs.command_source.Codes.{IsUnspelt}
 use Rattle.command_library.specs.command_source.Entries.{Chosen, IsNamed}
-use Rattle.command_library.specs.command_source.ProgramCode.{plain_header, AreWithin, AreNarrow, HaveStacks, HasFile}
+use Rattle.command_library.specs.command_source.CodeShape.{AreWithin, AreNarrow, HaveStacks, HasFile}
 use Rattle.command_library.specs.command_run.GaugeText.{highest_stack}
 use Rattle.command_library.specs.command_tasks.run_loading.TraceText.{Trace}
-use Rattle.command_trace.specs.TraceAnswer.{IsRunTrace}
+use Rattle.command_trace.specs.RunTrace.{IsRunTrace}
 use Rattle.command_answers.specs.Exec.{stack_of_peak}
 
 -- ---- of a program
 
 -- Function n, that of instance i, is loaded with these arguments and a cell for each credit of the header.
-pub record IsLoaded (p : Program) (c : S.PlainCode) (i n : ℕ) (vs : Values) (frames : ℕ) (s : State) : Type 0 where
+pub record IsLoaded (p : Program) (c : PlainCode) (i n : ℕ) (vs : Values) (frames : ℕ) (s : State) : Type 0 where
   pub instance : Instance
   pub there : slice_get p.instances i ≡ Some instance
   pub is : function_of p.instances i ≡ Some n
   pub typed : HaveTypes p.types (parameter_types instance) vs
-  pub begins : loaded (run_code c) n (first_store vs instance.credits) (first_words vs instance.credits) frames ≡ Some s
+  pub begins : loaded c n (first_store vs instance.credits) (first_words vs instance.credits) frames ≡ Some s
 
 -- Each run ends as its instance means.
-abbrev pub Means : Program → S.PlainCode → Type 0
+abbrev pub Means : Program → PlainCode → Type 0
 Means p c = (before waits : Kinds) → AreKinds c before waits → (i n : ℕ) (vs : Values) (calls frames : ℕ) (s : State) →
     IsLoaded p c i n vs frames s → EndsAs c before n s calls (flat_meaning p i vs calls frames).answer
 
 -- Each run that is given a call holds, over all its states, as much of the stack as its instance means, however it ends.
-abbrev pub Peaks : Program → S.PlainCode → Type 0
+abbrev pub Peaks : Program → PlainCode → Type 0
 Peaks p c = (before waits : Kinds) → AreKinds c before waits → (i n : ℕ) (vs : Values) (calls frames : ℕ) (s : State) →
     IsLoaded p c i n vs frames s → 0 < calls → (end : End) (last : State) (left steps : ℕ) →
-    Ends before (run_code c) s calls end last left steps →
-    highest_stack (seen before (run_code c) steps (begun s calls))
+    Ends before c s calls end last left steps →
+    highest_stack (seen before c steps (begun s calls))
     ≡ stack_of_peak (flat_meaning p i vs calls frames).peak
 
 -- a code of a program
@@ -78,10 +76,10 @@ pub record IsCodeOf (p : Program) (code : PlainCode) : Type 0 where
   pub within : AreWithin p code.functions
   pub narrow : AreNarrow p code.functions
   pub spelt : HasFile code
-  pub sound : IsSound (sound_view code)
+  pub sound : IsSound code
   pub stacks : HaveStacks p code
-  pub means : Means p (sound_view code)
-  pub peaks : Peaks p (sound_view code)
+  pub means : Means p code
+  pub peaks : Peaks p code
 
 -- ---- of a source
 
@@ -93,7 +91,7 @@ pub record IsSourceCode (source : List ℕ) (code : PlainCode) : Type 0 where
 
 -- What is run by this name, and left: such a code in memory, and its function of this name, which isn't empty.
 pub record IsSourceEntry (source name : List ℕ) (r : Chosen) : Type 0 where
-  pub code : IsSourceCode source (plain_code r.checked.code)
+  pub code : IsSourceCode source (plain r.checked.code)
   pub named : IsNamed name r.checked.code.functions.items r.entry
 
 -- The file, which isn't too long, is that of such a code.
@@ -113,8 +111,8 @@ pub record IsSourceTrace (source name input : List ℕ) (room : Room) (t : Trace
   pub code : PlainCode
   pub of' : IsSourceCode source code
   pub number : ℕ
-  pub function : S.PlainFunction
-  pub there : function_at (sound_view code) number ≡ Some function
+  pub function : PlainFunction
+  pub there : function_at code number ≡ Some function
   pub named : function.name ≡ name
   pub some : name ≡ [] → ⊥
-  pub traced : IsRunTrace (sound_view code) number input room t
+  pub traced : IsRunTrace code number input room t

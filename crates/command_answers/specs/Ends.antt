@@ -15,11 +15,11 @@ use Rattle.command_library.specs.command_outcome.Successes.{derived_text}
 use Rattle.command_library.specs.command_outcome.declared.failure.Failure.{Failure}
 use Rattle.command_library.specs.command_outcome.declared.failure.Failure.TheVariants as F
 use Rattle.command_library.specs.command_outcome.declared.failure.Object.TheVariants as O
-use Rattle.command_library.specs.command_tasks.code_file.Plain.{PlainCode}
+use Rattle.command_library.specs.code_rules.cell_code.Plain.{PlainCode}
 use Rattle.command_library.specs.command_tasks.run_loading.TraceText as T
 use Rattle.command_library.specs.command_tasks.run_loading.TraceReading.{IsBadTrace}
 use Rattle.command_library.specs.command_tasks.source_report.Report.{bare, IsMatched}
-use Rattle.command_library.specs.command_source.Codes.{sound_view, IsSoundFile, RefusesCode, IsCodeListing, IsUpgraded}
+use Rattle.command_library.specs.command_source.Codes.{IsSoundFile, RefusesCode, IsCodeListing, IsUpgraded}
 use Rattle.command_library.specs.command_source.Codes.{IsUnspelt, names_one, HasFunction}
 use Rattle.command_library.specs.command_source.Derived.{IsDerivedFile, IsUnderived}
 use Rattle.command_library.specs.command_source.Judged.{IsEarlyReport, IsProofOf, IsRejectedOf}
@@ -31,7 +31,7 @@ use Rattle.command_library.specs.command_tasks.TasksAnswer.{IsSetting, TakesTurn
 use Rattle.command_library.specs.session_semantics.Lines.{lines_of}
 use Rattle.command_library.specs.session_semantics.Talk.{Setting, Talks, at_first}
 use Rattle.command_trace.specs.Replayed.{IsReplayed}
-use Rattle.command_trace.specs.TraceAnswer.{IsLong}
+use Rattle.command_trace.specs.RunTrace.{IsLong}
 use Rattle.command_answers.specs.Asks.{ReadsInput}
 use Rattle.command_answers.specs.CodeOf.{HasLongCode, IsSourceTrace}
 use Rattle.command_answers.specs.Exec.{End, Execs}
@@ -105,7 +105,7 @@ Upgrades bytes (Err failure) =
 
 pub data RunsFile (bytes input : List ℕ) (r : Request) : End → Type 0 where
   NoFunction : (code : PlainCode) → IsSoundFile bytes code →
-      names_one r.entry (sound_view code).functions ≡ false →
+      names_one r.entry code.functions ≡ false →
       RunsFile bytes input r (Err (F.Refused (of_entry E70 r.entry)))
   LongRun : HasFunction bytes r.entry → MOST_FILE_BYTES < length input →
       RunsFile bytes input r (Err (F.BadInput MOST_FILE_BYTES))

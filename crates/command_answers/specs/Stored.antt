@@ -10,7 +10,7 @@ use Rattle.command_library.specs.command_source.Derived.{IsDerivedFile}
 use Rattle.command_library.specs.command_source.Wanted.{Compiled, IsReady}
 use Rattle.command_library.specs.command_tasks.run_loading.TraceText as T
 use Rattle.command_library.specs.command_tasks.run_loading.TraceText.{trace_text}
-use Rattle.command_trace.specs.TraceAnswer.{IsLong}
+use Rattle.command_trace.specs.RunTrace.{IsLong}
 use Rattle.command_answers.specs.CodeOf.{IsSourceFile, IsSourceTrace}
 use Rattle.command_answers.specs.Exec.{End}
 

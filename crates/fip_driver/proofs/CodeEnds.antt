@@ -19,7 +19,7 @@ use Rattle.command_answers.specs.Asks.{fetched_name, HasWanted, HoldsWanted, Com
 use Rattle.command_answers.specs.Ends.{OnCode, CodeRefused, CodeSound, NoFunction, LongRun, Runs}
 use Rattle.command_answers.specs.Exec.{End}
 use Rattle.fip_driver.specs.Fetched.{StoreFails}
-use Rattle.fip_driver.specs.Faults.{end_of, IsFault, Closes}
+use Rattle.fip_driver.specs.Turns.{end_of, IsFault, Closes}
 use Rattle.fip_driver.specs.Outcome.{IsInputFault, ReadOutcome, CodeOutcome, FileOutcome}
 use Rattle.fip_driver.proofs.SourceEnds.{comes_found, fault_up, input_fault_up, rose_later}
 use Rattle.fip_driver.proofs.Telling.{any_reported, held}

@@ -10,7 +10,7 @@ use Rattle.command_outcome.specs.declared.failure.Failure.TheVariants as F
 use Rattle.command_outcome.specs.declared.failure.Object.TheVariants as O
 use Rattle.fip_driver.specs.Fetched.{FetchFails, FileFails, StoreFails, JudgeFails, IsLateFailure}
 use Rattle.fip_driver.specs.Delivered.{Outcome}
-use Rattle.fip_driver.specs.Faults.{RoseUntold, IsCounted, IsBeforeInput}
+use Rattle.fip_driver.specs.Turns.{RoseUntold, IsCounted, IsBeforeInput}
 use Rattle.fip_driver.specs.Outcome.{IsFolderFault}
 use Rattle.fip_driver.proofs.SourceEnds.{rose_later}
 

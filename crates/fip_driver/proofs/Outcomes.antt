@@ -11,7 +11,7 @@ use Rattle.command_outcome.specs.declared.failure.Failure.TheVariants as F
 use Rattle.command_answers.specs.Answer.{IsNoCommand, host, Answered}
 use Rattle.command_answers.specs.Asks.{stored_name}
 use Rattle.fip_driver.specs.Delivered.{Seen, Delivered}
-use Rattle.fip_driver.specs.Faults.{IsUnasked, WordsOutcome, IsUntoldAudit, Closes, end_of}
+use Rattle.fip_driver.specs.Turns.{IsUnasked, WordsOutcome, IsUntoldAudit, Closes, end_of}
 use Rattle.fip_driver.specs.Outcome.{AreKept, HadFolder}
 use Rattle.fip_driver.proofs.Storing.{failed_kept, stored_as}
 use Rattle.fip_driver.proofs.Telling.{any_reported}

@@ -43,7 +43,7 @@ use Rattle.command_answers.proofs.ByTrees.{exec_by_trees, trace_by_trees}
 use Rattle.command_answers.proofs.Generated.{gen_by_trees}
 use Rattle.command_answers.proofs.SourceCode.{long_code, source_trace}
 use Rattle.fip_driver.specs.Fetched.{FetchFails, FileFails, StoreFails, JudgeFails, ReadFails}
-use Rattle.fip_driver.specs.Faults.{end_of, IsFault, Closes}
+use Rattle.fip_driver.specs.Turns.{end_of, IsFault, Closes}
 use Rattle.fip_driver.specs.Outcome.{compiled_end, IsInputFault, ReadOutcome, SourceOutcome, FileOutcome, AuditOutcome, CommandOutcome}
 use Rattle.fip_driver.proofs.Telling.{any_reported, held, bytes_of, longer, reported_fetch, reported_input, whole_of, more_left}
 

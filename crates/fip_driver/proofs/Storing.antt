@@ -10,7 +10,7 @@ use Rattle.command_outcome.specs.declared.failure.Object.TheVariants as O
 use Rattle.fip_driver.specs.Fetched.{StoreFails, StoreKeeps}
 use Rattle.command_answers.specs.Stored.{IsMadeBy, Stores}
 use Rattle.fip_driver.specs.Delivered.{Outcome}
-use Rattle.fip_driver.specs.Faults.{end_of}
+use Rattle.fip_driver.specs.Turns.{end_of}
 use Rattle.fip_driver.specs.Outcome.{AreKept}
 use Rattle.fip_driver.proofs.SourceEnds.{rose_later}
 

@@ -9,7 +9,8 @@ use Rattle.command_outcome.specs.Stages.{IsOfSource, IsOfRun, IsOfTasks, IsOfTra
 use Rattle.command_outcome.specs.Failures.{failure_status, failure_text}
 use Rattle.command_outcome.specs.Texts.{no_memory_text}
 use Rattle.fip_driver.specs.Delivered.{Seen, Reported, ReportedFailure, Delivered, Outcome}
-use Rattle.fip_driver.specs.Faults.{IsBeforeInput, IsBeforeTrace, IsBeforeInputOf, HadInput, LeavesInput, IsEarly, MayHaveRead, HasRead, HasCalled, AreAfter}
+use Rattle.fip_driver.specs.Faults.{LeavesInput, IsEarly, MayHaveRead, HasRead, HasCalled, AreAfter}
+use Rattle.fip_driver.specs.Turns.{IsBeforeInput, IsBeforeTrace, IsBeforeInputOf, HadInput}
 use Rattle.fip_driver.specs.Outcome.{AreKept, IsBeforeSource, HadFolder, IsRefused}
 use Rattle.command_answers.specs.Asks.{ReadsInput, CallsNoFolder, ComesToInput}
 use Rattle.fip_driver.specs.Fetched.{FetchFails, StoreFails, ReadFails, IsEarlyFailure, IsLateFailure}

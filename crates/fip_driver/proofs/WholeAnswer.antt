@@ -8,7 +8,7 @@ use Rattle.fip_outside.specs.Faults.{Rose}
 use Rattle.fip_outside.specs.Files.{File}
 use Rattle.command_outcome.specs.Texts.{no_memory_text}
 use Rattle.fip_driver.specs.Delivered.{Seen, Tried, Reported, ReportedFailure, Delivered}
-use Rattle.fip_driver.specs.Faults.{end_of, IsFault, IsUnasked, Closes}
+use Rattle.fip_driver.specs.Turns.{end_of, IsFault, IsUnasked, Closes}
 use Rattle.command_answers.specs.Answer.{Shows, ComesTo, IsAnswer, host, Answered}
 use Rattle.command_answers.specs.Asks.{ComesToInput, stored_name}
 use Rattle.command_answers.specs.Exec.{End}

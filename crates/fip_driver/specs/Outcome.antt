@@ -3,15 +3,9 @@ use Rattle.std.specs.Prelude.{◌≡◌, ◌⊎◌, ℕ, ◌<◌, ◌≤◌, Boo
 use Rattle.std.specs.declared.vec.Vec.{Vec}
 use Rattle.std.specs.declared.alloc.Global.{Global}
 use Rattle.fip_language.specs.declared.limits.TheConstants.{MOST_FILE_BYTES}
-use Rattle.fip_base.specs.declared.refusal.Refusal.{Refusal}
 use Rattle.fip_outside.specs.Files.{File}
-use Rattle.code_verify.specs.Checked.{Checked}
 use Rattle.command_words.specs.Words.{Command, IsCommand}
-use Rattle.command_answers.specs.command_tasks.code_file.CodeText.{CodeText}
-use Rattle.command_answers.specs.command_tasks.code_file.Plain.{plain_code}
-use Rattle.command_answers.specs.command_tasks.code_file.declared.tags.Version.TheVariants.{Second}
-use Rattle.command_answers.specs.command_library.command_source.Codes.{IsUnspelt}
-use Rattle.command_answers.specs.command_library.command_source.Wanted.{Wanted, Lawful, IsReady, Refuses}
+use Rattle.command_answers.specs.command_library.command_source.Wanted.{Wanted, IsReady}
 use Rattle.command_answers.specs.command_library.command_source.declared.files.Compiled.{Compiled}
 use Rattle.command_answers.specs.command_library.command_run.declared.running.Left.{Left}
 use Rattle.command_outcome.specs.declared.failure.Failure.{Failure}
@@ -22,7 +16,7 @@ use Rattle.command_answers.specs.Ends.{OnSource, OnCode}
 use Rattle.command_answers.specs.Exec.{End}
 use Rattle.command_answers.specs.Stored.{IsReported, IsStored, IsUnstored}
 use Rattle.fip_driver.specs.Delivered.{Outcome}
-use Rattle.fip_driver.specs.Faults.{IsFault, Closes, IsUntoldAudit, WordsOutcome}
+use Rattle.fip_driver.specs.Turns.{IsFault, Closes, IsUntoldAudit, WordsOutcome}
 use Rattle.fip_driver.specs.Left.{LeavesCells, LeftBy}
 
 -- it has a result
@@ -34,16 +28,6 @@ IsDone (Err failure) = ⊥
 abbrev pub IsRefused : Outcome → Type 0
 IsRefused (Err (F.Refused r)) = Unit {0}
 IsRefused o = ⊥
-
--- The file is that of just the code that was made, and isn't too long.
-abbrev pub IsFileOfMade : Option Checked → List ℕ → Type 0
-IsFileOfMade None file = ⊥
-IsFileOfMade (Some v) file = CodeText file Second (plain_code v.code) × (length file ≤ MOST_FILE_BYTES)
-
--- why none is stored: just this code has no file that isn't too long; or none was made, since the source is refused
-abbrev pub KeepsFromFile : List ℕ → Option Checked → Refusal → Type 0
-KeepsFromFile source None r = Refuses source Lawful r
-KeepsFromFile source (Some v) r = IsUnspelt (plain_code v.code)
 
 -- the words are refused
 abbrev pub IsBeforeSource : Outcome → Type 0

@@ -1,5 +1,5 @@
 // What a command comes to: one arm for each, which says in what order the objects of a host are called.
-ghost use Rattle.std.specs.Prelude.{◌≡◌, ◌⊎◌, ℕ, List, OnOk};
+ghost use Rattle.std.specs.Prelude.{◌≡◌, ◌⊎◌, ℕ, List, OnOk, None};
 ghost use Rattle.std.specs.Io.KnownBytes.{IsAtEnd};
 ghost use Rattle.fip_outside.specs.Faults.{Rose};
 ghost use Rattle.command_words.specs.Words.{IsCommand};
@@ -7,7 +7,8 @@ ghost use Rattle.command_words.specs.View.{command_of};
 ghost use Rattle.command_answers.specs.Asks.{ReadsInput, CallsNoFolder, ComesToInput, stored_name};
 ghost use Rattle.command_answers.specs.command_library.command_run.CodeRun.{is_run_end};
 ghost use Rattle.command_answers.specs.command_trace.TraceAnswer.{code_of};
-ghost use Rattle.fip_driver.specs.Faults.{IsCounted, IsBeforeInputOf};
+ghost use Rattle.fip_driver.specs.Turns.{IsCounted, IsBeforeInputOf};
+ghost use Rattle.fip_driver.specs.HandedOut.{HasCode, bytes_in};
 ghost use Rattle.fip_driver.specs.Made.{MadeBy};
 ghost use Rattle.fip_driver.specs.Outcome.{CommandOutcome, AreKept, IsBeforeSource, IsDone, IsRefused, Leaves};
 
@@ -23,13 +24,15 @@ use command_words::Command;
 use fip_outside::outside::{Folder, Source};
 use std::alloc::Global;
 
-/// What a command comes to. The code that `compile` or `trace` made is handed out, or it is the one that is left.
+/// What a command comes to. What a command that stores fetched is handed out, and the code that `compile` or `trace` made, or
+/// it is the one that is left.
 pub fn answer<F: Folder, S: Source>(
     alloc: Global,
     command: &Command<'_>,
     folder: &mut F,
     input: &mut S,
     left: &mut Option<Left>,
+    fetched: &mut Option<Vec<u8>>,
     made: &mut Option<Verified>,
 ) -> Result<Vec<u8>, Failure>
     requires asked { (words : List (List ℕ)) × IsCommand words (command_of command.now) }
@@ -47,23 +50,20 @@ pub fn answer<F: Folder, S: Source>(
     ensures left { Leaves (command_of command.now) (F.files folder.old) (S.left input.old) (is_run_end result)
         left.new }
     ensures made { MadeBy (command_of command.now) (F.files folder.old) (F.files folder.new) (S.left input.old)
-        (IsDone result) (IsRefused result) (code_of left.new made.new) }
+        (IsDone result) (IsRefused result) (bytes_in fetched.new) (code_of left.new made.new) }
+    ensures only { (made.new ≡ None) ⊎ ((left.new ≡ None) × HasCode (command_of command.now)) }
 {
     *left = None;
+    *fetched = None;
     *made = None;
     match command {
         Command::Check { file } => check(alloc, file, folder),
-        Command::Compile { file, out } => compile(alloc, file, out, folder, made),
+        Command::Compile { file, out } => compile(alloc, file, out, folder, fetched, made),
         Command::Verify { file } => verify(alloc, file, folder),
-        Command::Upgrade { file, out } => upgrade(alloc, file, out, folder),
+        Command::Upgrade { file, out } => upgrade(alloc, file, out, folder, fetched),
         Command::Exec { request } => exec(alloc, request, folder, input, left),
         Command::Run { request } => run(alloc, request, folder, input, left),
-        Command::Eval {
-            file,
-            entry,
-            calls,
-            frames,
-        } => eval(alloc, file, entry, *calls, *frames, folder, input),
+        Command::Eval { file, entry, room } => eval(alloc, file, entry, *room, folder, input),
         Command::Library { name } => command_answers::library(alloc, name),
         Command::Gen { seed, count } => command_answers::generate(alloc, *seed, *count, left),
         Command::Trace {
@@ -71,7 +71,9 @@ pub fn answer<F: Folder, S: Source>(
             entry,
             out,
             room,
-        } => trace(alloc, file, entry, out, *room, folder, input, left, made),
+        } => trace(
+            alloc, file, entry, out, *room, folder, input, left, fetched, made,
+        ),
         Command::Session { file, room } => session(alloc, file, *room, folder, input),
         Command::Tasks {
             file,
@@ -79,7 +81,7 @@ pub fn answer<F: Folder, S: Source>(
             turns,
             room,
         } => tasks(alloc, file, *seed, *turns, *room, folder, input),
-        Command::Derive { file, out } => derive(alloc, file, out, folder),
+        Command::Derive { file, out } => derive(alloc, file, out, folder, fetched),
         Command::Audit { file, proof } => audit(alloc, file, proof, folder),
         Command::Replay { trace, step } => replay(alloc, trace, *step, folder),
     }

@@ -6,8 +6,10 @@ ghost use Rattle.command_words.specs.Words.{Command, IsCommand};
 ghost use Rattle.command_answers.specs.command_library.command_run.CodeRun.{is_run_end};
 ghost use Rattle.command_answers.specs.command_trace.TraceAnswer.{code_of};
 ghost use Rattle.command_answers.specs.Asks.{stored_name};
-ghost use Rattle.fip_driver.specs.Faults.{HadInput, IsCounted, LeavesInput, WordsOutcome};
+ghost use Rattle.fip_driver.specs.Faults.{LeavesInput};
+ghost use Rattle.fip_driver.specs.Turns.{HadInput, IsCounted, WordsOutcome};
 ghost use Rattle.fip_driver.specs.Left.{LeavesFor, is_run_status};
+ghost use Rattle.fip_driver.specs.HandedOut.{HandsOut, bytes_in};
 ghost use Rattle.fip_driver.specs.Made.{MadeBy};
 ghost use Rattle.fip_driver.specs.Outcome.{AreKept, HadFolder, IsDone, IsRefused};
 
@@ -21,13 +23,15 @@ use fip_base::plain::Status;
 use fip_outside::outside::{Folder, Source};
 use std::alloc::Global;
 
-/// What the words come to. The code that `compile` or `trace` made is handed out, or it is the one that is left.
+/// What the words come to. What a command that stores fetched is handed out, and the code that `compile` or `trace` made, or it
+/// is the one that is left.
 pub fn outcome<F: Folder, S: Source>(
     alloc: Global,
     words: &[String],
     folder: &mut F,
     input: &mut S,
     left: &mut Option<Left>,
+    fetched: &mut Option<Vec<u8>>,
     made: &mut Option<Verified>,
 ) -> Result<Vec<u8>, Failure>
     ensures outcome { WordsOutcome (map string_bytes words.now) (F.files folder.old) (S.left input.old)
@@ -42,12 +46,15 @@ pub fn outcome<F: Folder, S: Source>(
     ensures left { LeavesFor (map string_bytes words.now) (F.files folder.old) (S.left input.old) (is_run_end result)
         left.new }
     ensures made { (c : Command) → IsCommand (map string_bytes words.now) c → MadeBy c (F.files folder.old)
-        (F.files folder.new) (S.left input.old) (IsDone result) (IsRefused result) (code_of left.new made.new) }
+        (F.files folder.new) (S.left input.old) (IsDone result) (IsRefused result)
+        (bytes_in fetched.new) (code_of left.new made.new) }
+    ensures only { (made.new ≡ None) ⊎ HandsOut (map string_bytes words.now) left.new }
 {
     *left = None;
+    *fetched = None;
     *made = None;
     match read_words(alloc, words) {
-        Ok(command) => answer(alloc, &command, folder, input, left, made),
+        Ok(command) => answer(alloc, &command, folder, input, left, fetched, made),
         Err(WordsError::NotUnderstood) => Err(Failure::NotUnderstood),
         Err(WordsError::NoMemory) => Err(Failure::NoMemory),
     }
@@ -58,6 +65,7 @@ pub fn hand_out(status: Status, left: &mut Option<Left>, made: &mut Option<Verif
     ensures ended { is_run_status status.0 ≡ true → left.new ≡ left.old }
     ensures none { is_run_status status.0 ≡ false → left.new ≡ None }
     ensures code { code_of left.new made.new ≡ code_of left.old made.old }
+    ensures kept { is_run_status status.0 ≡ true → made.new ≡ made.old }
 {
     match status.0 {
         0 | 3 | 4 | 7 => {}

@@ -1,29 +1,25 @@
 // What the commands come to that fetch one file: which object is called when.
-ghost use Rattle.std.specs.Prelude.{◌≡◌, ◌⊎◌, ◌≤◌, ℕ, List, Option, IfOk, IfErr, IfSome, OnOk, Some};
+ghost use Rattle.std.specs.Prelude.{◌≡◌, ◌⊎◌, ℕ, List, Option, IfOk, IfErr, IfSome, OnOk, Some};
 ghost use Rattle.std.specs.Io.KnownBytes.{IsAtEnd};
-ghost use Rattle.fip_language.specs.declared.limits.TheConstants.{MOST_FRAMES};
 ghost use Rattle.fip_outside.specs.Faults.{Rose};
 ghost use Rattle.fip_trees.specs.TreeView as V;
+ghost use Rattle.code_verify.specs.Checked.{Checked as a_code};
 ghost use Rattle.command_words.specs.Words as W;
-ghost use Rattle.command_outcome.specs.Stages.{IsOfSource};
-ghost use Rattle.command_answers.specs.command_tasks.code_file.Plain.{plain_code};
 ghost use Rattle.command_answers.specs.command_library.command_source.Entries.{IsRootedIn};
-ghost use Rattle.command_answers.specs.command_library.command_source.ProgramCode.{IsCodeOfSource, IsCompiledFile, KeepsFromCompile};
-ghost use Rattle.command_answers.specs.command_library.command_source.Roots.{IsListing};
-ghost use Rattle.command_answers.specs.command_library.command_source.Wanted.{IsRefusedBy};
 ghost use Rattle.command_answers.specs.command_library.command_eval.EvalAnswer.{Evaluates};
 ghost use Rattle.command_answers.specs.Asks.{ComesToInput};
-ghost use Rattle.fip_driver.specs.Faults.{IsCounted, end_of, IsBeforeInput};
+ghost use Rattle.fip_driver.specs.Turns.{IsCounted, end_of, IsBeforeInput};
+ghost use Rattle.fip_driver.specs.HandedOut.{bytes_in};
 ghost use Rattle.fip_driver.specs.Made.{MadeBy};
 ghost use Rattle.fip_driver.specs.Outcome.{FileOutcome, ReadOutcome, AreKept, IsBeforeSource, IsDone, IsRefused};
-ghost use Rattle.fip_driver.specs.Outcome.{IsFileOfMade, KeepsFromFile};
 
 use crate::fetched::{fetch_code, fetch_source, read_input};
 use crate::stored::store;
 use code_verify::Verified;
-use command_answers::source::{Compiled, Evaluable, Front};
+use command_answers::source::Evaluable;
 use command_outcome::Failure;
 use fip_outside::outside::{Folder, Source};
+use fip_room::Room;
 use std::alloc::Global;
 
 /// The lines of a source that breaks no rule.
@@ -40,35 +36,14 @@ pub fn check<F: Folder>(alloc: Global, file: &str, folder: &mut F) -> Result<Vec
     }
 }
 
-// The file of the code that is made of a source, and the lines of `check`: what `file_of` makes of the code of `front`.
-// The code is handed out, also with E61; none where `front` gives none.
-fn made_file(alloc: Global, source: &[u8], made: &mut Option<Verified>) -> Result<Compiled, Failure>
-    ensures listed { IfOk result (λ c. IsListing source.now c.text.items) }
-    ensures stored { IfOk result (λ c. IsCompiledFile source.now c.file.items) }
-    ensures kept { IfErr result (KeepsFromCompile source.now) }
-    ensures made { IfSome made.new (λ v. IsCodeOfSource source.now (plain_code v.code)) }
-    ensures own { IfOk result (λ c. IsFileOfMade made.new c.file.items) }
-    ensures unspelt { IfErr result (IsRefusedBy (KeepsFromFile source.now made.new)) }
-    ensures stage { IfErr result IsOfSource }
-{
-    *made = None;
-    match command_answers::source::front(alloc, source) {
-        Ok(front) => {
-            let end = command_answers::source::file_of(alloc, &front);
-            let Front { verified, .. } = front;
-            *made = Some(verified);
-            end
-        }
-        Err(failure) => Err(failure),
-    }
-}
-
-/// Stores the code of a source that breaks no rule; its lines. The code that was made is handed out, where one was.
+/// Stores the code of a source that breaks no rule; its lines. The source that was fetched is handed out, and the code
+/// that was made of it, where one was.
 pub fn compile<F: Folder>(
     alloc: Global,
     file: &str,
     out: &str,
     folder: &mut F,
+    fetched: &mut Option<Vec<u8>>,
     made: &mut Option<Verified>,
 ) -> Result<Vec<u8>, Failure>
     ensures outcome { (left : Option (List ℕ)) → FileOutcome (W.Compile file.now out.now) (F.files folder.old) left
@@ -78,13 +53,20 @@ pub fn compile<F: Folder>(
     ensures counted { IsCounted (F.files folder.old) (Rose (F.faults folder.old) (F.faults folder.new)) result }
     ensures understood { IsBeforeSource result → ⊥ }
     ensures made { (reported : Option (List ℕ)) → MadeBy (W.Compile file.now out.now) (F.files folder.old)
-        (F.files folder.new) reported (IsDone result) (IsRefused result) made.new }
+        (F.files folder.new) reported (IsDone result) (IsRefused result) (bytes_in fetched.new) made.new }
 {
+    *fetched = None;
     *made = None;
     match fetch_source(alloc, folder, file) {
-        Ok(bytes) => match made_file(alloc, bytes.as_slice(), made) {
-            Ok(compiled) => store(folder, out, compiled),
-            Err(failure) => Err(failure),
+        Ok(bytes) => match command_answers::source::compile(alloc, bytes.as_slice(), made) {
+            Ok(compiled) => {
+                *fetched = Some(bytes);
+                store(folder, out, compiled)
+            }
+            Err(failure) => {
+                *fetched = Some(bytes);
+                Err(failure)
+            }
         },
         Err(failure) => Err(failure),
     }
@@ -104,12 +86,13 @@ pub fn verify<F: Folder>(alloc: Global, file: &str, folder: &mut F) -> Result<Ve
     }
 }
 
-/// Stores a sound code file in the second version; its lines.
+/// Stores a sound code file in the second version; its lines. The file that was fetched is handed out.
 pub fn upgrade<F: Folder>(
     alloc: Global,
     file: &str,
     out: &str,
     folder: &mut F,
+    fetched: &mut Option<Vec<u8>>,
 ) -> Result<Vec<u8>, Failure>
     ensures outcome { (left : Option (List ℕ)) → FileOutcome (W.Upgrade file.now out.now) (F.files folder.old) left
         (Rose (F.faults folder.old) (F.faults folder.new)) ⊥ (end_of result) }
@@ -117,11 +100,20 @@ pub fn upgrade<F: Folder>(
         (Rose (F.faults folder.old) (F.faults folder.new)) (F.files folder.old) (F.files folder.new) result }
     ensures counted { IsCounted (F.files folder.old) (Rose (F.faults folder.old) (F.faults folder.new)) result }
     ensures understood { IsBeforeSource result → ⊥ }
+    ensures made { (reported : Option (List ℕ)) (made : Option a_code) → MadeBy (W.Upgrade file.now out.now)
+        (F.files folder.old) (F.files folder.new) reported (IsDone result) (IsRefused result) (bytes_in fetched.new) made }
 {
+    *fetched = None;
     match fetch_code(folder, file) {
         Ok(bytes) => match command_answers::source::upgrade(alloc, bytes.as_slice()) {
-            Ok(compiled) => store(folder, out, compiled),
-            Err(failure) => Err(failure),
+            Ok(compiled) => {
+                *fetched = Some(bytes);
+                store(folder, out, compiled)
+            }
+            Err(failure) => {
+                *fetched = Some(bytes);
+                Err(failure)
+            }
         },
         Err(failure) => Err(failure),
     }
@@ -131,14 +123,12 @@ pub fn upgrade<F: Folder>(
 fn evaluate<S: Source>(
     alloc: Global,
     program: Evaluable,
-    calls: u64,
-    frames: u64,
+    room: Room,
     input: &mut S,
 ) -> Result<Vec<u8>, Failure>
-    requires frames { frames ≤ MOST_FRAMES }
     ensures outcome { (source name : List ℕ) →
         IsRootedIn source name (V.program program.typed.program) program.entry →
-        ReadOutcome (λ bytes. Evaluates source name bytes calls frames) (S.left input.old)
+        ReadOutcome (λ bytes. Evaluates source name bytes room.calls room.frames) (S.left input.old)
         (Rose (S.faults input.old) (S.faults input.new)) (end_of result) }
     ensures read { OnOk result (IsAtEnd (S.left input.new)) }
     ensures late { IsBeforeInput result → ⊥ }
@@ -148,8 +138,8 @@ fn evaluate<S: Source>(
             alloc,
             program,
             bytes.as_slice(),
-            calls,
-            frames as usize,
+            room.calls,
+            room.frames,
         ),
         Err(failure) => Err(failure),
     }
@@ -160,25 +150,23 @@ pub fn eval<F: Folder, S: Source>(
     alloc: Global,
     file: &str,
     entry: &str,
-    calls: u64,
-    frames: u64,
+    room: Room,
     folder: &mut F,
     input: &mut S,
 ) -> Result<Vec<u8>, Failure>
-    requires frames { frames ≤ MOST_FRAMES }
-    ensures outcome { FileOutcome (W.Eval file.now entry.now calls frames) (F.files folder.old) (S.left input.old)
+    ensures outcome { FileOutcome (W.Eval file.now entry.now room.calls room.frames) (F.files folder.old) (S.left input.old)
         (Rose (F.faults folder.old) (F.faults folder.new)) (Rose (S.faults input.old) (S.faults input.new))
         (end_of result) }
     ensures read { OnOk result (IsAtEnd (S.left input.new)) }
     ensures before { IsBeforeInput result → input.new ≡ input.old }
-    ensures waits { (input.new ≡ input.old) ⊎ ComesToInput (W.Eval file.now entry.now calls frames) (F.files folder.old) }
+    ensures waits { (input.new ≡ input.old) ⊎ ComesToInput (W.Eval file.now entry.now room.calls room.frames) (F.files folder.old) }
     ensures counted { IsCounted (F.files folder.old) (Rose (F.faults folder.old) (F.faults folder.new)) result }
     ensures understood { IsBeforeSource result → ⊥ }
     ensures files { F.files folder.new ≡ F.files folder.old }
 {
     match fetch_source(alloc, folder, file) {
         Ok(source) => match command_answers::source::eval_entry(alloc, source.as_slice(), entry) {
-            Ok(program) => evaluate(alloc, program, calls, frames, input),
+            Ok(program) => evaluate(alloc, program, room, input),
             Err(failure) => Err(failure),
         },
         Err(failure) => Err(failure),

@@ -2,13 +2,17 @@
 ghost use Rattle.std.specs.Prelude.{◌≡◌, ◌≤◌, ℕ, List, Option, IfOk, IfErr, OnOk, Some};
 ghost use Rattle.fip_outside.specs.Faults.{Rose};
 ghost use Rattle.fip_outside.specs.Files.{HoldsFile};
+ghost use Rattle.code_verify.specs.Checked.{Checked as a_code};
 ghost use Rattle.command_words.specs.Words as W;
 ghost use Rattle.command_outcome.specs.Successes.{derived_text};
 ghost use Rattle.fip_trees.specs.TreeView as V;
 ghost use Rattle.command_answers.specs.command_library.command_source.Judged.{IsProofOf, IsRejectedOf};
 ghost use Rattle.fip_driver.specs.Fetched.{JudgeFails};
-ghost use Rattle.fip_driver.specs.Faults.{IsCounted, end_of};
+ghost use Rattle.fip_driver.specs.Turns.{IsCounted, end_of};
+ghost use Rattle.fip_driver.specs.HandedOut.{bytes_in};
+ghost use Rattle.fip_driver.specs.Made.{MadeBy};
 ghost use Rattle.fip_driver.specs.Outcome.{AuditOutcome, FileOutcome, AreKept, IsBeforeSource};
+ghost use Rattle.fip_driver.specs.Outcome.{IsDone, IsRefused};
 
 use crate::fetched::{fetch_proof, fetch_source};
 use crate::stored::store;
@@ -17,12 +21,14 @@ use fip_outside::outside::Folder;
 use fip_trees::program::Typed;
 use std::alloc::Global;
 
-/// Stores the derivation of a source that breaks no rule; the line that it is derived.
+/// Stores the derivation of a source that breaks no rule; the line that it is derived. The source that was fetched is handed
+/// out.
 pub fn derive<F: Folder>(
     alloc: Global,
     file: &str,
     out: &str,
     folder: &mut F,
+    fetched: &mut Option<Vec<u8>>,
 ) -> Result<Vec<u8>, Failure>
     ensures outcome { (left : Option (List ℕ)) → FileOutcome (W.Derive file.now out.now) (F.files folder.old) left
         (Rose (F.faults folder.old) (F.faults folder.new)) ⊥ (end_of result) }
@@ -30,11 +36,20 @@ pub fn derive<F: Folder>(
         (Rose (F.faults folder.old) (F.faults folder.new)) (F.files folder.old) (F.files folder.new) result }
     ensures counted { IsCounted (F.files folder.old) (Rose (F.faults folder.old) (F.faults folder.new)) result }
     ensures understood { IsBeforeSource result → ⊥ }
+    ensures made { (reported : Option (List ℕ)) (made : Option a_code) → MadeBy (W.Derive file.now out.now)
+        (F.files folder.old) (F.files folder.new) reported (IsDone result) (IsRefused result) (bytes_in fetched.new) made }
 {
+    *fetched = None;
     match fetch_source(alloc, folder, file) {
         Ok(bytes) => match command_answers::source::derive(alloc, bytes.as_slice()) {
-            Ok(derived) => store(folder, out, derived),
-            Err(failure) => Err(failure),
+            Ok(derived) => {
+                *fetched = Some(bytes);
+                store(folder, out, derived)
+            }
+            Err(failure) => {
+                *fetched = Some(bytes);
+                Err(failure)
+            }
         },
         Err(failure) => Err(failure),
     }

@@ -1,7 +1,6 @@
 // What running an entry comes to: a source's and a code's.
-ghost use Rattle.std.specs.Prelude.{◌≡◌, ◌⊎◌, ◌≤◌, ℕ, List, OnOk};
+ghost use Rattle.std.specs.Prelude.{◌≡◌, ◌⊎◌, ℕ, List, OnOk};
 ghost use Rattle.std.specs.Io.KnownBytes.{IsAtEnd};
-ghost use Rattle.fip_language.specs.declared.limits.TheConstants.{MOST_FRAMES, MOST_STORE_WORDS};
 ghost use Rattle.fip_outside.specs.Faults.{Rose};
 ghost use Rattle.command_words.specs.View.{room_of, request_of};
 ghost use Rattle.command_words.specs.Words as W;
@@ -11,7 +10,7 @@ ghost use Rattle.command_answers.specs.command_library.command_source.Wanted.{Co
 ghost use Rattle.command_answers.specs.command_library.command_run.CodeRun.{is_run_end, RunsCode};
 ghost use Rattle.command_answers.specs.command_library.command_run.ExecAnswer.{Execs};
 ghost use Rattle.command_answers.specs.Asks.{ComesToInput};
-ghost use Rattle.fip_driver.specs.Faults.{IsCounted, end_of, IsBeforeInput};
+ghost use Rattle.fip_driver.specs.Turns.{IsCounted, end_of, IsBeforeInput};
 ghost use Rattle.fip_driver.specs.Left.{LeftOn};
 ghost use Rattle.fip_driver.specs.Outcome.{FileOutcome, ReadOutcome, IsBeforeSource, Leaves, Remains};
 
@@ -19,8 +18,9 @@ use crate::fetched::{fetch_code, fetch_source, read_input};
 use command_answers::runner::{self, Left};
 use command_answers::source::Ready;
 use command_outcome::Failure;
-use command_words::{Room, RunRequest};
+use command_words::RunRequest;
 use fip_outside::outside::{Folder, Source};
+use fip_room::Room;
 use std::alloc::Global;
 
 // Reads the input and runs the entry of a verified code.
@@ -32,8 +32,6 @@ fn run_ready<S: Source>(
     input: &mut S,
     left: &mut Option<Left>,
 ) -> Result<Vec<u8>, Failure>
-    requires words { room.words ≤ MOST_STORE_WORDS }
-    requires frames { room.frames ≤ MOST_FRAMES }
     ensures means { (source name : List ℕ) → IsReady source (Compiled name) → IsEntryOf source name ready →
         ReadOutcome (λ bytes. Execs source name bytes (room_of room) gauge) (S.left input.old)
         (Rose (S.faults input.old) (S.faults input.new)) (end_of result) }
@@ -62,8 +60,6 @@ pub fn exec<F: Folder, S: Source>(
     input: &mut S,
     left: &mut Option<Left>,
 ) -> Result<Vec<u8>, Failure>
-    requires words { request.now.room.words ≤ MOST_STORE_WORDS }
-    requires frames { request.now.room.frames ≤ MOST_FRAMES }
     ensures outcome { FileOutcome (W.Exec (request_of request.now)) (F.files folder.old) (S.left input.old)
         (Rose (F.faults folder.old) (F.faults folder.new)) (Rose (S.faults input.old) (S.faults input.new))
         (end_of result) }
@@ -98,8 +94,6 @@ pub fn run<F: Folder, S: Source>(
     input: &mut S,
     left: &mut Option<Left>,
 ) -> Result<Vec<u8>, Failure>
-    requires words { request.now.room.words ≤ MOST_STORE_WORDS }
-    requires frames { request.now.room.frames ≤ MOST_FRAMES }
     ensures outcome { FileOutcome (W.Run (request_of request.now)) (F.files folder.old) (S.left input.old)
         (Rose (F.faults folder.old) (F.faults folder.new)) (Rose (S.faults input.old) (S.faults input.new))
         (end_of result) }

@@ -51,11 +51,23 @@ pub fn fp2<F: Folder, S: Source, O: Sink, E: Sink>(
     // Just where a run ended something is left: the code that ran, and the cells of the last state of its run.
     ensures left { LeavesFor (map string_bytes words.now) (F.files folder.old) (S.left input.old)
         (is_run_status result.0) left.new }
-    // Just the code that `compile` or `trace` made decides what is stored, and where E61 or E75 is reported. It is the one that
-    // is left, or else some code; `fp2_with_code` hands it out.
+    // Just what was fetched, and the code that `compile` or `trace` made of it, decides what is stored, and where E61 or E75 is
+    // reported; where nothing was fetched no file changes. The code is the one that is left, or else some code;
+    // `fp2_with_code` hands both out.
     ensures made { SomeCode left.new (MadeFor (map string_bytes words.now) (F.files folder.old) (F.files folder.new)
         (S.left input.old) result.0) }
 {
+    let mut fetched = None;
     let mut made = None;
-    fp2_with_code(alloc, words, folder, input, out, err, left, &mut made)
+    fp2_with_code(
+        alloc,
+        words,
+        folder,
+        input,
+        out,
+        err,
+        left,
+        &mut fetched,
+        &mut made,
+    )
 }

@@ -1,7 +1,7 @@
 // What sessions and tasks come to: which object is called when.
 ghost use Rattle.std.specs.Prelude.{◌≡◌, ◌⊎◌, ◌≤◌, ℕ, List, length, OnOk};
 ghost use Rattle.std.specs.Io.KnownBytes.{IsAtEnd};
-ghost use Rattle.fip_language.specs.declared.limits.TheConstants.{MOST_FILE_BYTES, MOST_FRAMES, MOST_STORE_WORDS};
+ghost use Rattle.fip_language.specs.declared.limits.TheConstants.{MOST_FILE_BYTES};
 ghost use Rattle.fip_outside.specs.Faults.{Rose};
 ghost use Rattle.command_words.specs.View.{room_of};
 ghost use Rattle.command_words.specs.Words as W;
@@ -10,47 +10,27 @@ ghost use Rattle.command_answers.specs.command_tasks.Fronts.{IsFrontOf};
 ghost use Rattle.command_answers.specs.command_tasks.TasksAnswer.{TakesTurns};
 ghost use Rattle.command_answers.specs.Asks.{ComesToInput};
 ghost use Rattle.command_answers.specs.Ends.{Replies};
-ghost use Rattle.fip_driver.specs.Faults.{IsCounted, end_of, IsBeforeInput};
+ghost use Rattle.fip_driver.specs.Turns.{IsCounted, end_of, IsBeforeInput};
 ghost use Rattle.fip_driver.specs.Outcome.{FileOutcome, ReadOutcome, IsBeforeSource};
 
 use crate::fetched::{fetch_source, read_input};
 use command_answers::source::Front;
 use command_outcome::Failure;
-use command_words::Room;
 use fip_base::plain::NoMemory;
-use fip_language::limits::{MOST_FRAMES, MOST_STORE_WORDS};
 use fip_outside::outside::{Folder, Source};
+use fip_room::Room;
 use fip_session::session_reply;
 use std::alloc::Global;
 
-// The room of the runs of a session, with a store of at most 16,777,216 words and at most 1,000,000 frames.
-fn runs_room(room: Room) -> fip_session::Room
-    ensures words { result.words ≤ MOST_STORE_WORDS }
-    ensures frames { result.frames ≤ MOST_FRAMES }
-    ensures all_words { room.words ≤ MOST_STORE_WORDS → result.words ≡ room.words }
-    ensures all_calls { result.calls ≡ room.calls }
-    ensures all_frames { room.frames ≤ MOST_FRAMES → result.frames ≡ room.frames }
-{
-    let words = room.words.min(MOST_STORE_WORDS as u64) as usize;
-    let frames = room.frames.min(MOST_FRAMES as u64) as usize;
-    fip_session::Room {
-        words,
-        calls: room.calls,
-        frames,
-    }
-}
-
 // The replies to the lines of an input, each ended by LF. Nothing but want of memory ends a session early.
 fn replies(alloc: Global, front: &Front, input: &[u8], room: Room) -> Result<Vec<u8>, Failure>
-    requires words { room.words ≤ MOST_STORE_WORDS }
-    requires frames { room.frames ≤ MOST_FRAMES }
     ensures means { (source : List ℕ) → IsFrontOf source front.now → length input.now ≤ MOST_FILE_BYTES →
         OrNoMemory (Replies source input.now (room_of room)) result }
     ensures late { IsBeforeInput result → ⊥ }
 {
     // That the code's ints have 64 bits is reported where it is read.
     front.verified.code();
-    match session_reply(alloc, &front.typed, &front.verified, runs_room(room), input) {
+    match session_reply(alloc, &front.typed, &front.verified, room, input) {
         Ok(out) => Ok(out),
         Err(NoMemory) => Err(Failure::NoMemory),
     }
@@ -63,8 +43,6 @@ fn talk<S: Source>(
     room: Room,
     input: &mut S,
 ) -> Result<Vec<u8>, Failure>
-    requires words { room.words ≤ MOST_STORE_WORDS }
-    requires frames { room.frames ≤ MOST_FRAMES }
     ensures outcome { (source : List ℕ) → IsFrontOf source front.now →
         ReadOutcome (λ bytes. Replies source bytes (room_of room)) (S.left input.old)
         (Rose (S.faults input.old) (S.faults input.new)) (end_of result) }
@@ -85,8 +63,6 @@ pub fn session<F: Folder, S: Source>(
     folder: &mut F,
     input: &mut S,
 ) -> Result<Vec<u8>, Failure>
-    requires words { room.words ≤ MOST_STORE_WORDS }
-    requires frames { room.frames ≤ MOST_FRAMES }
     ensures outcome { FileOutcome (W.Session file.now (room_of room)) (F.files folder.old) (S.left input.old)
         (Rose (F.faults folder.old) (F.faults folder.new)) (Rose (S.faults input.old) (S.faults input.new))
         (end_of result) }
@@ -115,8 +91,6 @@ fn take_turns<S: Source>(
     room: Room,
     input: &mut S,
 ) -> Result<Vec<u8>, Failure>
-    requires words { room.words ≤ MOST_STORE_WORDS }
-    requires frames { room.frames ≤ MOST_FRAMES }
     ensures outcome { (source : List ℕ) → IsFrontOf source front.now →
         ReadOutcome (λ bytes. TakesTurns source bytes (room_of room)) (S.left input.old)
         (Rose (S.faults input.old) (S.faults input.new)) (end_of result) }
@@ -139,8 +113,6 @@ pub fn tasks<F: Folder, S: Source>(
     folder: &mut F,
     input: &mut S,
 ) -> Result<Vec<u8>, Failure>
-    requires words { room.words ≤ MOST_STORE_WORDS }
-    requires frames { room.frames ≤ MOST_FRAMES }
     ensures outcome { FileOutcome (W.Tasks file.now seed turns (room_of room)) (F.files folder.old) (S.left input.old)
         (Rose (F.faults folder.old) (F.faults folder.new)) (Rose (S.faults input.old) (S.faults input.new))
         (end_of result) }

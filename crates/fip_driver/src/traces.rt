@@ -1,7 +1,6 @@
 // What the commands on traces come to: which object is called when.
-ghost use Rattle.std.specs.Prelude.{◌≡◌, ◌⊎◌, ◌≤◌, ℕ, List, Option, IfOk, IfErr, OnOk, OnErr, None, Some};
+ghost use Rattle.std.specs.Prelude.{◌≡◌, ◌⊎◌, ℕ, List, Option, IfOk, IfErr, OnOk, OnErr, None, Some};
 ghost use Rattle.std.specs.Io.KnownBytes.{IsAtEnd};
-ghost use Rattle.fip_language.specs.declared.limits.TheConstants.{MOST_FRAMES, MOST_STORE_WORDS};
 ghost use Rattle.fip_outside.specs.Faults.{Rose};
 ghost use Rattle.command_words.specs.View.{room_of};
 ghost use Rattle.command_words.specs.Words as W;
@@ -11,11 +10,12 @@ ghost use Rattle.command_answers.specs.command_library.command_run.CodeRun.{is_r
 ghost use Rattle.command_answers.specs.Asks.{ComesToInput};
 ghost use Rattle.command_answers.specs.Ends.{TracesTo};
 ghost use Rattle.command_answers.specs.Stored.{IsReported, IsTraceFile};
-ghost use Rattle.command_answers.specs.command_library.code_rules.Codes.{plain};
+ghost use Rattle.code_verify.specs.cell_code.Plain.{plain};
 ghost use Rattle.command_answers.specs.command_trace.TraceAnswer.{TracesRun, code_of};
 ghost use Rattle.fip_driver.specs.Fetched.{IsLateFailure, StoreFails, StoreKeeps};
-ghost use Rattle.fip_driver.specs.Faults.{IsCounted, end_of, IsBeforeTrace};
+ghost use Rattle.fip_driver.specs.Turns.{IsCounted, end_of, IsBeforeTrace};
 ghost use Rattle.fip_driver.specs.Left.{LeftOn};
+ghost use Rattle.fip_driver.specs.HandedOut.{bytes_in};
 ghost use Rattle.fip_driver.specs.Made.{MadeBy};
 ghost use Rattle.fip_driver.specs.Outcome.{FileOutcome, ReadOutcome, compiled_end, AreKept, IsBeforeSource, Leaves, Remains};
 ghost use Rattle.fip_driver.specs.Outcome.{IsDone, IsRefused};
@@ -26,8 +26,8 @@ use code_verify::Verified;
 use command_answers::runner::Left;
 use command_answers::source::{Compiled, Ready};
 use command_outcome::Failure;
-use command_words::Room;
 use fip_outside::outside::{Folder, Source};
+use fip_room::Room;
 use std::alloc::Global;
 
 // Reads the input, runs the entry and keeps what it writes.
@@ -39,8 +39,6 @@ fn traced<S: Source>(
     left: &mut Option<Left>,
     made: &mut Option<Verified>,
 ) -> Result<Compiled, Failure>
-    requires words { room.words ≤ MOST_STORE_WORDS }
-    requires frames { room.frames ≤ MOST_FRAMES }
     ensures outcome { (source name : List ℕ) → IsReady source (compiled_entry name) → IsEntryOf source name ready →
         ReadOutcome (λ bytes. TracesTo source name bytes (room_of room)) (S.left input.old)
         (Rose (S.faults input.old) (S.faults input.new)) (compiled_end result) }
@@ -54,6 +52,7 @@ fn traced<S: Source>(
         (bytes : List ℕ) × IsReported (S.left input.old) bytes
         × TracesRun (plain ready.checked.code) ready.entry bytes (room_of room) result }
     ensures code { code_of left.new made.new ≡ Some ready.checked }
+    ensures apart { (left.new ≡ None) ⊎ (made.new ≡ None) }
 {
     *left = None;
     match read_input(alloc, input) {
@@ -90,6 +89,7 @@ fn store_leaving<F: Folder>(
     ensures left { OnOk result (left.new ≡ left.old) }
     ensures none { OnErr result (left.new ≡ None) }
     ensures code { code_of left.new made.new ≡ code_of left.old made.old }
+    ensures apart { (left.new ≡ None) ⊎ ((left.new ≡ left.old) × (made.new ≡ made.old)) }
 {
     match store(folder, name, compiled) {
         Ok(text) => Ok(text),
@@ -100,8 +100,8 @@ fn store_leaving<F: Folder>(
     }
 }
 
-/// Runs the entry of a source and stores the trace of the run; the lines of its results. The code that ran is handed out
-/// by itself where it isn't left.
+/// Runs the entry of a source and stores the trace of the run; the lines of its results. The source that was fetched is
+/// handed out, and the code that ran by itself where it isn't left.
 pub fn trace<F: Folder, S: Source>(
     alloc: Global,
     file: &str,
@@ -111,10 +111,9 @@ pub fn trace<F: Folder, S: Source>(
     folder: &mut F,
     input: &mut S,
     left: &mut Option<Left>,
+    fetched: &mut Option<Vec<u8>>,
     made: &mut Option<Verified>,
 ) -> Result<Vec<u8>, Failure>
-    requires words { room.words ≤ MOST_STORE_WORDS }
-    requires frames { room.frames ≤ MOST_FRAMES }
     ensures outcome { FileOutcome (W.Trace file.now entry.now out.now (room_of room)) (F.files folder.old)
         (S.left input.old) (Rose (F.faults folder.old) (F.faults folder.new))
         (Rose (S.faults input.old) (S.faults input.new)) (end_of result) }
@@ -129,17 +128,28 @@ pub fn trace<F: Folder, S: Source>(
     ensures left { Leaves (W.Trace file.now entry.now out.now (room_of room)) (F.files folder.old) (S.left input.old)
         (is_run_end result) left.new }
     ensures made { MadeBy (W.Trace file.now entry.now out.now (room_of room)) (F.files folder.old) (F.files folder.new)
-        (S.left input.old) (IsDone result) (IsRefused result) (code_of left.new made.new) }
+        (S.left input.old) (IsDone result) (IsRefused result) (bytes_in fetched.new) (code_of left.new made.new) }
+    ensures apart { (left.new ≡ None) ⊎ (made.new ≡ None) }
 {
     *left = None;
+    *fetched = None;
     *made = None;
     match fetch_source(alloc, folder, file) {
         Ok(source) => match command_answers::source::exec_entry(alloc, source.as_slice(), entry) {
             Ok(ready) => match traced(alloc, ready, room, input, left, made) {
-                Ok(compiled) => store_leaving(folder, out, compiled, left, made),
-                Err(failure) => Err(failure),
+                Ok(compiled) => {
+                    *fetched = Some(source);
+                    store_leaving(folder, out, compiled, left, made)
+                }
+                Err(failure) => {
+                    *fetched = Some(source);
+                    Err(failure)
+                }
             },
-            Err(failure) => Err(failure),
+            Err(failure) => {
+                *fetched = Some(source);
+                Err(failure)
+            }
         },
         Err(failure) => Err(failure),
     }

@@ -6,6 +6,7 @@ use Rattle.command_answers.specs.command_library.command_run.CodeRun.{is_run_end
 use Rattle.command_answers.specs.Asks.{stored_name, ComesToInput}
 use Rattle.fip_driver.specs.Outcome.{CommandOutcome, AreKept, IsDone, IsRefused, Leaves}
 use Rattle.command_answers.specs.command_trace.TraceAnswer.{code_of}
+use Rattle.fip_driver.specs.HandedOut.{HasCode, bytes_in}
 use Rattle.fip_driver.specs.Made.{MadeBy}
 use Rattle.fip_driver.proofs.Remains.{leaves_gen}
 use Rattle.command_words.specs.Words.{IsCommand, IsTextName}
@@ -180,46 +181,57 @@ returns-in-Gen-clause-left g c = subst (λ x. Leaves (command_of x) (g.F.Folder.
 -- ---- the code that was made
 
 pub returns-in-Check-clause-made : goal.returns-in-Check-clause-made
-returns-in-Check-clause-made g c = subst (λ x. MadeBy (command_of x) (g.F.Folder.files c.args.folder.now) (g.F.Folder.files c.check.new.folder) (g.S.Source.left c.args.input.now) (IsDone c.check.result) (IsRefused c.check.result) (code_of None None)) (sym c.in-Check.is) tt
+returns-in-Check-clause-made g c = subst (λ x. MadeBy (command_of x) (g.F.Folder.files c.args.folder.now) (g.F.Folder.files c.check.new.folder) (g.S.Source.left c.args.input.now) (IsDone c.check.result) (IsRefused c.check.result) (bytes_in None) (code_of None None)) (sym c.in-Check.is) refl
 
 pub returns-in-Compile-clause-made : goal.returns-in-Compile-clause-made
-returns-in-Compile-clause-made g c = subst (λ x. MadeBy (command_of x) (g.F.Folder.files c.args.folder.now) (g.F.Folder.files c.compile.new.folder) (g.S.Source.left c.args.input.now) (IsDone c.compile.result) (IsRefused c.compile.result) (code_of None c.compile.new.made)) (sym c.in-Compile.is) (c.compile.ensures.made (g.S.Source.left c.args.input.now))
+returns-in-Compile-clause-made g c = subst (λ x. MadeBy (command_of x) (g.F.Folder.files c.args.folder.now) (g.F.Folder.files c.compile.new.folder) (g.S.Source.left c.args.input.now) (IsDone c.compile.result) (IsRefused c.compile.result) (bytes_in c.compile.new.fetched) (code_of None c.compile.new.made)) (sym c.in-Compile.is) (c.compile.ensures.made (g.S.Source.left c.args.input.now))
 
 pub returns-in-Verify-clause-made : goal.returns-in-Verify-clause-made
-returns-in-Verify-clause-made g c = subst (λ x. MadeBy (command_of x) (g.F.Folder.files c.args.folder.now) (g.F.Folder.files c.verify.new.folder) (g.S.Source.left c.args.input.now) (IsDone c.verify.result) (IsRefused c.verify.result) (code_of None None)) (sym c.in-Verify.is) tt
+returns-in-Verify-clause-made g c = subst (λ x. MadeBy (command_of x) (g.F.Folder.files c.args.folder.now) (g.F.Folder.files c.verify.new.folder) (g.S.Source.left c.args.input.now) (IsDone c.verify.result) (IsRefused c.verify.result) (bytes_in None) (code_of None None)) (sym c.in-Verify.is) refl
 
 pub returns-in-Upgrade-clause-made : goal.returns-in-Upgrade-clause-made
-returns-in-Upgrade-clause-made g c = subst (λ x. MadeBy (command_of x) (g.F.Folder.files c.args.folder.now) (g.F.Folder.files c.upgrade.new.folder) (g.S.Source.left c.args.input.now) (IsDone c.upgrade.result) (IsRefused c.upgrade.result) (code_of None None)) (sym c.in-Upgrade.is) tt
+returns-in-Upgrade-clause-made g c = subst (λ x. MadeBy (command_of x) (g.F.Folder.files c.args.folder.now) (g.F.Folder.files c.upgrade.new.folder) (g.S.Source.left c.args.input.now) (IsDone c.upgrade.result) (IsRefused c.upgrade.result) (bytes_in c.upgrade.new.fetched) (code_of None None)) (sym c.in-Upgrade.is) (c.upgrade.ensures.made (g.S.Source.left c.args.input.now) (code_of None None))
 
 pub returns-in-Derive-clause-made : goal.returns-in-Derive-clause-made
-returns-in-Derive-clause-made g c = subst (λ x. MadeBy (command_of x) (g.F.Folder.files c.args.folder.now) (g.F.Folder.files c.derive.new.folder) (g.S.Source.left c.args.input.now) (IsDone c.derive.result) (IsRefused c.derive.result) (code_of None None)) (sym c.in-Derive.is) tt
+returns-in-Derive-clause-made g c = subst (λ x. MadeBy (command_of x) (g.F.Folder.files c.args.folder.now) (g.F.Folder.files c.derive.new.folder) (g.S.Source.left c.args.input.now) (IsDone c.derive.result) (IsRefused c.derive.result) (bytes_in c.derive.new.fetched) (code_of None None)) (sym c.in-Derive.is) (c.derive.ensures.made (g.S.Source.left c.args.input.now) (code_of None None))
 
 pub returns-in-Audit-clause-made : goal.returns-in-Audit-clause-made
-returns-in-Audit-clause-made g c = subst (λ x. MadeBy (command_of x) (g.F.Folder.files c.args.folder.now) (g.F.Folder.files c.audit.new.folder) (g.S.Source.left c.args.input.now) (IsDone c.audit.result) (IsRefused c.audit.result) (code_of None None)) (sym c.in-Audit.is) tt
+returns-in-Audit-clause-made g c = subst (λ x. MadeBy (command_of x) (g.F.Folder.files c.args.folder.now) (g.F.Folder.files c.audit.new.folder) (g.S.Source.left c.args.input.now) (IsDone c.audit.result) (IsRefused c.audit.result) (bytes_in None) (code_of None None)) (sym c.in-Audit.is) refl
 
 pub returns-in-Replay-clause-made : goal.returns-in-Replay-clause-made
-returns-in-Replay-clause-made g c = subst (λ x. MadeBy (command_of x) (g.F.Folder.files c.args.folder.now) (g.F.Folder.files c.replay.new.folder) (g.S.Source.left c.args.input.now) (IsDone c.replay.result) (IsRefused c.replay.result) (code_of None None)) (sym c.in-Replay.is) tt
+returns-in-Replay-clause-made g c = subst (λ x. MadeBy (command_of x) (g.F.Folder.files c.args.folder.now) (g.F.Folder.files c.replay.new.folder) (g.S.Source.left c.args.input.now) (IsDone c.replay.result) (IsRefused c.replay.result) (bytes_in None) (code_of None None)) (sym c.in-Replay.is) refl
 
 pub returns-in-Exec-clause-made : goal.returns-in-Exec-clause-made
-returns-in-Exec-clause-made g c = subst (λ x. MadeBy (command_of x) (g.F.Folder.files c.args.folder.now) (g.F.Folder.files c.exec.new.folder) (g.S.Source.left c.args.input.now) (IsDone c.exec.result) (IsRefused c.exec.result) (code_of c.exec.new.left None)) (sym c.in-Exec.is) tt
+returns-in-Exec-clause-made g c = subst (λ x. MadeBy (command_of x) (g.F.Folder.files c.args.folder.now) (g.F.Folder.files c.exec.new.folder) (g.S.Source.left c.args.input.now) (IsDone c.exec.result) (IsRefused c.exec.result) (bytes_in None) (code_of c.exec.new.left None)) (sym c.in-Exec.is) refl
 
 pub returns-in-Run-clause-made : goal.returns-in-Run-clause-made
-returns-in-Run-clause-made g c = subst (λ x. MadeBy (command_of x) (g.F.Folder.files c.args.folder.now) (g.F.Folder.files c.run.new.folder) (g.S.Source.left c.args.input.now) (IsDone c.run.result) (IsRefused c.run.result) (code_of c.run.new.left None)) (sym c.in-Run.is) tt
+returns-in-Run-clause-made g c = subst (λ x. MadeBy (command_of x) (g.F.Folder.files c.args.folder.now) (g.F.Folder.files c.run.new.folder) (g.S.Source.left c.args.input.now) (IsDone c.run.result) (IsRefused c.run.result) (bytes_in None) (code_of c.run.new.left None)) (sym c.in-Run.is) refl
 
 pub returns-in-Eval-clause-made : goal.returns-in-Eval-clause-made
-returns-in-Eval-clause-made g c = subst (λ x. MadeBy (command_of x) (g.F.Folder.files c.args.folder.now) (g.F.Folder.files c.eval.new.folder) (g.S.Source.left c.args.input.now) (IsDone c.eval.result) (IsRefused c.eval.result) (code_of None None)) (sym c.in-Eval.is) tt
+returns-in-Eval-clause-made g c = subst (λ x. MadeBy (command_of x) (g.F.Folder.files c.args.folder.now) (g.F.Folder.files c.eval.new.folder) (g.S.Source.left c.args.input.now) (IsDone c.eval.result) (IsRefused c.eval.result) (bytes_in None) (code_of None None)) (sym c.in-Eval.is) refl
 
 pub returns-in-Trace-clause-made : goal.returns-in-Trace-clause-made
-returns-in-Trace-clause-made g c = subst (λ x. MadeBy (command_of x) (g.F.Folder.files c.args.folder.now) (g.F.Folder.files c.trace.new.folder) (g.S.Source.left c.args.input.now) (IsDone c.trace.result) (IsRefused c.trace.result) (code_of c.trace.new.left c.trace.new.made)) (sym c.in-Trace.is) c.trace.ensures.made
+returns-in-Trace-clause-made g c = subst (λ x. MadeBy (command_of x) (g.F.Folder.files c.args.folder.now) (g.F.Folder.files c.trace.new.folder) (g.S.Source.left c.args.input.now) (IsDone c.trace.result) (IsRefused c.trace.result) (bytes_in c.trace.new.fetched) (code_of c.trace.new.left c.trace.new.made)) (sym c.in-Trace.is) c.trace.ensures.made
 
 pub returns-in-Session-clause-made : goal.returns-in-Session-clause-made
-returns-in-Session-clause-made g c = subst (λ x. MadeBy (command_of x) (g.F.Folder.files c.args.folder.now) (g.F.Folder.files c.session.new.folder) (g.S.Source.left c.args.input.now) (IsDone c.session.result) (IsRefused c.session.result) (code_of None None)) (sym c.in-Session.is) tt
+returns-in-Session-clause-made g c = subst (λ x. MadeBy (command_of x) (g.F.Folder.files c.args.folder.now) (g.F.Folder.files c.session.new.folder) (g.S.Source.left c.args.input.now) (IsDone c.session.result) (IsRefused c.session.result) (bytes_in None) (code_of None None)) (sym c.in-Session.is) refl
 
 pub returns-in-Tasks-clause-made : goal.returns-in-Tasks-clause-made
-returns-in-Tasks-clause-made g c = subst (λ x. MadeBy (command_of x) (g.F.Folder.files c.args.folder.now) (g.F.Folder.files c.tasks.new.folder) (g.S.Source.left c.args.input.now) (IsDone c.tasks.result) (IsRefused c.tasks.result) (code_of None None)) (sym c.in-Tasks.is) tt
+returns-in-Tasks-clause-made g c = subst (λ x. MadeBy (command_of x) (g.F.Folder.files c.args.folder.now) (g.F.Folder.files c.tasks.new.folder) (g.S.Source.left c.args.input.now) (IsDone c.tasks.result) (IsRefused c.tasks.result) (bytes_in None) (code_of None None)) (sym c.in-Tasks.is) refl
 
 pub returns-in-Library-clause-made : goal.returns-in-Library-clause-made
-returns-in-Library-clause-made g c = subst (λ x. MadeBy (command_of x) (g.F.Folder.files c.args.folder.now) (g.F.Folder.files c.args.folder.now) (g.S.Source.left c.args.input.now) (IsDone c.library.result) (IsRefused c.library.result) (code_of None None)) (sym c.in-Library.is) tt
+returns-in-Library-clause-made g c = subst (λ x. MadeBy (command_of x) (g.F.Folder.files c.args.folder.now) (g.F.Folder.files c.args.folder.now) (g.S.Source.left c.args.input.now) (IsDone c.library.result) (IsRefused c.library.result) (bytes_in None) (code_of None None)) (sym c.in-Library.is) refl
 
 pub returns-in-Gen-clause-made : goal.returns-in-Gen-clause-made
-returns-in-Gen-clause-made g c = subst (λ x. MadeBy (command_of x) (g.F.Folder.files c.args.folder.now) (g.F.Folder.files c.args.folder.now) (g.S.Source.left c.args.input.now) (IsDone c.generate.result) (IsRefused c.generate.result) (code_of c.generate.new.left None)) (sym c.in-Gen.is) tt
+returns-in-Gen-clause-made g c = subst (λ x. MadeBy (command_of x) (g.F.Folder.files c.args.folder.now) (g.F.Folder.files c.args.folder.now) (g.S.Source.left c.args.input.now) (IsDone c.generate.result) (IsRefused c.generate.result) (bytes_in None) (code_of c.generate.new.left None)) (sym c.in-Gen.is) refl
+
+-- ---- which commands hand a code out
+
+pub returns-in-Compile-clause-only : goal.returns-in-Compile-clause-only
+returns-in-Compile-clause-only g c = inr (refl, subst (λ x. HasCode (command_of x)) (sym c.in-Compile.is) tt)
+
+pub returns-in-Trace-clause-only : goal.returns-in-Trace-clause-only
+returns-in-Trace-clause-only g c = elim c.trace.ensures.apart as (λ _. (c.trace.new.made ≡ None) ⊎ ((c.trace.new.left ≡ None) × HasCode (command_of c.args.command.now))) [
+  | inl e ↦ inr (e, subst (λ x. HasCode (command_of x)) (sym c.in-Trace.is) tt)
+  | inr e ↦ inl e
+]

@@ -1,7 +1,8 @@
-use Rattle.std.proofs.Common.{ap, refl, subst, Err, map, string_bytes}
+use Rattle.std.proofs.Common.{◌≡◌, ◌⊎◌, None, inl, inr, ap, refl, subst, Err, map, string_bytes}
 use Rattle.fip_outside.specs.Faults.{Rose}
 use Rattle.command_words.specs.View.{command_of}
 use Rattle.command_answers.specs.command_trace.TraceAnswer.{code_of}
+use Rattle.fip_driver.specs.HandedOut.{HandsOut, bytes_in}
 use Rattle.fip_driver.specs.Made.{MadeBy}
 use Rattle.fip_driver.proofs.Making.{nothing_made}
 use Rattle.fip_driver.proofs.Outcomes.{no_command_outcome, no_memory_outcome}
@@ -48,10 +49,16 @@ pub returns-in-Err-NoMemory-clause-left : goal.returns-in-Err-NoMemory-clause-le
 returns-in-Err-NoMemory-clause-left g c = λ d asked cells. refl
 
 pub returns-in-Ok-clause-made : goal.returns-in-Ok-clause-made
-returns-in-Ok-clause-made g c = λ d asked. subst (λ x. MadeBy x (g.F.Folder.files c.args.folder.now) (g.F.Folder.files c.answer.new.folder) (g.S.Source.left c.args.input.now) (IsDone c.answer.result) (IsRefused c.answer.result) (code_of c.answer.new.left c.answer.new.made)) (command_once (map string_bytes c.args.words.now) (command_of c.in-Ok.command) d c.in-Ok.ensures.ok asked) c.answer.ensures.made
+returns-in-Ok-clause-made g c = λ d asked. subst (λ x. MadeBy x (g.F.Folder.files c.args.folder.now) (g.F.Folder.files c.answer.new.folder) (g.S.Source.left c.args.input.now) (IsDone c.answer.result) (IsRefused c.answer.result) (bytes_in c.answer.new.fetched) (code_of c.answer.new.left c.answer.new.made)) (command_once (map string_bytes c.args.words.now) (command_of c.in-Ok.command) d c.in-Ok.ensures.ok asked) c.answer.ensures.made
 
 pub returns-in-Err-NotUnderstood-clause-made : goal.returns-in-Err-NotUnderstood-clause-made
 returns-in-Err-NotUnderstood-clause-made g c = λ d asked. nothing_made d (g.F.Folder.files c.args.folder.now) (g.S.Source.left c.args.input.now) F.NotUnderstood (λ r. r)
 
 pub returns-in-Err-NoMemory-clause-made : goal.returns-in-Err-NoMemory-clause-made
 returns-in-Err-NoMemory-clause-made g c = λ d asked. nothing_made d (g.F.Folder.files c.args.folder.now) (g.S.Source.left c.args.input.now) F.NoMemory (λ r. r)
+
+pub returns-in-Ok-clause-only : goal.returns-in-Ok-clause-only
+returns-in-Ok-clause-only g c = elim c.answer.ensures.only as (λ _. (c.answer.new.made ≡ None) ⊎ HandsOut (map string_bytes c.args.words.now) c.answer.new.left) [
+  | inl none ↦ inl none
+  | inr h ↦ inr (h.0, (command_of c.in-Ok.command, c.in-Ok.ensures.ok, h.1))
+]

@@ -4,11 +4,12 @@ use Rattle.fip_outside.specs.Faults.{Rose}
 use Rattle.command_words.specs.Words.{Command, IsCommand}
 use Rattle.command_answers.specs.Asks.{stored_name}
 use Rattle.fip_driver.specs.Delivered.{seen}
-use Rattle.fip_driver.specs.Faults.{WordsOutcome}
+use Rattle.fip_driver.specs.Turns.{WordsOutcome}
 use Rattle.fip_driver.specs.Outcome.{AreKept, HadFolder}
 use Rattle.fip_driver.proofs.Outcomes.{kept_or_had, whole_outcome}
+use Rattle.fip_driver.specs.HandedOut.{bytes_in}
 use Rattle.fip_driver.specs.Made.{MadeBy}
-use Rattle.fip_driver.proofs.Making.{made_status}
+use Rattle.fip_driver.proofs.Making.{made_status, handed_only}
 use Rattle.fip_driver.proofs.Remains.{handed_out}
 use Rattle.fip_driver.proofs.Unread.{input_read, folder_called, files_after, last_status}
 use Rattle.fip_driver.proofs.coded.fp2_with_code.Goals as goal
@@ -47,5 +48,8 @@ returns-clause-left g c = handed_out (map string_bytes c.args.words.now) (g.F.Fo
 
 pub returns-clause-made : goal.returns-clause-made
 returns-clause-made g c = λ d asked.
-    subst (λ m. MadeBy d (g.F.Folder.files c.args.folder.now) (g.F.Folder.files c.outcome-outcome.new.folder) (g.S.Source.left c.args.input.now) (c.deliver-status.result.0 ≡ 0) (c.deliver-status.result.0 ≡ 1) m) (sym c.hand_out.ensures.code)
-    (made_status d (g.F.Folder.files c.args.folder.now) _ (g.S.Source.left c.args.input.now) _ (seen (g.O.Sink.written c.args.out.now) (g.O.Sink.faults c.args.out.now)) (seen (g.O.Sink.written c.deliver-status.new.out) (g.O.Sink.faults c.deliver-status.new.out)) (seen (g.E.Sink.written c.args.err.now) (g.E.Sink.faults c.args.err.now)) (seen (g.E.Sink.written c.deliver-status.new.err) (g.E.Sink.faults c.deliver-status.new.err)) c.outcome-outcome.result c.deliver-status.result.0 c.deliver-status.ensures.delivered (c.outcome-outcome.ensures.made d asked))
+    subst (λ m. MadeBy d (g.F.Folder.files c.args.folder.now) (g.F.Folder.files c.outcome-outcome.new.folder) (g.S.Source.left c.args.input.now) (c.deliver-status.result.0 ≡ 0) (c.deliver-status.result.0 ≡ 1) (bytes_in c.outcome-outcome.new.fetched) m) (sym c.hand_out.ensures.code)
+    (made_status d (g.F.Folder.files c.args.folder.now) _ (g.S.Source.left c.args.input.now) (bytes_in c.outcome-outcome.new.fetched) _ (seen (g.O.Sink.written c.args.out.now) (g.O.Sink.faults c.args.out.now)) (seen (g.O.Sink.written c.deliver-status.new.out) (g.O.Sink.faults c.deliver-status.new.out)) (seen (g.E.Sink.written c.args.err.now) (g.E.Sink.faults c.args.err.now)) (seen (g.E.Sink.written c.deliver-status.new.err) (g.E.Sink.faults c.deliver-status.new.err)) c.outcome-outcome.result c.deliver-status.result.0 c.deliver-status.ensures.delivered (c.outcome-outcome.ensures.made d asked))
+
+pub returns-clause-only : goal.returns-clause-only
+returns-clause-only g c = handed_only (map string_bytes c.args.words.now) (g.F.Folder.files c.args.folder.now) (g.S.Source.left c.args.input.now) _ c.outcome-outcome.new.left _ c.outcome-outcome.new.made _ c.deliver-status.result.0 c.outcome-outcome.ensures.left c.outcome-outcome.ensures.only c.hand_out.ensures.ended c.hand_out.ensures.none c.hand_out.ensures.code c.hand_out.ensures.kept

@@ -1,7 +1,7 @@
 use Rattle.std.proofs.Common.{refl}
 use Rattle.command_words.specs.Words as W
 use Rattle.command_answers.specs.command_library.command_source.Wanted.{Lawful}
-use Rattle.fip_driver.specs.Faults.{end_of}
+use Rattle.fip_driver.specs.Turns.{end_of}
 use Rattle.fip_driver.proofs.SourceEnds.{check_ends, source_ends, fetch_ends}
 use Rattle.fip_driver.proofs.Counted.{sources_counted, fetch_counted}
 use Rattle.fip_driver.proofs.commands.check.Goals as goal

@@ -1,7 +1,7 @@
 use Rattle.std.proofs.Common.{◌≡◌, refl}
 use Rattle.command_words.specs.Words as W
 use Rattle.command_outcome.specs.declared.failure.Failure.TheVariants.{BadCode}
-use Rattle.fip_driver.specs.Faults.{end_of}
+use Rattle.fip_driver.specs.Turns.{end_of}
 use Rattle.fip_driver.proofs.CodeEnds.{verify_ends, code_ends, long_code}
 use Rattle.fip_driver.proofs.SourceEnds.{missed_ends}
 use Rattle.fip_driver.proofs.Counted.{sources_counted, file_counted}

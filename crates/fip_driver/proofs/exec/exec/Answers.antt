@@ -2,7 +2,7 @@ use Rattle.std.proofs.Common.{refl, subst, inl, inr}
 use Rattle.command_words.specs.View.{request_of}
 use Rattle.command_words.specs.Words as W
 use Rattle.command_answers.specs.command_library.command_source.Wanted.{Compiled, IsReady}
-use Rattle.fip_driver.specs.Faults.{end_of}
+use Rattle.fip_driver.specs.Turns.{end_of}
 use Rattle.fip_driver.proofs.SourceEnds.{executed_ends, kept_ends, source_ends, fetch_ends}
 use Rattle.command_answers.specs.command_library.command_source.ProgramCode.{IsEntryOf}
 use Rattle.command_answers.specs.command_library.command_run.CodeRun.{is_run_end}

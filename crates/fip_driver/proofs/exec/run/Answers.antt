@@ -2,7 +2,7 @@ use Rattle.std.proofs.Common.{◌≡◌, refl, subst, inl, inr}
 use Rattle.command_words.specs.Words as W
 use Rattle.command_outcome.specs.declared.failure.Failure.TheVariants.{BadCode}
 use Rattle.command_answers.specs.command_library.command_source.Codes.{HasFunction}
-use Rattle.fip_driver.specs.Faults.{end_of}
+use Rattle.fip_driver.specs.Turns.{end_of}
 use Rattle.command_words.specs.View.{request_of}
 use Rattle.fip_driver.proofs.CodeEnds.{run_ends, run_refused, code_ends, long_code}
 use Rattle.fip_driver.proofs.SourceEnds.{missed_ends}

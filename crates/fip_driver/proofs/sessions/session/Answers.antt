@@ -4,7 +4,7 @@ use Rattle.command_words.specs.View.{room_of}
 use Rattle.fip_trees.specs.TreeView.{program}
 use Rattle.command_answers.specs.command_library.command_source.Wanted.{Lawful, IsReady}
 use Rattle.command_answers.specs.Ends.{Replies}
-use Rattle.fip_driver.specs.Faults.{end_of}
+use Rattle.fip_driver.specs.Turns.{end_of}
 use Rattle.fip_driver.proofs.SourceEnds.{input_ends, kept_ends, source_ends, fetch_ends}
 use Rattle.fip_driver.proofs.Counted.{late_counted, source_counted, fetch_counted}
 use Rattle.fip_driver.proofs.sessions.session.Goals as goal

@@ -23,7 +23,7 @@ DOCUMENT = TOP / "docs" / "DEFINITIONS.md"
 PARTS = ("parser_state", "parser_heads", "parser_types", "parser_operators", "parser_bodies")
 SOURCES, CODES = "Commands on a source", "Codes"
 # The most lines of each part. A change may lower these numbers, and none may raise them.
-PARTS_OF_THE_BOOK = {SOURCES: 10038, CODES: 4401}
+PARTS_OF_THE_BOOK = {SOURCES: 10038, CODES: 4247}
 SLACK = 40
 MOST_LINES = 199
 # A file of fewer lines stands in the line of its neighbour.
@@ -62,17 +62,18 @@ SUBJECTS = (
     (SOURCES, OTHER,
      "fip_outside fip_library library_sources command_words command_outcome command_source command_eval command_library "
      "command_answers command_run/ExecAnswer command_run/GaugeText fip_driver"),
-    (CODES, "Code files", "code_file command_source/Codes"),
+    (CODES, "Codes and their files", "cell_code code_file command_source/Codes"),
     (CODES, "Sound code", "code_rules code_verify"),
     (CODES, "Runs of code",
      "fip_language/Store fip_language/Gauge machine_semantics separation_kinds separation tree_refinement "
      "run_loading/Loading lowering_simulation"),
     (CODES, "Which code is that of a source",
      "match_cover/DecisionTree match_cover/TreeOfMatch lowering_relation code_size code_bytes cell_lower "
-     "command_source/ProgramCode command_answers/CodeOf"),
+     "command_source/CodeShape command_answers/CodeOf"),
     (CODES, "Traces", "machine_semantics/Traces run_loading command_trace"),
     (CODES, "`run`, and what a run leaves to a host",
-     "command_run command_source/Entries cell_store machine_cells fip_machine fip_driver/Left fip_driver/Made"),
+     "command_run command_source/Entries cell_store machine_cells fip_machine fip_driver/Left fip_driver/Made "
+     "fip_driver/HandedOut"),
 )
 HEAD_OF_THE_DOCUMENT = """# The definitions
 

@@ -37,6 +37,7 @@ MAIN = r'''// Answers the lines of a session, and prints behind each reply what 
 use cell_store::{Cells, Sealed};
 use command_source::front;
 use fip_base::plain::NoMemory;
+use fip_room::Room;
 use fip_outside::all::{read_all, write_all};
 use fip_outside::outside::Folder;
 use fip_outside::real::{FileFolder, StdSink, StdSource};
@@ -98,9 +99,12 @@ fn answers(alloc: Global, source: &[u8], words: &[String], input: &[u8]) -> Resu
         out.extend_from_slice(b"refused\n")?;
         return Ok(out);
     };
-    let store = number(words[2].as_str()).min(16777216) as usize;
-    let frames = number(words[4].as_str()).min(1000000) as usize;
-    let mut session = Session::new(alloc, &found.typed, &found.verified, store, number(words[3].as_str()), frames)?;
+    let (store, calls, frames) = (words[2].as_str(), words[3].as_str(), words[4].as_str());
+    let Some(room) = Room::new(number(calls), number(frames), number(store)) else {
+        out.extend_from_slice(b"no such room\n")?;
+        return Ok(out);
+    };
+    let mut session = Session::new(alloc, &found.typed, &found.verified, room)?;
     let mut at = 0;
     while at < input.len() {
         let (line, next) = line_at(input, at);
@@ -173,7 +177,7 @@ def compiled(folder, main, uses):
 def made_in(folder):
     """The program that tells names and cells."""
     main = MAIN.replace("NUMBER", str(len(NAMES))).replace("LIST", ", ".join(f'"{n}"' for n in NAMES))
-    return compiled(folder, main, "fip_base fip_outside fip_session cell_store session_lines command_source")
+    return compiled(folder, main, "fip_base fip_room fip_outside fip_session cell_store session_lines command_source")
 
 
 # ---- what the definition says

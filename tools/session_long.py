@@ -39,6 +39,7 @@ MAIN = r'''// Does the lines of a session: the first one once, and those behind 
 
 use command_source::front;
 use fip_base::plain::NoMemory;
+use fip_room::Room;
 use fip_outside::all::{read_all, write_all};
 use fip_outside::outside::Folder;
 use fip_outside::real::{FileFolder, StdSink, StdSource};
@@ -64,9 +65,12 @@ fn answers(alloc: Global, source: &[u8], words: &[String], lines: &[u8]) -> Resu
         out.extend_from_slice(b"refused\n")?;
         return Ok(out);
     };
-    let store = number(words[2].as_str()).min(16777216) as usize;
+    let Some(room) = Room::new(1_000_000, 1_000, number(words[2].as_str())) else {
+        out.extend_from_slice(b"no such room\n")?;
+        return Ok(out);
+    };
     let count = number(words[3].as_str());
-    let mut session = Session::new(alloc, &found.typed, &found.verified, store, 1000000, 1000)?;
+    let mut session = Session::new(alloc, &found.typed, &found.verified, room)?;
     let mut again = 0;
     let mut at = 0;
     let mut told = 0u64;
@@ -120,7 +124,7 @@ fn main(rt: HostRuntime) -> ExitCode {
     ExitCode::from(0)
 }
 '''
-USES = "fip_base fip_outside fip_session session_lines command_source"
+USES = "fip_base fip_room fip_outside fip_session session_lines command_source"
 
 
 def value(items):

@@ -1,4 +1,5 @@
 pub mod TreeViews
+pub mod TypedPrograms
 pub mod RuleNames
 pub mod Leasts
 pub mod ScalarTables

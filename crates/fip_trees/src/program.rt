@@ -181,7 +181,8 @@ pub struct Program {
 }
 
 /// A program that isn't typed yet. It has few instances and few types, no two roots of one name, and types that are
-/// sound: each has a finite value, constructors of unlike names, and few fields in each of them.
+/// sound: bool is the first, each has a finite value, constructors of unlike names, and few fields in each of them. A
+/// header has at most 16 credits, of sizes from 1 to 16.
 #[derive(Drop)]
 pub struct Flat {
     program: Program,
@@ -228,10 +229,11 @@ impl Flat {
     }
 }
 
-/// A program that is typed: each slot holds its node's type.
+/// A program that is typed: each slot holds its node's type. It is as sound as one that isn't typed yet.
 #[derive(Drop)]
 pub struct Typed {
     pub program: Program,
+    pub ghost sound: { ∥ IsSoundProgram (V.program program) ∥₁ },
 }
 
 impl Program {

@@ -13,6 +13,8 @@ pub mod TypeValues
 pub mod CoreSources
 pub mod TableRows
 pub mod ConstructorRows
+pub mod FirstType
+pub mod HeaderCredits
 pub mod Sounding
 pub use Rattle.data_types.proofs as data_types
 pub use Rattle.reached_instances.proofs as reached_instances

@@ -38,9 +38,11 @@ use Rattle.reached_instances.specs.SourceView as s
 use Rattle.reached_instances.proofs.ClosedTrees.{closed_exact}
 use Rattle.static_params.proofs.ConstructorRows.{functions_once, narrow, one_place, unlike}
 use Rattle.static_params.proofs.CoreSources.{source_is}
+use Rattle.static_params.proofs.FirstType.{first_shapes}
 use Rattle.static_params.proofs.GoodInstances.{instances_good}
 use Rattle.static_params.proofs.GoodTypes.{AreGiven, IsGoodFunction, below}
 use Rattle.reached_instances.proofs.Numbered.{numbered_differ}
+use Rattle.static_params.proofs.HeaderCredits.{all_credits}
 use Rattle.static_params.proofs.TableRows.{fields_within, inhabited, instances_length, one_instance, types_length}
 use Rattle.static_params.proofs.TypeRows.{one_at, there_among}
 
@@ -138,10 +140,12 @@ flat_is_sound core unbroken valued ns few =
       few = subst (λ n. n ≤ MOST_INSTANCES) (sym instances) few.instances.few;
       roots = one_root core unbroken ns few;
       few_types = subst (λ n. n ≤ MOST_INSTANCES) (sym types) few.few_types;
+      bool = first_shapes core ns few;
       inhabited = inhabited core ns few.passed few.instances.instances few.given few.types valued;
       known = fields_within core ns few.passed few.instances.instances few.given few.types;
       narrow = narrow core unbroken ns few;
       unlike = unlike core unbroken ns few;
+      credits = λ i d e. all_credits core unbroken ns d (there_among (flat_program (flat_source core) ns).instances i d e);
     }
 
 pub program_sound : (core : form.Core) (decls : Decls) (p : Program) → AreDeclared core decls → IsAccepted (s.source_of core decls) p → IsSoundProgram (program p)

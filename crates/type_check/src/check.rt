@@ -46,10 +46,12 @@ pub fn check_types(alloc: Global, flat: Flat) -> Result<Typed, PhaseError>
 }
 
 // The program with the type of each node in its slot, or the least violation.
-pub(crate) fn checked(alloc: Global, program: Program) -> Result<Typed, PhaseError>
+fn checked(alloc: Global, program: Program) -> Result<Typed, PhaseError>
+    requires sound { IsSoundProgram (V.program program) }
     ensures typed { IfOk result (λ t. IsTyped (V.program program)) }
     ensures tree { IfOk result (λ t. V.program t.program ≡ filled (V.program program)) }
     ensures slots { IfOk result (λ t. IsFilled (V.program t.program)) }
+    ensures sound { IfOk result (λ t. IsSoundProgram (V.program t.program)) }
     ensures least { IfErr result (λ e. Says (V.program program) e) }
 {
     let mut least = Least::new(alloc);
@@ -57,9 +59,17 @@ pub(crate) fn checked(alloc: Global, program: Program) -> Result<Typed, PhaseErr
         Err(NoMemory) => Err(PhaseError::NoMemory),
         Ok(program) => match least.into_refusal() {
             Some(refusal) => Err(PhaseError::Refused(refusal)),
-            None => Ok(Typed { program }),
+            None => Ok(typed_of(program)),
         },
     }
+}
+
+// A program that breaks no rule, with its slots filled.
+fn typed_of(program: Program) -> Typed
+    requires sound { IsSoundProgram (V.program program) }
+    ensures same { result.program ≡ program }
+{
+    Typed { program }
 }
 
 // The program with its slots filled, whatever rules it breaks.

@@ -2,27 +2,18 @@
 -- and how many binders an instance of it has.
 use Rattle.std.proofs.Common.{◌≡◌, ◌<◌, ◌≤◌, ◌+◌, inl, inr, ℕ, zero, suc, Bool, true, List, [], ◌∷◌, ◌++◌, length, map, Option, Some, None, slice_get, refl, sym, ap, subst, arith}
 use Rattle.std.proofs.lemmas.Option.{none-some}
-use Rattle.lowering_soundness.specs.fip_language.declared.CreditMark.{CreditMark}
 use Rattle.lowering_soundness.specs.fip_language.declared.limits.TheConstants.{MOST_CREDITS}
-use Rattle.lowering_soundness.specs.fip_language.declared.rule.Rule.TheVariants.{E63}
 use Rattle.lowering_soundness.specs.fip_language.Core as C
 use Rattle.lowering_soundness.specs.fip_language.Core.{Core, Function, Result, OneResult, TupleResult, Static}
 use Rattle.lowering_soundness.specs.fip_language.CoreForm.{core_form}
 use Rattle.lowering_soundness.specs.fip_language.Every.{Every, Among}
-use Rattle.lowering_soundness.specs.fip_language.Mentions.{all_of}
 use Rattle.lowering_soundness.specs.fip_language.Surface as S
 use Rattle.lowering_soundness.proofs.fip_language.Words.{every_among}
 use Rattle.source_safety.specs.fip_grammar.Token.{Token}
 use Rattle.source_safety.specs.fip_grammar.Grammar.{Result', FunctionParts, Declaration', Spells}
-use Rattle.lowering_soundness.specs.fip_trees.declared.least.Violation.{Violation}
 use Rattle.lowering_soundness.specs.fip_trees.declared.program.Binder.{Binder}
-use Rattle.lowering_soundness.specs.fip_trees.Least.{In}
-use Rattle.lowering_soundness.proofs.fip_trees.Leasts.{in_left, in_right}
 use Rattle.lowering_soundness.specs.fip_trees.Tree as T
 use Rattle.lowering_soundness.specs.fip_trees.Tree.{Program}
-use Rattle.source_safety.specs.data_types.Answers as Declaring
-use Rattle.source_safety.specs.data_types.Declarations.{declared_names}
-use Rattle.source_safety.specs.data_types.Faults.{broken, place_faults, mark_faults, credit_faults, function_faults, all_data_faults, all_function_faults, name_faults}
 use Rattle.source_safety.specs.reached_instances.Binders.{binders_in_pattern, binders_in_patterns, binders_in_expression, binders_in_block, binders_in_clauses}
 use Rattle.source_safety.specs.reached_instances.declared.closed.Head.TheVariants as H
 use Rattle.source_safety.specs.reached_instances.Closed as Z
@@ -32,6 +23,7 @@ use Rattle.source_safety.specs.reached_instances.Uses.{result_types}
 use Rattle.derivation_correctness.specs.static_params.FlatProgram.{Numbers, flat_binder, flat_pattern, flat_patterns, flat_expression, flat_block, flat_clauses, flat_parameter, flat_type, credit_size, flat_instance, instance_if, instances_of, flat_program}
 use Rattle.derivation_correctness.specs.static_params.FlatSource.{flat_source}
 use Rattle.derivation_correctness.proofs.static_params.GoodTypes.{all_of_have}
+use Rattle.derivation_correctness.proofs.static_params.HeaderCredits.{few_marks}
 use Rattle.derivation_correctness.proofs.static_params.TableRows.{map_length}
 use Rattle.derivation_correctness.proofs.static_params.TypeRows.{there_among}
 use Rattle.lowering_soundness.specs.type_check.Found.{first_type, others, wanted_next}
@@ -43,7 +35,6 @@ use Rattle.lowering_soundness.specs.type_check.Faults.{fill_binders, fill_patter
 use Rattle.lowering_soundness.specs.fip_rules.Shapes.{binders, binders_all}
 use Rattle.lowering_soundness.specs.derivation_check.Scopes.{within, within_block, within_clauses}
 use Rattle.derivation_correctness.specs.source_report.Report.{IsParsed, IsFlat, IsTyped}
-use Rattle.derivation_correctness.proofs.source_report.cell_lower.fip_language.Facts.{length_of_none as few_where_none}
 use Rattle.compiler_correctness.proofs.Headers.{from_map}
 
 -- ---- a function has a result
@@ -79,30 +70,6 @@ core_gives (S.FunctionDeclaration f ∷ ds) h = (h.0, core_gives ds h.1)
 
 parsed_gives : (source : List ℕ) (core : Core) → IsParsed source core → Every Gives core.functions
 parsed_gives source core h = subst (λ (c : Core). Every Gives c.functions) (sym h.is) (core_gives h.tree (program_gives h.spelt.0 h.tree h.spelt.3))
-
--- ---- its header has few credits: E63
-
-in_of : {A : Type 0} (f : A → List Violation) (x : A) (v : Violation) (xs : List A) → Among x xs → In v (f x) → In v (all_of f xs)
-in_of f x v [] a h = absurd a
-in_of f x v (y ∷ xs) (inl e) h = in_left v (f y) (all_of f xs) (subst (λ y. In v (f y)) e h)
-in_of f x v (y ∷ xs) (inr a) h = in_right v (f y) (all_of f xs) (in_of f x v xs a h)
-
-module _ (core : Core) (unbroken : (v : Violation) → Declaring.Violates core v → ⊥) where
-  many_marks : (f : Function) (m : CreditMark) → Among f core.functions → slice_get f.credits MOST_CREDITS ≡ Some m → ⊥
-  many_marks f m a e =
-      let v : Violation = broken E63 m.place [] in
-      let one : In v (place_faults (slice_get f.credits MOST_CREDITS)) = subst (λ o. In v (place_faults o)) (sym e) (inl refl) in
-      let here : In v (function_faults (declared_names core) f) = in_left v (credit_faults f.credits) _ (in_right v (mark_faults f.credits) (place_faults (slice_get f.credits MOST_CREDITS)) one) in
-      let all : In v (all_function_faults (declared_names core) core.functions) = in_of (function_faults (declared_names core)) f v core.functions a here in
-      unbroken v (inl (in_right v (name_faults core) (all_data_faults (declared_names core) core.types ++ all_function_faults (declared_names core) core.functions)
-      (in_right v (all_data_faults (declared_names core) core.types) (all_function_faults (declared_names core) core.functions) all)))
-
-  few_marks : (f : Function) → Among f core.functions → length f.credits ≤ MOST_CREDITS
-  few_marks f a = by (slice_get f.credits MOST_CREDITS) refl
-    where
-      by : (o : Option CreditMark) → slice_get f.credits MOST_CREDITS ≡ o → length f.credits ≤ MOST_CREDITS
-      by None e = few_where_none f.credits MOST_CREDITS e
-      by (Some m) e = absurd (many_marks f m a e)
 
 -- ---- how many binders stand in its body
 

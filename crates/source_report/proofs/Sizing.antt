@@ -1,11 +1,10 @@
 -- What the calculus of ownership asks of a typed program of a source: scrutinees are variables, no constructor has more
 -- than 16 fields, one of a scalar type has none, and credits have sizes from 1 to 16.
-use Rattle.std.proofs.Common.{◌≡◌, ◌<◌, ◌^◌, ◌==◌, ◌||◌, ◌&&◌, inl, inr, ℕ, zero, suc, Bool, true, false, nat_lt, List, [], ◌∷◌, ◌++◌, length, map, Option, Some, None, slice_get, if◌then◌else◌, refl, sym, ap, ap₂, subst, arith}
+use Rattle.std.proofs.Common.{◌≡◌, ◌≤◌, ◌<◌, ◌==◌, ◌||◌, ◌&&◌, inl, inr, ℕ, zero, suc, Bool, true, false, nat_lt, List, [], ◌∷◌, ◌++◌, length, map, Option, Some, None, slice_get, if◌then◌else◌, refl, sym, ap, subst, arith}
 use Rattle.std.proofs.lemmas.Bool.Decides.{nat_tests}
 use Rattle.cell_lower.proofs.fip_language.Words.{map_at}
-use Rattle.cell_lower.specs.fip_language.declared.CreditMark.{CreditMark}
 use Rattle.cell_lower.specs.fip_language.declared.limits.TheConstants.{MOST_FIELDS}
-use Rattle.cell_lower.specs.fip_language.declared.rule.Rule.TheVariants.{E14, E63}
+use Rattle.cell_lower.specs.fip_language.declared.rule.Rule.TheVariants.{E14}
 use Rattle.cell_lower.specs.fip_language.Core as C
 use Rattle.cell_lower.specs.fip_language.Core.{Core, Data, DataConstructor, Function, Written}
 use Rattle.cell_lower.specs.fip_language.Declarations.{data_types, bool_type}
@@ -21,7 +20,7 @@ use Rattle.cell_lower.specs.fip_trees.Tree as T
 use Rattle.cell_lower.specs.fip_trees.Tree.{Program, count, count_patterns}
 use Rattle.static_params.specs.data_types.Answers as Declaring
 use Rattle.static_params.specs.data_types.Declarations.{declarations, declared_names, data_scope, constructor_fields}
-use Rattle.static_params.specs.data_types.Faults.{broken, when, size_faults, data_faults, all_data_faults, mark_faults, credit_faults, function_faults, all_function_faults, name_faults, repeats, type_name_mentions, field_faults}
+use Rattle.static_params.specs.data_types.Faults.{broken, when, size_faults, data_faults, all_data_faults, all_function_faults, name_faults, repeats, type_name_mentions, field_faults}
 use Rattle.static_params.specs.reached_instances.declared.closed.Head.TheVariants as H
 use Rattle.static_params.specs.reached_instances.Closed as Z
 use Rattle.static_params.specs.reached_instances.Closed.{Closed, Closeds, Applied, NoClosed, MoreClosed}
@@ -41,6 +40,7 @@ use Rattle.ownership_agreement.specs.Agreement.{AreSized}
 use Rattle.static_params.specs.FlatSource.{flat_source, fields, constructor, declared}
 use Rattle.source_report.specs.Report.{IsFlat, IsTyped}
 use Rattle.static_params.proofs.GoodTypes.{all_of_have}
+use Rattle.static_params.proofs.HeaderCredits.{in_of, in_when, header_credits}
 use Rattle.static_params.proofs.TableRows.{shapes_below, row_there}
 use Rattle.source_report.proofs.Scrutinees as Q
 use Rattle.source_report.proofs.Scrutinees.{core_asks}
@@ -48,16 +48,11 @@ use Rattle.static_params.proofs.TypeRows.{there_among}
 use Rattle.cell_lower.proofs.fip_language.Facts.{map_length}
 use Rattle.source_report.proofs.Filling.{from_map}
 
--- ---- declarations: E14 and E63
+-- ---- declarations: E14
 
-in_of : {A : Type 0} (f : A → List Violation) (x : A) (v : Violation) (xs : List A) → Among x xs → In v (f x) → In v (all_of f xs)
-in_of f x v [] a h = absurd a
-in_of f x v (y ∷ xs) (inl e) h = in_left v (f y) (all_of f xs) (subst (λ y. In v (f y)) e h)
-in_of f x v (y ∷ xs) (inr a) h = in_right v (f y) (all_of f xs) (in_of f x v xs a h)
-
-in_when : (b : Bool) (v : Violation) → b ≡ true → In v (when b v)
-in_when true v e = inl refl
-in_when false v e = absurd (cc)
+sizes_from : (ks : List ℕ) → ((i n : ℕ) → slice_get ks i ≡ Some n → (1 ≤ n) × (n ≤ MOST_FIELDS)) → AreSizes ks
+sizes_from [] h = tt
+sizes_from (k ∷ ks) h = let here = h 0 k refl in (here.0, (omega (arith, here)), sizes_from ks (λ i n e. h (suc i) n e))
 
 module _ (core : Core) (unbroken : (v : Violation) → Declaring.Violates core v → ⊥) where
   many_fields : (d : Data) (k : DataConstructor) → Among d core.types → Among k d.constructors → nat_lt MOST_FIELDS (length k.fields) ≡ true → ⊥
@@ -87,35 +82,8 @@ module _ (core : Core) (unbroken : (v : Violation) → Declaring.Violates core v
   fields_few d k (inl e) b = bool_few k (subst (λ (d : Data). Among k d.constructors) e b)
   fields_few d k (inr a) b = not_many (length k.fields) (many_fields d k a b)
 
-  bad_mark : (f : Function) (m : CreditMark) → Among f core.functions → Among m f.credits → (m.size == 0 || nat_lt MOST_FIELDS m.size) ≡ true → ⊥
-  bad_mark f m a b e =
-      let v : Violation = broken E63 m.size_place [] in
-      let one : In v (mark_faults f.credits) = in_of (λ (m : CreditMark). when (m.size == 0 || nat_lt MOST_FIELDS m.size) (broken E63 m.size_place [])) m v f.credits b (in_when (m.size == 0 || nat_lt MOST_FIELDS m.size) v e) in
-      let here : In v (function_faults (declared_names core) f) = in_left v (credit_faults f.credits) _ (in_left v (mark_faults f.credits) _ one) in
-      let all : In v (all_function_faults (declared_names core) core.functions) = in_of (function_faults (declared_names core)) f v core.functions a here in
-      unbroken v (inl (in_right v (name_faults core) (all_data_faults (declared_names core) core.types ++ all_function_faults (declared_names core) core.functions)
-      (in_right v (all_data_faults (declared_names core) core.types) (all_function_faults (declared_names core) core.functions) all)))
-
-  good_mark : (n : ℕ) → ((n == 0 || nat_lt MOST_FIELDS n) ≡ true → ⊥) → (0 < n) × (n < suc MOST_FIELDS)
-  good_mark n h = by (n == 0) (nat_lt MOST_FIELDS n) refl refl
-    where
-      by : (a b : Bool) → (n == 0) ≡ a → nat_lt MOST_FIELDS n ≡ b → (0 < n) × (n < suc MOST_FIELDS)
-      by true b e f = absurd (h (ap (λ a. a || nat_lt MOST_FIELDS n) e))
-      by false true e f = absurd (h (ap₂ (λ a b. a || b) e f))
-      by false false e f = ((grind (arith, nat_tests)), (grind (arith, nat_tests)))
-
-  size_kept : (m : CreditMark) → m.size < suc MOST_FIELDS → credit_size m ≡ m.size
-  size_kept m h = let b : nat_lt m.size (2 ^ 8) ≡ true = grind (arith, nat_tests) in ap (λ b. if b then m.size else 255) b
-
-  sizes_good : (ms : List CreditMark) → ((m : CreditMark) → Among m ms → (0 < m.size) × (m.size < suc MOST_FIELDS)) → AreSizes (map credit_size ms)
-  sizes_good [] h = tt
-  sizes_good (m ∷ ms) h =
-      let here = h m (inl refl) in
-      let same = sym (size_kept m here.1) in
-      (subst (λ n. 0 < n) same here.0, subst (λ n. n < suc MOST_FIELDS) same here.1, sizes_good ms (λ x a. h x (inr a)))
-
   credits_good : (f : Function) → Among f core.functions → AreSizes (map credit_size f.credits)
-  credits_good f a = sizes_good f.credits (λ m b. good_mark m.size (bad_mark f m a b))
+  credits_good f a = sizes_from (map credit_size f.credits) (header_credits core unbroken f a).sized
 
 -- ---- scrutinees of instances
 

@@ -7,7 +7,11 @@ use Rattle.tail_groups.specs.fip_trees.Tree.{Instance, Program}
 use Rattle.derivation_walk.specs.fip_rules.World.{is_ruled}
 use Rattle.tail_groups.specs.Registers.{registers}
 
+-- each fip or fbip instance has few registers
+abbrev pub HasFewRegisters : Program → Type 0
+HasFewRegisters p = (i : ℕ) (d : Instance) → slice_get p.instances i ≡ Some d → is_ruled d.kind ≡ true →
+    registers d ≤ MOST_REGISTERS
+
 pub record KeepsLimits (p : Program) : Type 0 where
   pub instances : length p.instances ≤ MOST_INSTANCES
-  pub registers : (i : ℕ) (d : Instance) → slice_get p.instances i ≡ Some d → is_ruled d.kind ≡ true →
-      registers d ≤ MOST_REGISTERS
+  pub registers : HasFewRegisters p

@@ -7,9 +7,11 @@ use Rattle.std.specs.Prelude.{if◌then◌else◌}
 use Rattle.std.specs.Fmt.{decimal}
 use Rattle.fip_trees.specs.declared.needs.Need.{Need}
 use Rattle.fip_trees.specs.NeedsView.{needs_of}
+use Rattle.fip_trees.specs.SoundProgram.{IsSoundProgram}
 use Rattle.fip_trees.specs.Tree.{Instance, Program}
 use Rattle.fip_trees.specs.TreeView.{instance_of}
 use Rattle.fip_trees.specs.declared.program.Instance as A
+use Rattle.fip_trees.proofs.TypedPrograms.{few_instances}
 use Rattle.derivation_walk.specs.fip_rules.World.{world, is_ruled}
 use Rattle.derivation_agreement.specs.ownership_agreement.Agreement.{AreSized}
 use Rattle.derivation_trees.specs.Trees.{Entry}
@@ -26,7 +28,7 @@ use Rattle.derivation_agreement.specs.derivation_making.Made.{made_instance, mad
 use Rattle.derivation_agreement.specs.derivation_making.Numbered.{AllNumbered}
 use Rattle.derivation_agreement.specs.derivation_making.Weakening.{AllLean}
 use Rattle.derivation_agreement.proofs.derivation_making.Programs.{program_derived, program_lean}
-use Rattle.derivation_agreement.specs.Limits.{KeepsLimits}
+use Rattle.derivation_agreement.specs.Limits.{HasFewRegisters, KeepsLimits}
 use Rattle.derivation_agreement.proofs.TextWhole.{made_is_read}
 use Rattle.derivation_walk.specs.Guides.{IsWalked}
 use Rattle.derivation_agreement.proofs.Sited.{Piece, piece_second}
@@ -127,6 +129,10 @@ long_text p needs n d ds ns old new limit h r e l same more w =
     omega (arith, same, more, a, b)
 
 -- ---- what is read again
+
+-- a typed program has few instances by its type
+pub keeps_limits : (p : Program) → ∥ IsSoundProgram p ∥₁ → HasFewRegisters p → KeepsLimits p
+keeps_limits p sound few = record { instances = few_instances p sound; registers = few }
 
 pub text_read : (p : Program) (needs : List (List Need)) (bytes : List ℕ) → IsReady p needs → KeepsLimits p → bytes ≡ lines_text (made_entries p 0 p.instances) → IsProofText bytes (made_entries p 0 p.instances)
 text_read p needs bytes h l e = subst (λ (bs : List ℕ). IsProofText bs (made_entries p 0 p.instances)) (sym e) (made_is_read p h.filled h.numbered h.sized h.accepted l)

@@ -10,7 +10,7 @@ ghost use Rattle.derivation_text.specs.Limited.{Limited};
 ghost use Rattle.derivation_text.specs.ProofText.{lines_text, IsProofText};
 ghost use Rattle.derivation_agreement.specs.derivation_making.Made.{made_entries};
 ghost use Rattle.derivation_agreement.specs.derivation_making.Weakening.{AllLean};
-ghost use Rattle.derivation_agreement.specs.Limits.{KeepsLimits};
+ghost use Rattle.derivation_agreement.specs.Limits.{HasFewRegisters};
 ghost use Rattle.derivation_walk.specs.Seen.{world_of};
 ghost use Rattle.fip_proof.specs.Ready.{IsReady};
 ghost use Rattle.fip_proof.specs.Lines.{IsLine};
@@ -39,13 +39,13 @@ pub fn derivation_text(
     // Of a program that is asked for it is the text of what is made.
     ensures text { IfOk result (λ t. IsReady (V.program typed.now.program) needs.now →
         t.items ≡ lines_text (made_entries (V.program typed.now.program) 0 (V.program typed.now.program).instances)) }
-    // Where the program keeps the limits on registers and instances, too, it is read again as that.
+    // Where the program keeps the limit on registers, too, it is read again as that.
     ensures read { IfOk result (λ t. IsReady (V.program typed.now.program) needs.now →
-        KeepsLimits (V.program typed.now.program) → IsProofText t.items
+        HasFewRegisters (V.program typed.now.program) → IsProofText t.items
         (made_entries (V.program typed.now.program) 0 (V.program typed.now.program).instances)) }
     // What it is the text of is a derivation of the program, and weakens no more than it must.
     ensures derived { IfOk result (λ t. IsReady (V.program typed.now.program) needs.now →
-        KeepsLimits (V.program typed.now.program) → (es : List Entry) → IsProofText t.items es →
+        HasFewRegisters (V.program typed.now.program) → (es : List Entry) → IsProofText t.items es →
         IsDerivation (V.program typed.now.program) es × AllLean es) }
     // It has no more bytes than it may.
     ensures within { IfOk result (λ t. length t.items ≤ limit) }

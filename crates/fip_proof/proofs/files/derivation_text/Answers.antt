@@ -6,7 +6,7 @@ use Rattle.derivation_walk.specs.fip_rules.World.{is_ruled}
 use Rattle.derivation_walk.proofs.credit_check.Steps.{drop_item}
 use Rattle.derivation_text.specs.Limited.{Limited}
 use Rattle.fip_proof.specs.Ready.{IsReady}
-use Rattle.fip_proof.proofs.Texts.{Written, nothing_written, line_more, plain_more, all_written, none_left, long_text, text_read, text_derived, one_error}
+use Rattle.fip_proof.proofs.Texts.{Written, nothing_written, line_more, plain_more, all_written, none_left, long_text, keeps_limits, text_read, text_derived, one_error}
 use Rattle.fip_proof.proofs.files.derivation_text.Goals.{then-is_ruled+in_ok-add_line, else-is_ruled}
 use Rattle.fip_proof.proofs.files.derivation_text.Goals as goal
 
@@ -79,7 +79,7 @@ returns-clause-read c =
     let P = V.program c.args.typed.now.program in
     let n = c.loop-number.number in
     let items = c.deref-instance-items.result.now in
-    λ h l. text_read P c.args.needs.now c.into_bytes.result.items h l
+    λ h l. text_read P c.args.needs.now c.into_bytes.result.items h (keeps_limits P c.args.typed.now.sound l)
     (c.into_bytes.ensures ∙ all_written P n (map V.instance_of (drop n items)) c.loop-number.text.bytes (none_left items n c.loop-number-test.false) (c.loop-number.invariant.written h))
 
 pub returns-clause-derived : goal.returns-clause-derived
@@ -87,5 +87,5 @@ returns-clause-derived c =
     let P = V.program c.args.typed.now.program in
     let n = c.loop-number.number in
     let items = c.deref-instance-items.result.now in
-    λ h l es k. text_derived P c.args.needs.now c.into_bytes.result.items es h l
+    λ h l es k. text_derived P c.args.needs.now c.into_bytes.result.items es h (keeps_limits P c.args.typed.now.sound l)
     (c.into_bytes.ensures ∙ all_written P n (map V.instance_of (drop n items)) c.loop-number.text.bytes (none_left items n c.loop-number-test.false) (c.loop-number.invariant.written h)) k

@@ -136,6 +136,11 @@ pub rises_front : (k n : ℕ) (es : List Entry) (e : Entry) → Rises k (es ++ e
 rises_front k n [] e h = let f = h.0 in let g = h.1 in omega arith
 rises_front k n (f ∷ es) e h = (h.0, rises_front (suc f.mark.id) n es e h.1)
 
+-- more binders came
+pub rises_more : (k n m : ℕ) (es : List Entry) → n ≤ m → Rises k es n → Rises k es m
+rises_more k n m [] l h = omega (arith, l, h)
+rises_more k n m (f ∷ es) l h = (h.0, rises_more (suc f.mark.id) n m es l h.1)
+
 pub rises_same : (n k : ℕ) (es fs : List Entry) (e : Entry) → Rises 0 es n → e.mark.id ≡ n → fs ≡ es ++ e ∷ [] → k ≡ n + 1 → Rises 0 fs k
 rises_same n k es fs e h g p q =
     let z : suc n ≡ k = omega arith in

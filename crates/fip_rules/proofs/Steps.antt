@@ -17,7 +17,7 @@ use Rattle.fip_rules.specs.Notes.{has, look, distinct, entry, missed, nothing, n
 use Rattle.fip_rules.specs.World.{World, lends, ownership, is_fip, is_ruled}
 use Rattle.fip_rules.specs.Shapes.{Names, Bind, mark, token, known, used_at, used_by, lent_at, lent_by, owning, owning_all, lending, passing, passing_all, takes, taking, binders, binders_all, following, clause_shape, shape, shape_block, shape_clauses, parameters, body}
 use Rattle.fip_rules.specs.Stands.{Stand, marks, names, noted, kept_use, awaiting, missed_from, with_scope, with_walked, go, went, entered, entered_all, left_to, deepened, surfaced, aside, others}
-use Rattle.fip_rules.proofs.Theorems.{entered_append, go_skip, go_then, go_use, go_lend, go_clause, go_bound, go_scope_of, clauses_go, left_twice, marks_go, names_go, take_seam, drop_seam}
+use Rattle.fip_rules.proofs.Theorems.{entered_append, level_go, go_skip, go_then, go_use, go_lend, go_clause, go_bound, go_scope_of, clauses_go, left_twice, marks_go, names_go, take_seam, drop_seam}
 use Rattle.fip_rules.proofs.Orders.{next_passing}
 
 -- two parts after each other, the second of which is seen from the scope of the first
@@ -37,6 +37,13 @@ pub bound_step : (t t1 t2 t3 : Stand) (a : Names → S.Shape) (kl kw ku : ℕ) �
 bound_step t t1 t2 t3 a kl kw ku l e f g h k =
     k ∙ ap (λ n. surfaced n kw ku t2) l ∙ ap (λ n. surfaced t.walked.level n ku t2) e ∙ ap (λ n. surfaced t.walked.level (length t.waiting) n t2) f
     ∙ ap (surfaced t.walked.level (length t.waiting) (length t.walked.used)) (h ∙ ap (λ s. go s (a (names s))) g) ∙ sym (go_bound t (a (names t)))
+
+-- as many bound expressions are around as before, and one more
+pub bound_level : (t t1 t2 : Stand) (a : Names → S.Shape) (kl : ℕ) → kl ≡ t.walked.level → t1 ≡ deepened t → t2 ≡ go t1 (a (names t1)) → kl ≤ t2.walked.level
+bound_level t t1 t2 a kl l g h =
+    let d : t1.walked.level ≡ suc t.walked.level = ap (λ (s : Stand). s.walked.level) g in
+    let e : t2.walked.level ≡ t1.walked.level = ap (λ (s : Stand). s.walked.level) h ∙ level_go t1 (a (names t1)) in
+    omega (arith, l, d, e)
 
 pub clause_step : (t t1 t2 t3 : Stand) (bs : List Bind) (f : Names → S.Shape) (kept : ℕ) → kept ≡ length t.walked.scope → t1 ≡ entered_all t bs → t2 ≡ go t1 (f (names t1)) → t3 ≡ left_to kept t2 → t3 ≡ went t bs f
 clause_step t t1 t2 t3 bs f kept k e g h = h ∙ ap (λ n. left_to n t2) k ∙ ap (left_to (length t.walked.scope)) (g ∙ ap (λ s. go s (f (names s))) e) ∙ sym (go_clause t bs f)

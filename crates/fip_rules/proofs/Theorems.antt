@@ -159,6 +159,10 @@ entered_append t (b ∷ bs) cs = entered_append (entered t b) bs cs
 
 -- ---- a bound expression
 
+pub level_go : (t : Stand) (a : S.Shape) → (go t a).walked.level ≡ t.walked.level
+unfolding go
+level_go t a = refl
+
 pub go_bound : (t : Stand) (a : S.Shape) → go t (S.Bound a) ≡ surfaced t.walked.level (length t.waiting) (length t.walked.used) (go (deepened t) a)
 unfolding go
 go_bound t a =

@@ -27,8 +27,12 @@ note_end all k n i us o o0 l h =
 pub kept_marks : (n : ℕ) (ms ns : List M.Mark) → ns ≡ take n ms → map mark_of ns ≡ take n (map mark_of ms)
 kept_marks n ms ns h = ap (map mark_of) h ∙ sym (take-map mark_of n ms)
 
-pub surface_step : (t s : Stand) (l kw ku : ℕ) (o : Option Violation) (ms : List Mark) → o ≡ after t.found (map reported (exposed t.instance (drop kw t.waiting) (drop ku t.walked.used))) → ms ≡ take kw t.waiting → t ≡ s → record { instance = t.instance; fip = t.fip; found = o; walked = with_level l t.walked; waiting = ms; next = t.next } ≡ surfaced l kw ku s
+surface_step : (t s : Stand) (l kw ku : ℕ) (o : Option Violation) (ms : List Mark) → o ≡ after t.found (map reported (exposed t.instance (drop kw t.waiting) (drop ku t.walked.used))) → ms ≡ take kw t.waiting → t ≡ s → record { instance = t.instance; fip = t.fip; found = o; walked = with_level l t.walked; waiting = ms; next = t.next } ≡ surfaced l kw ku s
 surface_step t s l kw ku o ms e f g =
     ap (λ q. record { instance = t.instance; fip = t.fip; found = q; walked = with_level l t.walked; waiting = ms; next = t.next }) e
     ∙ ap (λ q. record { instance = t.instance; fip = t.fip; found = after t.found (map reported (exposed t.instance (drop kw t.waiting) (drop ku t.walked.used))); walked = with_level l t.walked; waiting = q; next = t.next }) f
     ∙ ap (surfaced l kw ku) g
+
+-- the bound expressions that are around again
+pub surfaced_step : (t s : Stand) (j l kw ku : ℕ) (o : Option Violation) (ms : List Mark) → j ≡ l → o ≡ after t.found (map reported (exposed t.instance (drop kw t.waiting) (drop ku t.walked.used))) → ms ≡ take kw t.waiting → t ≡ s → record { instance = t.instance; fip = t.fip; found = o; walked = with_level j t.walked; waiting = ms; next = t.next } ≡ surfaced l kw ku s
+surfaced_step t s j l kw ku o ms d e f g = ap (λ k. record { instance = t.instance; fip = t.fip; found = o; walked = with_level k t.walked; waiting = ms; next = t.next }) d ∙ surface_step t s l kw ku o ms e f g

@@ -1,6 +1,6 @@
 // Where a walk stands: which variables are in scope, which were used up, which lending occurrences wait for the end of
 // the bound expression around them, and the least violation so far.
-ghost use Rattle.std.specs.Prelude.{◌≡◌, ◌<◌, ◌-◌, ℕ, List, [], ◌∷◌, ◌++◌, length, map, take, drop, filter, OnOk, IfOk};
+ghost use Rattle.std.specs.Prelude.{◌≡◌, ◌<◌, ◌≤◌, ◌-◌, ℕ, List, [], ◌∷◌, ◌++◌, length, map, take, drop, filter, OnOk, IfOk};
 ghost use Rattle.std.specs.Prelude.{Option, Some, ◌==◌, not, ◌&&◌, if◌then◌else◌};
 ghost use Rattle.fip_trees.specs.fip_language.declared.rule.Rule.TheVariants as R;
 ghost use Rattle.fip_trees.specs.Least.{after};
@@ -30,14 +30,14 @@ pub struct State<'a> {
     is_fip: bool,
     least: Least,
     scope: Scope<'a>,
-    // How many bound expressions are around.
-    level: usize,
+    // Where the walk stood before each of the bound expressions around.
+    around: Vec<Kept>,
     // The variables that were used up on some path to here, and those that were on every path.
     used: Log,
     always: Log,
     waiting: Vec<Mark<'a>>,
-    // How many binders came into scope so far.
-    next: usize,
+    // The places of the binders that came into scope so far.
+    entered: Vec<Place>,
 }
 
 impl<'a> Model for State<'a> {
@@ -47,12 +47,12 @@ impl<'a> Model for State<'a> {
       instance = s.instance;
       fip = s.is_fip;
       found = s.least;
-      walked = record { scope = s.scope; level = s.level; used = s.used; always = s.always };
+      walked = record { scope = s.scope; level = length s.around.items; used = s.used; always = s.always };
       waiting = map mark_of s.waiting.items;
-      next = s.next;
+      next = length s.entered.items;
     } };
 
-    ghost invariant = { λ s. Rises 0 s.scope s.next };
+    ghost invariant = { λ s. Rises 0 s.scope (length s.entered.items) };
 }
 
 /// Where the walk stood at some time.
@@ -89,11 +89,11 @@ impl<'a> State<'a> {
             is_fip,
             least,
             scope: Scope::new(alloc),
-            level: 0,
+            around: Vec::new(alloc),
             used: Log::new(alloc),
             always: Log::new(alloc),
             waiting: Vec::new(alloc),
-            next: 0,
+            entered: Vec::new(alloc),
         }
     }
 
@@ -112,7 +112,7 @@ impl<'a> State<'a> {
         ensures always { result.always ≡ length self.now.walked.always }
     {
         Kept {
-            level: self.level,
+            level: self.around.len(),
             waiting: self.waiting.len(),
             used: self.used.len(),
             always: self.always.len(),
@@ -279,7 +279,7 @@ impl<'a> State<'a> {
     fn is_at(&self, level: usize) -> bool
         ensures { result ≡ (level == self.now.walked.level) }
     {
-        level == self.level
+        level == self.around.len()
     }
 
     fn wait_if(&mut self, is_waiting: bool, mark: &Mark<'a>) -> Result<(), NoMemory>
@@ -313,40 +313,41 @@ impl<'a> State<'a> {
         }
     }
 
-    /// A binder comes into scope. An error where no memory is left, or there are too many binders to number them.
+    /// A binder comes into scope. An error where no memory is left.
     pub fn enter(&mut self, ownership: Ownership, binder: &'a Binder) -> Result<(), NoMemory>
         ensures entered { OnOk result (self.new ≡
             entered self.old record { ownership = ownership; binder = binder.now }) }
     {
-        let id = self.next;
-        let next = id.checked_add(1).ok_or(NoMemory)?;
+        let id = self.entered.len();
         let mark = Mark {
             id,
             number: binder.number,
             place: binder.place,
             name: binder.name.as_slice(),
         };
-        let level = self.level;
+        let level = self.around.len();
+        self.entered.push(binder.place)?;
         self.scope.enter(Entry {
             mark,
             ownership,
             level,
         })?;
-        self.next = next;
         Ok(())
     }
 
-    /// Into a bound expression. There are never more around than memory holds.
+    /// Into a bound expression. An error where no memory is left.
     pub fn deepen(&mut self) -> Result<(), NoMemory>
         ensures deeper { OnOk result (self.new ≡ deepened self.old) }
     {
-        self.level = self.level.checked_add(1).ok_or(NoMemory)?;
+        let kept = self.kept();
+        self.around.push(kept)?;
         Ok(())
     }
 
     /// Out of a bound expression, before which the walk stood there. E54: the variable of a lending occurrence that
     /// waits was used up in it.
     pub fn surface(&mut self, kept: Kept) -> Result<(), NoMemory>
+        requires { kept.level ≤ self.old.walked.level }
         ensures surfaced { OnOk result (self.new ≡ surfaced kept.level kept.waiting kept.used self.old) }
     {
         note_exposed(
@@ -358,7 +359,7 @@ impl<'a> State<'a> {
             kept.waiting,
         )?;
         self.waiting.truncate(kept.waiting);
-        self.level = kept.level;
+        self.around.truncate(kept.level);
         Ok(())
     }
 

@@ -9,7 +9,7 @@ use Rattle.fip_rules.specs.Shapes.{taking, binders, shape, shape_block}
 use Rattle.fip_rules.specs.Stands.{names}
 use Rattle.fip_rules.specs.Views.{world_of}
 use Rattle.fip_rules.proofs.Theorems.{left_go}
-use Rattle.fip_rules.proofs.Steps.{bound_step, clause_step, kept_scope, block_step, block_end}
+use Rattle.fip_rules.proofs.Steps.{bound_level, bound_step, clause_step, kept_scope, block_step, block_end}
 use Rattle.fip_rules.proofs.Views.{none_left, block_first, match_one, match_more}
 use Rattle.fip_rules.proofs.walk.+block.Goals as goal
 
@@ -24,6 +24,9 @@ block-loop-next-preserved t c = record {
 
 pub block-returns : goal.block-returns
 block-returns t c = record { walked = block_end (length c.args.state.now.walked.scope) c.in_scope-kept.result c.args.state.now c.loop-next.state c.expression.new.state c.leave.new.self (world_of c.args.world.now) (map binding c.deref-next-items.result.now) (map binding (drop c.loop-next.next-index c.deref-next-items.result.now)) (expression (out-Block c.args.block.now).last) (block c.args.block.now) (block_first c.args.block.now c.deref-next-items.result.now (search rules)) (none_left c.deref-next-items.result.now c.loop-next.next-index (search rules)) c.loop-next.invariant.state (search rules) (search rules) (search rules) }
+
+pub bound-surface-requires : goal.bound-surface-requires
+bound-surface-requires t c = bound_level c.args.state.now c.deepen.new.self c.expression.new.state (λ d. shape (world_of c.args.world.now) d (expression c.args.bound.now)) c.kept-kept.result.level (search rules) (search rules) (search rules)
 
 pub bound-returns : goal.bound-returns
 bound-returns t c = bound_step c.args.state.now c.deepen.new.self c.expression.new.state c.surface.new.self (λ d. shape (world_of c.args.world.now) d (expression c.args.bound.now)) c.kept-kept.result.level c.kept-kept.result.waiting c.kept-kept.result.used (search rules) (search rules) (search rules) (search rules) (search rules) (search rules)

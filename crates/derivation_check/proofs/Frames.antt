@@ -292,10 +292,6 @@ has_none (y ∷ ys) x e = by (nat_eq y x) refl (λ f. has_none ys x f)
     by true t f = absurd (let s : y ≡ x = grind (arith, nat_tests) in let g = given_here x ys in let h = ap (λ v. given x (v ∷ ys)) s in omega arith)
     by false t f = let s : x ≡ y → ⊥ = λ q. grind (arith, nat_tests) in let o = given_other x y ys s in let h = f (omega arith) in cc
 
-pub has_past : (xs : List ℕ) (x : ℕ) → ((i : ℕ) → get_or xs i 0 < 4294967296) → 4294967295 < x → has xs x ≡ false
-has_past [] x h l = refl
-has_past (y ∷ ys) x h l = let a = h 0 in let f : nat_eq y x ≡ false = grind (arith, nat_tests) in let g = has_past ys x (λ i. h (suc i)) l in cc
-
 -- ---- the binding at a place, by its binders and the number of the first one
 
 first_number : (c d : ℕ) (bs : List Binder) (f : ℕ) → AreNumbered c d bs → 0 < length bs → ((z : Binder) → (get_or bs 0 z).number ≡ f) → f ≡ c
@@ -417,7 +413,7 @@ patterns_skipped ps i x p l e f = ap (λ qs. first (binders_all (V.patterns qs))
 
 pub ruleset lent_in = (lent_header, lent_clause, lent_bindings, lent_here, lent_outer, fits_clause, fits_bindings, fits_bound)
 
-pub ruleset has_in = (has_place, has_none, has_past)
+pub ruleset has_in = (has_place, has_none)
 
 pub ruleset known_in = (known_header, known_clause_some, known_clause_none, known_bindings, known_bound, fits_clause, fits_bindings, fits_bound)
 

@@ -112,7 +112,7 @@ fn is_derived(
     ensures complete { line.now.instance ≡ number → DerivesInstance (world (V.program program.now) instance.now.kind)
         (V.instance_of instance.now) (entry line.now).tree → IsTrue result }
 {
-    if line.instance() as usize != number {
+    if line.instance() != number {
         return false;
     }
     let walk = Walk {
@@ -179,7 +179,7 @@ impl<'a> Walk<'a> {
     }
 
     // Whether the owned variables are the owned parameters that aren't scalar.
-    fn owns_parameters(&self, params: &[Param], owned: &[u32]) -> bool
+    fn owns_parameters(&self, params: &[Param], owned: &[usize]) -> bool
         requires { length params.now ≤ 4294967296 }
         ensures sound { IsTrue result → owned.now
             ≡ owned_parameters (world (V.program self.now.program.now) self.now.kind) 0 params.now }
@@ -212,7 +212,7 @@ impl<'a> Walk<'a> {
     fn owns_parameter(
         &self,
         param: Param,
-        owned: &[u32],
+        owned: &[usize],
         number: usize,
         place: usize,
     ) -> Option<usize>
@@ -235,7 +235,7 @@ impl<'a> Walk<'a> {
         if param.lent {
             return Some(place);
         }
-        if !stands_at(owned, place, number as u32) {
+        if !stands_at(owned, place, number) {
             return None;
         }
         Some(place + 1)

@@ -69,7 +69,7 @@ fn all_numbered(patterns: &[Pattern], core: usize, next: usize) -> Option<usize>
 impl<'a> Walk<'a> {
     // A binder that isn't scalar is the next of the owned variables.
     #[tactic(auto, using(crate::proofs::Owning::owning_one))]
-    fn owns(&self, binder: &Binder, owned: &[u32], at: Owning) -> Option<Owning>
+    fn owns(&self, binder: &Binder, owned: &[usize], at: Owning) -> Option<Owning>
         requires { at.next < 4294967296 }
         ensures next { IfSome result (λ r. r.next ≡ at.next + 1) }
         ensures sound { IfSome result (λ r. (bs : List B.Binder) → drop r.place owned.now
@@ -89,7 +89,7 @@ impl<'a> Walk<'a> {
                 place: at.place,
             });
         }
-        if !stands_at(owned, at.place, at.next as u32) {
+        if !stands_at(owned, at.place, at.next) {
             return None;
         }
         Some(Owning {
@@ -101,7 +101,7 @@ impl<'a> Walk<'a> {
     // The binders of a pattern that aren't scalar are the next of the owned variables.
     #[cycle(owning)]
     #[tactic(auto, using(crate::proofs::Owning::constructor_binders))]
-    fn owns_pattern(&self, pattern: &Pattern, owned: &[u32], at: Owning) -> Option<Owning>
+    fn owns_pattern(&self, pattern: &Pattern, owned: &[usize], at: Owning) -> Option<Owning>
         requires { at.next + length (binders (V.pattern pattern.now)) ≤ 4294967296 }
         ensures next { IfSome result (λ r. r.next ≡ at.next + length (binders (V.pattern pattern.now))) }
         ensures sound { IfSome result (λ r. (bs : List B.Binder) → drop r.place owned.now
@@ -129,7 +129,7 @@ impl<'a> Walk<'a> {
 
     #[cycle(owning)]
     #[tactic(auto, using(crate::proofs::Owning::owning))]
-    fn owns_patterns(&self, patterns: &[Pattern], owned: &[u32], at: Owning) -> Option<Owning>
+    fn owns_patterns(&self, patterns: &[Pattern], owned: &[usize], at: Owning) -> Option<Owning>
         requires { at.next + length (binders_all (V.patterns patterns.now)) ≤ 4294967296 }
         ensures next { IfSome result (λ r. r.next ≡ at.next + length (binders_all (V.patterns patterns.now))) }
         ensures sound { IfSome result (λ r. (bs : List B.Binder) → drop r.place owned.now
@@ -160,7 +160,7 @@ impl<'a> Walk<'a> {
     }
 
     // Whether the owned variables are just the binders that aren't scalar, numbered from one on.
-    fn owns_all(&self, binders: &[Binder], owned: &[u32], next: usize) -> bool
+    fn owns_all(&self, binders: &[Binder], owned: &[usize], next: usize) -> bool
         requires { next + length binders.now ≤ 4294967296 }
         ensures sound { IsTrue result → owned.now
             ≡ numbers (world (V.program self.now.program.now) self.now.kind) next binders.now }
@@ -186,9 +186,9 @@ impl<'a> Walk<'a> {
     #[tactic(auto, using(crate::proofs::Owning::lets))]
     pub fn lets_variables(
         &self,
-        whole: &[u32],
-        used: &[u32],
-        left: &[u32],
+        whole: &[usize],
+        used: &[usize],
+        left: &[usize],
         next: usize,
         binders: &[Binder],
     ) -> bool
@@ -213,9 +213,9 @@ impl<'a> Walk<'a> {
     #[tactic(auto, using(crate::proofs::Owning::takes_left))]
     pub fn takes_variables(
         &self,
-        whole: &[u32],
-        taken: u32,
-        left: &[u32],
+        whole: &[usize],
+        taken: usize,
+        left: &[usize],
         next: usize,
         pattern: &Pattern,
     ) -> bool

@@ -84,7 +84,7 @@ pub fn in_bindings<'a>(
 
 /// Inside what a let binds.
 #[tactic(auto, using(crate::proofs::Inside::in_let))]
-pub fn in_bound<'a>(outer: &'a Scope<'a>, whole: &'a [u32], used: &'a [u32]) -> Scope<'a>
+pub fn in_bound<'a>(outer: &'a Scope<'a>, whole: &'a [usize], used: &'a [usize]) -> Scope<'a>
     requires whole { IsRising whole.now }
     requires used { IsRising used.now }
     requires outer { Fits (frames outer.now) }
@@ -141,7 +141,7 @@ fn are_same(whole: &[Credit], have: &[Credit]) -> bool
 }
 
 /// Whether a match takes its scrutinee apart.
-pub fn is_taken(taken: Option<u32>) -> bool
+pub fn is_taken(taken: Option<usize>) -> bool
     ensures taken { result ≡ is_taken taken }
 {
     match taken {
@@ -226,7 +226,7 @@ impl<'a> Walk<'a> {
     fn takes_apart(
         &self,
         head: &Head<'_>,
-        taken: u32,
+        taken: usize,
         next: usize,
         place: usize,
         pattern: &Pattern,
@@ -435,13 +435,13 @@ impl<'a> Walk<'a> {
         let Some(variable) = meant(scope, binder) else {
             return None;
         };
-        if self.is_scalar(variable.ty) || variable.number > 4_294_967_295 {
+        if self.is_scalar(variable.ty) {
             return None;
         }
         match ruled(self.nodes, place, self.kind, next, RuleName::TakingMatch) {
             None => None,
             Some(found) => {
-                let number = variable.number as u32;
+                let number = variable.number;
                 if !has_once(&found.node.variables, number) {
                     return None;
                 }
@@ -457,7 +457,7 @@ impl<'a> Walk<'a> {
 
 // Whether a variable stands in a list that rises.
 #[tactic(auto, using(crate::proofs::Windows::once))]
-fn has_once(variables: &[u32], number: u32) -> bool
+fn has_once(variables: &[usize], number: usize) -> bool
     requires { IsRising variables.now }
     ensures sound { IsTrue result → given number variables.now ≡ 1 }
     ensures complete { given number variables.now ≡ 1 → IsTrue result }

@@ -5,6 +5,6 @@ use crate::walk::Found;
 #[derive(Clone, Copy)]
 pub struct Head<'a> {
     pub found: Found<'a>,
-    pub taken: Option<u32>,
+    pub taken: Option<usize>,
     pub below: usize,
 }

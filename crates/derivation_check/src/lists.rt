@@ -4,7 +4,7 @@ ghost use Rattle.ownership_calculus.specs.Terms.{given};
 ghost use Rattle.derivation_check.specs.Owned.{Rising};
 
 /// Whether numbers rise, all below a bound.
-pub fn rises(numbers: &[u32], below: usize) -> bool
+pub fn rises(numbers: &[usize], below: usize) -> bool
     ensures sound { IsTrue result → Rising 0 below numbers.now }
     ensures complete { Rising 0 below numbers.now → IsTrue result }
 {
@@ -21,7 +21,7 @@ pub fn rises(numbers: &[u32], below: usize) -> bool
 
 /// Whether each variable of the first list stands in the second.
 #[tactic(auto, using(crate::proofs::Numbers::within))]
-pub fn is_within(few: &[u32], many: &[u32]) -> bool
+pub fn is_within(few: &[usize], many: &[usize]) -> bool
     ensures sound { IsTrue result → (c d : ℕ) → Rising 0 c few.now → Rising 0 d many.now →
         (x : ℕ) → given x few.now ≤ given x many.now }
     ensures complete { (c d : ℕ) → Rising 0 c few.now → Rising 0 d many.now →
@@ -37,7 +37,7 @@ pub fn is_within(few: &[u32], many: &[u32]) -> bool
 }
 
 /// Whether a number stands at a place of a list.
-pub fn stands_at(list: &[u32], place: usize, number: u32) -> bool
+pub fn stands_at(list: &[usize], place: usize, number: usize) -> bool
     ensures here { IsTrue result → (place < length list.now) × (drop place list.now
         ≡ number ∷ drop (place + 1) list.now) }
     ensures other { drop place list.now ≡ number ∷ drop (place + 1) list.now → IsTrue result }
@@ -50,7 +50,7 @@ pub fn stands_at(list: &[u32], place: usize, number: u32) -> bool
 
 /// Whether each variable of the whole stands in just one of two lists, which have no other.
 #[tactic(auto, using(crate::proofs::Numbers::splitting))]
-pub fn is_split(whole: &[u32], one: &[u32], other: &[u32]) -> bool
+pub fn is_split(whole: &[usize], one: &[usize], other: &[usize]) -> bool
     ensures sound { IsTrue result → (x : ℕ) → given x whole.now ≡ given x one.now + given x other.now }
     ensures complete { (c d e : ℕ) → Rising 0 c whole.now → Rising 0 d one.now → Rising 0 e other.now →
         ((x : ℕ) → given x whole.now ≡ given x one.now + given x other.now) → IsTrue result }
@@ -70,7 +70,7 @@ pub fn is_split(whole: &[u32], one: &[u32], other: &[u32]) -> bool
 }
 
 /// How many numbers at the front are below a bound.
-pub fn front_below(numbers: &[u32], below: usize) -> usize
+pub fn front_below(numbers: &[usize], below: usize) -> usize
     ensures within { result ≤ length numbers.now }
     ensures low { (x : ℕ) → below ≤ x → given x (take result numbers.now) ≡ 0 }
     ensures high { (n d : ℕ) → Rising n d numbers.now → (x : ℕ) → x < below → given x (drop result numbers.now) ≡ 0 }

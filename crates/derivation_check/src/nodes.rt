@@ -42,7 +42,7 @@ pub fn node_at<'a>(nodes: &'a [Node], place: usize) -> Option<&'a Node>
 
 /// The variables of the node at a place; none where there is no node.
 #[tactic(auto, using(crate::proofs::Rows::variables_there))]
-pub fn variables_at<'a>(nodes: &'a [Node], place: usize) -> &'a [u32]
+pub fn variables_at<'a>(nodes: &'a [Node], place: usize) -> &'a [usize]
     ensures counted { (x : ℕ) → root (at nodes.now place) (Own x) ≡ given x result.now }
     ensures own { own_variables (at nodes.now place) ≡ result.now }
     ensures rise { (d : ℕ) → IsOwned d (at nodes.now place) → Rising 0 d result.now }

@@ -28,7 +28,7 @@ impl Window {
     }
 
     // Sees a variable of the whole; false where it has no such variable, or this was seen before.
-    fn see(&mut self, whole: &[u32], variable: u32) -> bool
+    fn see(&mut self, whole: &[usize], variable: usize) -> bool
         requires { IsRising whole.now }
         ensures start { self.new.start ≡ self.old.start }
         ensures seen { IsTrue result → (c : ℕ → ℕ) → Marked self.old.seen self.old.start whole.now c →
@@ -69,7 +69,7 @@ impl Window {
     }
 
     // Sees some variables.
-    fn see_all(&mut self, whole: &[u32], variables: &[u32]) -> bool
+    fn see_all(&mut self, whole: &[usize], variables: &[usize]) -> bool
         requires { IsRising whole.now }
         ensures start { self.new.start ≡ self.old.start }
         ensures seen { IsTrue result → (c : ℕ → ℕ) → Marked self.old.seen self.old.start whole.now c →
@@ -87,7 +87,7 @@ impl Window {
     }
 
     // Whether all places were seen that the whole has in the window.
-    fn is_full(&self, whole: &[u32]) -> bool
+    fn is_full(&self, whole: &[usize]) -> bool
         ensures sound { IsTrue result → (k : ℕ) → k < 256 → self.now.start + k < length whole.now →
             get_or self.now.seen k false ≡ true }
         ensures complete { ((k : ℕ) → k < 256 → self.now.start + k < length whole.now →
@@ -103,7 +103,7 @@ impl Window {
 }
 
 /// The place of a number in a list that rises.
-pub fn place_of(list: &[u32], number: u32) -> Option<usize>
+pub fn place_of(list: &[usize], number: usize) -> Option<usize>
     ensures some { IfSome result (λ i. (i < length list.now) × (get_or list.now i 0 ≡ number)) }
     ensures none { IsRising list.now → IfNone result (given number list.now ≡ 0) }
 {
@@ -115,7 +115,7 @@ pub fn place_of(list: &[u32], number: u32) -> Option<usize>
 
 // Whether of the variables at 256 places of the whole, from one on, each stands in just one of some nodes, which have
 // no other but those of the whole.
-fn is_parted_from(nodes: &[Node], first: usize, count: usize, whole: &[u32], start: usize) -> bool
+fn is_parted_from(nodes: &[Node], first: usize, count: usize, whole: &[usize], start: usize) -> bool
     requires { IsRising whole.now }
     ensures sound { IsTrue result → (k : ℕ) → start ≤ k → k < start + 256 → k < length whole.now →
         roots (parts nodes.now first count) (Own (get_or whole.now k 0)) ≡ 1 }
@@ -136,7 +136,7 @@ fn is_parted_from(nodes: &[Node], first: usize, count: usize, whole: &[u32], sta
 }
 
 /// Whether each variable of the whole, which rises, stands in just one of some nodes, which have no other.
-pub fn is_parted(nodes: &[Node], first: usize, count: usize, whole: &[u32]) -> bool
+pub fn is_parted(nodes: &[Node], first: usize, count: usize, whole: &[usize]) -> bool
     requires { IsRising whole.now }
     ensures sound { IsTrue result → (x : ℕ) → given x whole.now ≡ roots (parts nodes.now first count) (Own x) }
     ensures complete { ((x : ℕ) → given x whole.now ≡ roots (parts nodes.now first count) (Own x)) → IsTrue result }

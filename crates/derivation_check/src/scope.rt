@@ -56,8 +56,8 @@ pub enum Scope<'a> {
     /// A let, inside what it binds. Of what it has that is lent which the bound expression doesn't have.
     Bound {
         outer: &'a Scope<'a>,
-        whole: &'a [u32],
-        used: &'a [u32],
+        whole: &'a [usize],
+        used: &'a [usize],
     },
 }
 
@@ -81,7 +81,7 @@ pub fn lends(scope: &Scope<'_>, number: usize) -> bool
 }
 
 // Whether a number stands in the first list and not in the second.
-fn is_left(whole: &[u32], used: &[u32], number: usize) -> bool
+fn is_left(whole: &[usize], used: &[usize], number: usize) -> bool
     requires whole { IsRising whole.now }
     requires used { IsRising used.now }
     ensures left { result ≡ (has whole.now number && not (has used.now number)) }
@@ -91,14 +91,11 @@ fn is_left(whole: &[u32], used: &[u32], number: usize) -> bool
 
 // Whether a number stands in a list that rises.
 #[tactic(auto, using(crate::proofs::Frames::has_in))]
-fn has(list: &[u32], number: usize) -> bool
+fn has(list: &[usize], number: usize) -> bool
     requires { IsRising list.now }
     ensures has { result ≡ has list.now number }
 {
-    if number > 4_294_967_295 {
-        return false;
-    }
-    match place_of(list, number as u32) {
+    match place_of(list, number) {
         Some(_) => true,
         None => false,
     }

@@ -39,7 +39,7 @@ pub struct Reader {
     // the node that is read: its rule, the letters that are still to come, and what it uses up
     rule: RuleName,
     letters: &'static [u8],
-    variables: Vec<u32>,
+    variables: Vec<usize>,
     credits: Vec<Credit>,
     size: u8,
 }
@@ -243,14 +243,14 @@ impl Reader {
         ensures { Steps result self.new (pass_variable flats self.old byte) }
     {
         if byte == b'|' {
-            self.variables.push(self.number)?;
+            self.variables.push(self.number as usize)?;
             self.to_credits();
             return Ok(());
         }
         if byte != b' ' || self.number == u32::MAX {
             return Err(ByteError::Bad);
         }
-        self.variables.push(self.number)?;
+        self.variables.push(self.number as usize)?;
         self.spot = Spot::Variable;
         self.least = u64::from(self.number) + 1;
         Ok(())
@@ -368,7 +368,7 @@ impl Reader {
             return Err(ByteError::Bad);
         }
         let nodes = mem::replace(&mut self.nodes, Builder::new(self.alloc));
-        self.lines.push(Line::new(self.instance, nodes))?;
+        self.lines.push(Line::new(self.instance as usize, nodes))?;
         self.spot = Spot::Line;
         self.least = u64::from(self.instance) + 1;
         Ok(())

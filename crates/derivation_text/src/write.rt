@@ -34,14 +34,14 @@ pub fn write_line(alloc: Global, text: &mut Vec<u8>, line: &Line) -> Result<(), 
     ensures text { IsTree line.now →
         OnOk result (text.new.items ≡ text.old.items ++ line_text (entry line.now) []) }
 {
-    write_number(text, line.instance())?;
+    write_number(text, line.instance() as u64)?;
     text.push(b' ')?;
     write_nodes(alloc, text, line.nodes())?;
     text.push(b'\n')?;
     Ok(())
 }
 
-fn write_number(text: &mut Vec<u8>, number: u32) -> Result<(), NoMemory>
+fn write_number(text: &mut Vec<u8>, number: u64) -> Result<(), NoMemory>
     ensures { OnOk result (text.new.items ≡ text.old.items ++ decimal number) }
 {
     let mut buffer = Buffer::new();
@@ -107,24 +107,24 @@ fn write_head(text: &mut Vec<u8>, node: &Node) -> Result<(), NoMemory>
     Ok(())
 }
 
-fn write_variables(text: &mut Vec<u8>, variables: &[u32]) -> Result<(), NoMemory>
+fn write_variables(text: &mut Vec<u8>, variables: &[usize]) -> Result<(), NoMemory>
     ensures { OnOk result (text.new.items ≡ text.old.items ++ variables_text variables.now []) }
 {
     match variables.split_first() {
         None => Ok(()),
         Some((first, more)) => {
-            write_number(text, *first)?;
+            write_number(text, *first as u64)?;
             write_more_variables(text, more)
         }
     }
 }
 
-fn write_more_variables(text: &mut Vec<u8>, variables: &[u32]) -> Result<(), NoMemory>
+fn write_more_variables(text: &mut Vec<u8>, variables: &[usize]) -> Result<(), NoMemory>
     ensures { OnOk result (text.new.items ≡ text.old.items ++ more_variables variables.now []) }
 {
     for variable in variables {
         text.push(b' ')?;
-        write_number(text, *variable)?;
+        write_number(text, *variable as u64)?;
     }
     Ok(())
 }
@@ -154,7 +154,7 @@ fn write_more_credits(text: &mut Vec<u8>, credits: &[Credit]) -> Result<(), NoMe
 fn write_credit(text: &mut Vec<u8>, credit: Credit) -> Result<(), NoMemory>
     ensures { OnOk result (text.new.items ≡ text.old.items ++ credit_text credit []) }
 {
-    write_number(text, u32::from(credit.size))?;
+    write_number(text, u64::from(credit.size))?;
     text.push(b':')?;
-    write_number(text, credit.count)
+    write_number(text, u64::from(credit.count))
 }

@@ -1,2 +1,3 @@
 pub mod Places
 pub mod Altering
+pub mod Opening

@@ -1,9 +1,9 @@
 // What a derivation is: lines of nodes.
-ghost use Rattle.std.specs.Prelude.{◌≡◌, ◌-◌, [], length, OnOk};
+ghost use Rattle.std.specs.Prelude.{◌≡◌, [], length, OnOk};
 ghost use Rattle.derivation_trees.specs.Trees.{heads};
-ghost use Rattle.derivation_trees.specs.Building.{built, nothing_built, alter, alter_at, with_part};
-ghost use Rattle.derivation_trees.specs.Building.{with_span, opened, closed};
+ghost use Rattle.derivation_trees.specs.Parts.{AreThere, HaveFewParts};
 
+use crate::parts::{add_part, set_span};
 use fip_base::plain::NoMemory;
 use std::alloc::Global;
 
@@ -39,7 +39,7 @@ pub struct Credit {
 pub struct Node {
     pub rule: RuleName,
     /// The owned variables' numbers, rising.
-    pub variables: Vec<u32>,
+    pub variables: Vec<usize>,
     /// The credits, their sizes rising.
     pub credits: Vec<Credit>,
     /// The number of its parts.
@@ -52,13 +52,13 @@ pub struct Node {
 /// The derivation of an instance: the nodes of a tree, each before its parts, its first part directly after it.
 #[derive(Drop)]
 pub struct Line {
-    instance: u32,
+    instance: usize,
     nodes: Vec<Node>,
 }
 
 impl Line {
     /// The derivation of the instance of this number; nodes that are open are closed.
-    pub fn new(instance: u32, builder: Builder) -> Line
+    pub fn new(instance: usize, builder: Builder) -> Line
         ensures instance { result.instance ≡ instance }
         ensures nodes { builder.open.items ≡ [] → result.nodes.items ≡ builder.nodes.items }
     {
@@ -69,7 +69,7 @@ impl Line {
     }
 
     /// The number of the instance.
-    pub fn instance(&self) -> u32
+    pub fn instance(&self) -> usize
         ensures instance { result ≡ self.now.instance }
     {
         self.instance
@@ -110,9 +110,13 @@ impl Derivation {
 pub struct Builder {
     nodes: Vec<Node>,
     open: Vec<usize>,
+    ghost there: { AreThere (length nodes.items) open.items },
+    ghost few: { HaveFewParts (length nodes.items) (heads nodes.items) },
 }
 
 impl Builder {
+    ghost use Rattle.derivation_trees.specs.Building.{built, nothing_built, opened, closed};
+
     /// No node.
     pub fn new(alloc: Global) -> Builder
         ensures none { built result ≡ nothing_built }
@@ -134,13 +138,13 @@ impl Builder {
     pub fn open(
         &mut self,
         rule: RuleName,
-        variables: Vec<u32>,
+        variables: Vec<usize>,
         credits: Vec<Credit>,
     ) -> Result<(), NoMemory>
         ensures opened { OnOk result (built self.new ≡ opened (built self.old) rule variables.items credits.items) }
     {
-        add_part(&mut self.nodes, self.open.last().copied())?;
-        self.open.push(self.nodes.len())?;
+        let around = self.open.last().copied();
+        let place = self.nodes.len();
         self.nodes.push(Node {
             rule,
             variables,
@@ -148,6 +152,8 @@ impl Builder {
             parts: 0,
             span: 1,
         })?;
+        self.open.push(place)?;
+        add_part(&mut self.nodes, around);
         Ok(())
     }
 
@@ -168,34 +174,5 @@ impl Builder {
             self.close();
         }
         self.nodes
-    }
-}
-
-// The node at a place has one part more.
-fn add_part(nodes: &mut Vec<Node>, place: Option<usize>) -> Result<(), NoMemory>
-    ensures { OnOk result (heads nodes.new.items ≡ alter_at with_part place (heads nodes.old.items)) }
-{
-    match place {
-        None => Ok(()),
-        Some(place) => add_part_at(nodes, place),
-    }
-}
-
-fn add_part_at(nodes: &mut Vec<Node>, place: usize) -> Result<(), NoMemory>
-    ensures { OnOk result (heads nodes.new.items ≡ alter with_part place (heads nodes.old.items)) }
-{
-    if let Some(node) = nodes.get_mut(place) {
-        node.parts = node.parts.checked_add(1).ok_or(NoMemory)?;
-    }
-    Ok(())
-}
-
-// The tree of the node at a place ends with the nodes.
-fn set_span(nodes: &mut Vec<Node>, place: usize)
-    ensures { heads nodes.new.items ≡ alter (with_span (length nodes.old.items - place)) place (heads nodes.old.items) }
-{
-    let end = nodes.len();
-    if let Some(node) = nodes.get_mut(place) {
-        node.span = end.saturating_sub(place);
     }
 }

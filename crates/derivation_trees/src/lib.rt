@@ -19,5 +19,6 @@
 #![tactic(auto)]
 
 mod derivation;
+mod parts;
 
 pub use derivation::{Builder, Credit, Derivation, Line, Node, RuleName};

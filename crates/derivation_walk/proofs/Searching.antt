@@ -23,7 +23,7 @@ one_within first end [] i l f g = absurd (omega arith)
 one_within first end (x ∷ xs) zero l f g = ap (λ b. b || has_within first end xs) (is_inside first end x f g)
 one_within first end (x ∷ xs) (suc i) l f g = or_true (not (nat_lt x first) && nat_lt x end) (has_within first end xs) (one_within first end xs i (omega arith) f g)
 
-none_within : (first end : ℕ) (xs : List ℕ) → ((i : ℕ) → i < length xs → (get_or xs i 0 < first) ⊎ (end ≤ get_or xs i 0)) → has_within first end xs ≡ false
+pub none_within : (first end : ℕ) (xs : List ℕ) → ((i : ℕ) → i < length xs → (get_or xs i 0 < first) ⊎ (end ≤ get_or xs i 0)) → has_within first end xs ≡ false
 none_within first end [] h = refl
 none_within first end (x ∷ xs) h =
     ap (λ b. b || has_within first end xs) (is_outside first end x (h 0 (omega arith)))

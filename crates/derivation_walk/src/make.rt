@@ -4,7 +4,7 @@
 // The walk goes down from what a function owns. Of what is there an expression asks for the variables that occur in it
 // and for the credits that it needs. Of a let's own variables those that the bound expression uses up go there, all
 // others to the rest, and the bound expression may lend them.
-ghost use Rattle.std.specs.Prelude.{◌≡◌, ◌+◌, ◌<◌, [], slice_get, filter, length, not, IfOk, OnOk, Err};
+ghost use Rattle.std.specs.Prelude.{◌≡◌, ◌+◌, ◌<◌, ◌≤◌, [], slice_get, filter, length, not, IfOk, OnOk, Err};
 ghost use Rattle.fip_trees.specs.TreeView as V;
 ghost use Rattle.fip_trees.specs.Sizes.{no_sizes};
 ghost use Rattle.fip_trees.specs.Tree as T;
@@ -93,22 +93,21 @@ pub fn line_of(
         needs,
     };
     let nodes = guide.nodes_of(instance, room)?;
-    let instance = u32::try_from(number).or(Err(LineError::NoMemory))?;
-    Ok(Line::new(instance, nodes))
+    Ok(Line::new(number, nodes))
 }
 
 // Owned variables, rising, and credits.
 #[derive(Drop)]
 struct Owned {
-    variables: Vec<u32>,
+    variables: Vec<usize>,
     credits: Sizes,
 }
 
 // What is asked: the variables that occur in an expression from `first` to before `end`, and credits.
 #[derive(Clone, Copy)]
 struct Asked {
-    first: usize,
-    end: usize,
+    first: u128,
+    end: u128,
     need: Sizes,
 }
 
@@ -160,7 +159,7 @@ impl Guide<'_> {
         Ok(Owned { variables, credits })
     }
 
-    fn owned_parameters(&self, params: &[Param]) -> Result<Vec<u32>, NoMemory>
+    fn owned_parameters(&self, params: &[Param]) -> Result<Vec<usize>, NoMemory>
         ensures { IfOk result (λ v. v.items ≡ W.owned_parameters (guided self.now) [] 0 params.now) }
     {
         let mut variables = Vec::new(self.alloc);
@@ -175,20 +174,21 @@ impl Guide<'_> {
     }
 
     // What the expression of a number asks for.
-    fn asked_by(&self, expression: usize) -> Result<Asked, NoMemory>
-        ensures { IfOk result (λ a. asking a ≡ W.asked (guided self.now) expression) }
+    fn asked_by(&self, expression: usize) -> Asked
+        ensures { asking result ≡ W.asked (guided self.now) expression }
     {
+        let first = expression as u128;
         match self.needs.get(expression) {
-            Some(need) => Ok(Asked {
-                first: expression,
-                end: expression.checked_add(need.span).ok_or(NoMemory)?,
+            Some(need) => Asked {
+                first,
+                end: first + need.span as u128,
                 need: need.sizes,
-            }),
-            None => Ok(Asked {
-                first: expression,
-                end: expression,
+            },
+            None => Asked {
+                first,
+                end: first,
                 need: Sizes::none(),
-            }),
+            },
         }
     }
 
@@ -199,7 +199,7 @@ impl Guide<'_> {
         ensures same { walk.new.nodes ≡ walk.old.nodes }
         ensures room { walk.new.room ≡ walk.old.room }
     {
-        let asked = self.asked_by(walk.next)?;
+        let asked = self.asked_by(walk.next);
         walk.next = walk.next.checked_add(1).ok_or(NoMemory)?;
         Ok(asked)
     }
@@ -209,7 +209,7 @@ impl Guide<'_> {
         &self,
         walk: &mut Walk,
         rule: RuleName,
-        variables: Vec<u32>,
+        variables: Vec<usize>,
         credits: &Sizes,
     ) -> Result<(), LineError>
         ensures opened { OnOk result (built walk.new.nodes ≡
@@ -234,11 +234,12 @@ impl Guide<'_> {
         walk: &mut Walk,
         rule: RuleName,
         there: Owned,
-        variables: Vec<u32>,
+        variables: Vec<usize>,
         need: &Sizes,
     ) -> Result<usize, LineError>
         ensures awaits { IfOk result (λ n. Awaits n (built walk.old.nodes) (built walk.new.nodes)
             (W.node rule (holding there) variables.items need.now)) }
+        ensures few { IfOk result (λ n. n ≤ 2) }
         ensures kept { OnOk result (total walk.new ≡ total walk.old) }
         ensures short { result ≡ Err TooLong → (ts : Trees) →
             walk.old.room < cost (W.node rule (holding there) variables.items need.now ts) }
@@ -268,7 +269,7 @@ impl Guide<'_> {
     }
 
     // Those of the variables that are asked for.
-    fn those_in(&self, variables: &[u32], asked: &Asked) -> Result<Vec<u32>, NoMemory>
+    fn those_in(&self, variables: &[usize], asked: &Asked) -> Result<Vec<usize>, NoMemory>
         ensures { IfOk result (λ v. v.items ≡ W.those (guided self.now) (asking asked.now) variables.now) }
     {
         let mut found = Vec::new(self.alloc);
@@ -281,7 +282,7 @@ impl Guide<'_> {
     }
 
     // Those that are used up in what is bound, or those that aren't.
-    fn used_in(&self, variables: &[u32], bound: &Asked) -> Result<Vec<u32>, NoMemory>
+    fn used_in(&self, variables: &[usize], bound: &Asked) -> Result<Vec<usize>, NoMemory>
         ensures { IfOk result (λ v. v.items ≡ W.used (guided self.now) (asking bound.now) variables.now) }
     {
         let mut found = Vec::new(self.alloc);
@@ -293,7 +294,7 @@ impl Guide<'_> {
         Ok(found)
     }
 
-    fn unused_in(&self, variables: &[u32], bound: &Asked) -> Result<Vec<u32>, NoMemory>
+    fn unused_in(&self, variables: &[usize], bound: &Asked) -> Result<Vec<usize>, NoMemory>
         ensures { IfOk result (λ v. v.items ≡ W.unused (guided self.now) (asking bound.now) variables.now) }
     {
         let mut found = Vec::new(self.alloc);
@@ -306,7 +307,7 @@ impl Guide<'_> {
     }
 
     // The variable of a binder comes to the others where it isn't scalar.
-    fn bind(&self, variables: &mut Vec<u32>, binder: usize, ty: u32) -> Result<(), NoMemory>
+    fn bind(&self, variables: &mut Vec<usize>, binder: usize, ty: u32) -> Result<(), NoMemory>
         ensures { OnOk result (variables.new.items ≡ W.bound (guided self.now) variables.old.items binder ty) }
     {
         if !self.context.is_scalar(ty) {
@@ -315,7 +316,7 @@ impl Guide<'_> {
         Ok(())
     }
 
-    fn bind_all(&self, variables: &mut Vec<u32>, binders: &[Binder]) -> Result<(), NoMemory>
+    fn bind_all(&self, variables: &mut Vec<usize>, binders: &[Binder]) -> Result<(), NoMemory>
         ensures { OnOk result (variables.new.items ≡
             W.bound_all (guided self.now) variables.old.items binders.now) }
     {
@@ -326,7 +327,7 @@ impl Guide<'_> {
     }
 
     #[cycle(pattern)]
-    fn bind_pattern(&self, variables: &mut Vec<u32>, pattern: &Pattern) -> Result<(), NoMemory>
+    fn bind_pattern(&self, variables: &mut Vec<usize>, pattern: &Pattern) -> Result<(), NoMemory>
         ensures { OnOk result (variables.new.items ≡
             W.bound_pattern (guided self.now) variables.old.items (V.pattern pattern.now)) }
     {
@@ -338,7 +339,7 @@ impl Guide<'_> {
     }
 
     #[cycle(pattern)]
-    fn bind_patterns(&self, variables: &mut Vec<u32>, patterns: &[Pattern]) -> Result<(), NoMemory>
+    fn bind_patterns(&self, variables: &mut Vec<usize>, patterns: &[Pattern]) -> Result<(), NoMemory>
         ensures { OnOk result (variables.new.items ≡
             W.bound_patterns (guided self.now) variables.old.items (V.patterns patterns.now)) }
     {
@@ -369,7 +370,7 @@ impl Guide<'_> {
         walk: &mut Walk,
         block: &Block,
         asked: Asked,
-        variables: Vec<u32>,
+        variables: Vec<usize>,
         credits: Sizes,
     ) -> Result<(), LineError>
         ensures grows { OnOk result (built walk.new.nodes ≡ grown (built walk.old.nodes)
@@ -392,7 +393,7 @@ impl Guide<'_> {
                 end: asked.end,
                 need,
             };
-            let bound = self.asked_by(walk.next)?;
+            let bound = self.asked_by(walk.next);
             let there = Owned {
                 variables: numbers,
                 credits: sizes,
@@ -402,7 +403,7 @@ impl Guide<'_> {
             sizes = left.credits;
             first = bound.end;
             need = left.credits;
-            opened = opened.checked_add(nodes).ok_or(LineError::NoMemory)?;
+            opened += nodes;
         }
         let there = Owned {
             variables: numbers,
@@ -427,6 +428,7 @@ impl Guide<'_> {
         ensures awaits { IfOk result (λ r. AwaitsOne r.0 (built walk.old.nodes) (built walk.new.nodes)
             (W.let_node (guided self.now) walk.old.next (holding there) (asking asked.now) (asking bound.now)
             (V.binding binding.now).bound)) }
+        ensures few { IfOk result (λ r. r.0 ≤ 2) }
         ensures kept { OnOk result (total walk.new ≡ total walk.old) }
         ensures short { result ≡ Err TooLong → (t : Tree) → walk.old.room < cost
             (W.let_node (guided self.now) walk.old.next (holding there) (asking asked.now) (asking bound.now)
@@ -542,7 +544,7 @@ impl Guide<'_> {
         walk: &mut Walk,
         is_taken: bool,
         binder: Option<usize>,
-        variables: &[u32],
+        variables: &[usize],
         credits: &Sizes,
         clause: &Clause,
     ) -> Result<(), LineError>
@@ -564,7 +566,7 @@ impl Guide<'_> {
         &self,
         is_taken: bool,
         binder: Option<usize>,
-        variables: &[u32],
+        variables: &[usize],
         credits: &Sizes,
         pattern: &Pattern,
     ) -> Result<Owned, NoMemory>
@@ -589,7 +591,7 @@ impl Guide<'_> {
     }
 
     // The variables but for that of a binder.
-    fn all_but(&self, binder: Option<usize>, variables: &[u32]) -> Result<Vec<u32>, NoMemory>
+    fn all_but(&self, binder: Option<usize>, variables: &[usize]) -> Result<Vec<usize>, NoMemory>
         ensures { IfOk result (λ v. v.items ≡
             filter (λ n. not (W.is_scrutinee (guided self.now) n binder)) variables.now) }
     {
@@ -602,7 +604,7 @@ impl Guide<'_> {
         Ok(found)
     }
 
-    fn is_scrutinee(&self, number: u32, binder: Option<usize>) -> bool
+    fn is_scrutinee(&self, number: usize, binder: Option<usize>) -> bool
         ensures { result ≡ W.is_scrutinee (guided self.now) number binder }
     {
         match binder {
@@ -617,7 +619,7 @@ impl Guide<'_> {
         walk: &mut Walk,
         is_taken: bool,
         binder: Option<usize>,
-        variables: &[u32],
+        variables: &[usize],
         credits: &Sizes,
         clauses: &[Clause],
     ) -> Result<(), LineError>
@@ -811,7 +813,7 @@ impl Guide<'_> {
     }
 
     // The variables of an argument that aren't scalar, rising.
-    fn owning(&self, argument: &Argument) -> Result<Vec<u32>, NoMemory>
+    fn owning(&self, argument: &Argument) -> Result<Vec<usize>, NoMemory>
         ensures { IfOk result (λ v. v.items ≡
             W.sorted (W.owning (guided self.now) [] (V.argument argument.now))) }
     {
@@ -823,7 +825,7 @@ impl Guide<'_> {
 
     // Adds the variables of an argument that aren't scalar.
     #[cycle(owning)]
-    fn add_owning(&self, variables: &mut Vec<u32>, argument: &Argument) -> Result<(), NoMemory>
+    fn add_owning(&self, variables: &mut Vec<usize>, argument: &Argument) -> Result<(), NoMemory>
         ensures { OnOk result (variables.new.items ≡
             W.owning (guided self.now) variables.old.items (V.argument argument.now)) }
     {
@@ -837,7 +839,7 @@ impl Guide<'_> {
     #[cycle(owning)]
     fn add_all_owning(
         &self,
-        variables: &mut Vec<u32>,
+        variables: &mut Vec<usize>,
         arguments: &[Argument],
     ) -> Result<(), NoMemory>
         ensures { OnOk result (variables.new.items ≡
@@ -849,7 +851,7 @@ impl Guide<'_> {
         Ok(())
     }
 
-    fn add_variable(&self, variables: &mut Vec<u32>, binder: Option<usize>) -> Result<(), NoMemory>
+    fn add_variable(&self, variables: &mut Vec<usize>, binder: Option<usize>) -> Result<(), NoMemory>
         ensures { OnOk result (variables.new.items ≡
             W.owning_variable (guided self.now) variables.old.items binder) }
     {

@@ -10,7 +10,7 @@ pub struct Uses {
     // By their numbers.
     pub(crate) variables: Vec<Bound>,
     // By their binders.
-    pub(crate) numbers: Vec<u32>,
+    pub(crate) numbers: Vec<usize>,
     // By their binders, the expressions in which each occurs, and those in which it is used up.
     pub(crate) occurring: Vec<Vec<usize>>,
     pub(crate) used: Vec<Vec<usize>>,

@@ -31,7 +31,7 @@ impl Uses {
     }
 
     /// The number of the variable of a binder.
-    pub fn number_of(&self, binder: usize) -> u32
+    pub fn number_of(&self, binder: usize) -> usize
         ensures number { result ≡ L.number_at self.now binder }
     {
         match self.numbers.get(binder) {
@@ -41,40 +41,40 @@ impl Uses {
     }
 
     /// Whether a variable is scalar.
-    pub fn is_scalar(&self, number: u32) -> bool
+    pub fn is_scalar(&self, number: usize) -> bool
         ensures scalar { result ≡ L.is_scalar_at self.now number }
     {
-        match self.variables.get(number as usize) {
+        match self.variables.get(number) {
             Some(variable) => variable.is_scalar,
             None => true,
         }
     }
 
     /// Whether a variable is that of a binder.
-    pub fn is_bound_by(&self, number: u32, binder: usize) -> bool
+    pub fn is_bound_by(&self, number: usize, binder: usize) -> bool
         ensures bound { result ≡ L.is_bound_by self.now number binder }
     {
-        match self.variables.get(number as usize) {
+        match self.variables.get(number) {
             Some(variable) => variable.binder == binder,
             None => false,
         }
     }
 
     /// Whether a variable is used up in one of the expressions from `first` to before `end`.
-    pub fn is_used(&self, number: u32, first: usize, end: usize) -> bool
+    pub fn is_used(&self, number: usize, first: u128, end: u128) -> bool
         ensures used { result ≡ L.uses_at self.now number first end }
     {
-        match self.variables.get(number as usize) {
+        match self.variables.get(number) {
             Some(variable) => is_within(&self.used, variable.binder, first, end),
             None => false,
         }
     }
 
     /// Whether a variable occurs in one of the expressions from `first` to before `end`.
-    pub fn occurs(&self, number: u32, first: usize, end: usize) -> bool
+    pub fn occurs(&self, number: usize, first: u128, end: u128) -> bool
         ensures occurs { result ≡ L.occurs_at self.now number first end }
     {
-        match self.variables.get(number as usize) {
+        match self.variables.get(number) {
             Some(variable) => is_within(&self.occurring, variable.binder, first, end),
             None => false,
         }
@@ -82,21 +82,21 @@ impl Uses {
 }
 
 // For each binder the number of its variable.
-fn numbers_of(alloc: Global, variables: &[Bound]) -> Result<Vec<u32>, NoMemory>
+fn numbers_of(alloc: Global, variables: &[Bound]) -> Result<Vec<usize>, NoMemory>
     ensures { IfOk result (λ v. v.items ≡ numbers_of variables.now) }
 {
     let mut numbers = zeros(alloc, variables.len())?;
-    let mut next: u32 = 0;
+    let mut next: usize = 0;
     for variable in variables {
         if let Some(number) = numbers.get_mut(variable.binder) {
             *number = next;
         }
-        next = next.checked_add(1).ok_or(NoMemory)?;
+        next += 1;
     }
     Ok(numbers)
 }
 
-fn zeros(alloc: Global, count: usize) -> Result<Vec<u32>, NoMemory>
+fn zeros(alloc: Global, count: usize) -> Result<Vec<usize>, NoMemory>
     ensures { IfOk result (λ v. v.items ≡ zeros count) }
 {
     let mut zeros = Vec::new(alloc);
@@ -141,7 +141,7 @@ fn add_place(places: &mut Vec<Vec<usize>>, occurrence: &Occurrence) -> Result<()
 }
 
 // Whether one of the places of a binder lies from `first` to before `end`.
-fn is_within(places: &[Vec<usize>], binder: usize, first: usize, end: usize) -> bool
+fn is_within(places: &[Vec<usize>], binder: usize, first: u128, end: u128) -> bool
     requires { (x : ℕ) → IsRising (row_at (rows places.now) x) }
     ensures { result ≡ T.has_within first end (row_at (rows places.now) binder) }
 {
@@ -151,7 +151,18 @@ fn is_within(places: &[Vec<usize>], binder: usize, first: usize, end: usize) -> 
     }
 }
 
-fn has_within(places: &[usize], first: usize, end: usize) -> bool
+fn has_within(places: &[usize], first: u128, end: u128) -> bool
+    requires { IsRising places.now }
+    ensures { result ≡ T.has_within first end places.now }
+{
+    match usize::try_from(first) {
+        Ok(first) => has_from(places, first, end),
+        // No place is so great a number.
+        Err(_) => false,
+    }
+}
+
+fn has_from(places: &[usize], first: usize, end: u128) -> bool
     requires { IsRising places.now }
     ensures { result ≡ T.has_within first end places.now }
 {
@@ -160,7 +171,7 @@ fn has_within(places: &[usize], first: usize, end: usize) -> bool
         Err(next) => next,
     };
     match places.get(next) {
-        Some(place) => *place < end,
+        Some(place) => (*place as u128) < end,
         None => false,
     }
 }

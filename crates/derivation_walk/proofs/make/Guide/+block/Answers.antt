@@ -105,6 +105,7 @@ parts-loop-binding-init t c =
       grows = ap (λ d. grown b0 (walked_parts g i o (asking c.args.asked) d)) (sym e);
       next = ap (λ d. i + size_parts d) (sym e);
       kept = refl;
+      few = omega arith;
     }
 
 pub parts-loop-binding-preserved : goal.parts-loop-binding-preserved
@@ -112,7 +113,7 @@ parts-loop-binding-preserved t c =
     let g = guided c.args.self.now in
     let m = c.loop-binding.opened in
     let n = c.in_ok-nodes.nodes in
-    let k = c.in_ok-opened.opened in
+    let k = m + n in
     let b = built c.loop-binding.walk.nodes in
     let i = c.loop-binding.walk.next in
     let items = c.deref-binding-items.result.now in
@@ -120,21 +121,24 @@ parts-loop-binding-preserved t c =
     let o : Owned = record { variables = c.loop-binding.numbers.items; credits = c.loop-binding.sizes } in
     let o1 : Owned = record { variables = c.in_ok-nodes.left.variables.items; credits = c.in_ok-nodes.left.credits } in
     let a : Asked = record { first = c.loop-binding.first; end = c.args.asked.end; need = c.loop-binding.need } in
-    let a1 : Asked = record { first = c.in_ok-bound.bound.end; end = c.args.asked.end; need = c.in_ok-nodes.left.credits } in
-    let e = asking c.in_ok-bound.bound in
+    let a1 : Asked = record { first = c.asked_by-bound.result.end; end = c.args.asked.end; need = c.in_ok-nodes.left.credits } in
+    let e = asking c.asked_by-bound.result in
     let later = map binding (drop (c.loop-binding.binding-index + 1) items) in
     let D = drop_item items c.loop-binding.binding-index c.binding-item.result c.loop-binding-test.true c.binding-item.is in
     let s = ap (λ xs. size_parts (block_of (map binding xs) last)) D in
     let hj = c.in_ok-nodes.ensures.next in
     let ho = c.in_ok-nodes.ensures.rest in
-    let hk : k ≡ m + n = search rules in
+    let hk : k ≡ m + n = refl in
+    let few = c.in_ok-nodes.ensures.few in
+    let before = c.loop-binding.invariant.few in
     let v = c.loop-binding.invariant.next in
     record {
       grows = block_more g m n k b (built c.binding.new.walk.nodes) (grown (built c.args.walk.now.nodes) (walked_parts g c.args.walk.now.next record { variables = c.args.variables.items; credits = c.args.credits } (asking c.args.asked) (block c.args.block.now))) i c.binding.new.walk.next o o1 a a1 e (binding c.binding-item.result) later last
-          c.in_ok-nodes.ensures.awaits c.in_ok-bound.ensures ho (ap (λ (z : Owned). record { first = c.in_ok-bound.bound.end; end = c.args.asked.end; need = z.credits }) ho) hj hk
+          c.in_ok-nodes.ensures.awaits c.asked_by-bound.ensures ho (ap (λ (z : Owned). record { first = c.asked_by-bound.result.end; end = c.args.asked.end; need = z.credits }) ho) hj hk
           (sym (ap (λ xs. closed_times m (grown b (walked_parts g i o a (block_of (map binding xs) last)))) D) ∙ c.loop-binding.invariant.grows);
       next = omega (arith, hj, s, v);
       kept = c.in_ok-nodes.ensures.kept ∙ c.loop-binding.invariant.kept;
+      few = omega (arith, few, before);
     }
 
 pub parts-returns-clause-grows : goal.parts-returns-clause-grows
@@ -340,12 +344,12 @@ parts-returns-in_err-nodes-clause-short t c =
     let d = c.binding-item.result in
     let D = drop_item items n d c.loop-binding-test.true c.binding-item.is in
     let W = λ (xs : List Binding). walked_parts g i o a (block_of (map binding xs) last) in
-    let p = err_from_is_err_and c.from_residual-in_err-nodes.result c.from_residual-in_err-nodes.ensures.1 in
+    let p = err_from_is_err_and c.from_residual.result c.from_residual.ensures.1 in
     λ k.
     rest_short c.args.walk.now.room m c.loop-binding.opened (built c.args.walk.now.nodes) (built c.loop-binding.walk.nodes) (W (drop n items)) (walked_parts g c.args.walk.now.next o0 (asking c.args.asked) (block c.args.block.now)) c.loop-binding.invariant.grows c.loop-binding.invariant.kept
     (subst (λ (xs : List Binding). m < cost (W xs)) (sym D)
-    (binding_short g i o a (asking c.in_ok-bound.bound) (binding d) (map binding (drop (n + 1) items)) last m c.in_ok-bound.ensures
-    (c.in_err-nodes.ensures.short (ap Err (too_long c.from_residual-in_err-nodes.result p.0 c.in_err-nodes.field-0.0 p.1 p.2 k)))))
+    (binding_short g i o a (asking c.asked_by-bound.result) (binding d) (map binding (drop (n + 1) items)) last m c.asked_by-bound.ensures
+    (c.in_err-nodes.ensures.short (ap Err (too_long c.from_residual.result p.0 c.in_err-nodes.field-0.0 p.1 p.2 k)))))
 
 pub parts-returns-in_err-expression-clause-short : goal.parts-returns-in_err-expression-clause-short
 parts-returns-in_err-expression-clause-short t c =

@@ -1,4 +1,4 @@
-use Rattle.std.proofs.Common.{◌≡◌, ◌+◌, drop, map}
+use Rattle.std.proofs.Common.{◌≡◌, ◌+◌, ◌*◌, ◌≤◌, drop, map}
 use Rattle.fip_trees.specs.TreeView.{expression, binding, block, clauses, block_of}
 use Rattle.fip_trees.specs.declared.program.Block.{out-Block}
 use Rattle.derivation_trees.specs.Building.{built}
@@ -20,4 +20,5 @@ invariant-parts-loop-binding l = record {
   grows : closed_times l.opened (grown (built l.walk.nodes) (walked_parts (guided l.self) l.walk.next record { variables = l.numbers.items; credits = l.sizes } record { first = l.first; end = l.asked.end; need = l.need } (block_of (map binding (drop l.binding-index l.binding-items)) (expression (out-Block l.block).last)))) ≡ grown (built l.fn.walk.nodes) (walked_parts (guided l.self) l.fn.walk.next record { variables = l.fn.variables.items; credits = l.fn.credits } (asking l.asked) (block l.block));
   next : l.walk.next + size_parts (block_of (map binding (drop l.binding-index l.binding-items)) (expression (out-Block l.block).last)) ≡ l.fn.walk.next + size_parts (block l.block);
   kept : total l.walk ≡ total l.fn.walk;
+  few : l.opened ≤ 2 * l.binding-index;
 }

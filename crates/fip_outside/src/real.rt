@@ -1,8 +1,9 @@
 // The real thing: std's readers, writers and files, with a count of faults.
-ghost use Rattle.std.specs.Prelude.{◌≡◌, ◌≤◌, ◌⊎◌, None, Err, length, true, IfOk, OnOk};
+ghost use Rattle.std.specs.Prelude.{◌≡◌, ◌≤◌, ◌+◌, ◌⊎◌, None, Err, length, true, IfOk, OnOk};
 ghost use Rattle.std.specs.Io.KnownBytes.{Appends, Consumes, IsAtEnd};
 ghost use Rattle.fip_outside.specs.Faults.{Rose};
 ghost use Rattle.fip_outside.specs.Files.{HoldsFile, IsMissing};
+ghost use Rattle.fip_outside.specs.Takes.{Takes};
 
 use crate::all::{ReadError, read_all, write_all};
 use crate::outside::{Failed, FetchError, Folder, Sink, Source, StoreError};
@@ -166,6 +167,8 @@ fn all_of<R: Read + Drop>(alloc: Global, file: R, limit: usize) -> Result<Vec<u8
     ensures read { IfOk result (λ v. (rest : R) × Consumes (R.remaining file) (R.remaining rest) v.items
         × IsAtEnd (R.remaining rest)) }
     ensures within { IfOk result (λ v. length v.items ≤ limit) }
+    ensures long { result ≡ Err ReadError.TooLong → (rest : R)
+        × Takes (R.remaining file) (R.remaining rest) (limit + 1) }
 {
     let mut source = StdSource::new(file);
     read_all(alloc, &mut source, limit)
@@ -190,6 +193,9 @@ impl<F: Files> Folder for FileFolder<'_, F> {
         ensures read { IfOk result (λ bytes. (file rest : F.File)
             × Consumes (F.File.remaining file) (F.File.remaining rest) bytes.items × IsAtEnd (F.File.remaining rest)) }
         ensures within { IfOk result (λ bytes. length bytes.items ≤ limit) }
+        // Where it answers that the file is too long, an opened file gave more bytes than these.
+        ensures over { result ≡ Err FetchError.TooLong → (file rest : F.File)
+            × Takes (F.File.remaining file) (F.File.remaining rest) (limit + 1) }
         ensures failed { result ≡ Err FetchError.Failed → Rose self.old.faults self.new.faults
             ⊎ IsMissing None name.now }
         ensures memory { result ≡ Err FetchError.NoMemory → self.new.faults ≡ self.old.faults }

@@ -76,12 +76,21 @@ pub fn typed_of(alloc: Global, source: &[u8]) -> Result<Typed, PhaseError>
     ensures reported { IfErr result (λ e. Says source.now e) }
     ensures unmatched { IfErr result (λ e. IsUnmatched source.now e) }
 {
+    match flat_program_of(alloc, source) {
+        Err(error) => Err(error),
+        Ok(flat) => matched_of(alloc, flat),
+    }
+}
+
+// The program without static parameters of a source. The core form is given back here, before types are checked.
+fn flat_program_of(alloc: Global, source: &[u8]) -> Result<Flat, PhaseError>
+    ensures flat { IfOk result (λ f. IsFlat source.now (V.program f)) }
+    ensures reported { IfErr result (λ e. Says source.now e) }
+    ensures unmatched { IfErr result (λ e. IsUnmatched source.now e) }
+{
     match core_form_of(alloc, source) {
         Err(error) => Err(error),
-        Ok(core) => match flat_of(alloc, &core) {
-            Err(error) => Err(error),
-            Ok(flat) => matched_of(alloc, flat),
-        },
+        Ok(core) => flat_of(alloc, &core),
     }
 }
 

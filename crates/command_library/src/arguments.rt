@@ -5,6 +5,7 @@ ghost use Rattle.task_semantics.specs.Draws.{next_number, numbers};
 ghost use Rattle.command_library.specs.MadeTree.{closing, keys_line, pads_line, gen_input};
 
 use fip_base::plain::NoMemory;
+use itoa::Buffer;
 use std::alloc::Global;
 
 // The key after a key, and after the seed.
@@ -15,24 +16,26 @@ fn next_key(key: u64) -> u64
 }
 
 // Puts the beginning of a key's item.
-fn put_key(alloc: Global, text: &mut Vec<u8>, key: u64) -> Result<(), NoMemory>
+fn put_key(text: &mut Vec<u8>, key: u64) -> Result<(), NoMemory>
     ensures put { OnOk result (text.new.items
         ≡ text.old.items ++ (codes "Cons(" ++ (decimal key ++ codes ", "))) }
 {
-    let item = format!(in alloc; "Cons({key}, ")?;
-    text.extend_from_slice(item.as_bytes())?;
+    let mut digits = Buffer::new();
+    text.extend_from_slice(b"Cons(")?;
+    text.extend_from_slice(digits.format(key).as_bytes())?;
+    text.extend_from_slice(b", ")?;
     Ok(())
 }
 
 // Puts the items of the keys, but what ends their list.
-fn put_keys(alloc: Global, text: &mut Vec<u8>, seed: u64, count: u64) -> Result<(), NoMemory>
+fn put_keys(text: &mut Vec<u8>, seed: u64, count: u64) -> Result<(), NoMemory>
     ensures line { OnOk result (text.new.items ++ keys_line [] count
         ≡ text.old.items ++ keys_line (numbers count seed) 0) }
 {
     let mut key = seed;
     for _ in 0..count {
         key = next_key(key);
-        put_key(alloc, text, key)?;
+        put_key(text, key)?;
     }
     Ok(())
 }
@@ -72,7 +75,7 @@ pub(crate) fn arguments(alloc: Global, seed: u64, count: u64) -> Result<Vec<u8>,
     ensures text { IfOk result (λ v. v.items ≡ gen_input seed count) }
 {
     let mut text = Vec::new(alloc);
-    put_keys(alloc, &mut text, seed, count)?;
+    put_keys(&mut text, seed, count)?;
     put_end(&mut text, count)?;
     put_pads(&mut text, count)?;
     put_end(&mut text, count)?;

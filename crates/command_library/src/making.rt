@@ -101,7 +101,7 @@ fn make(
         Err(failure) => return (Err(failure), None),
     };
     let mut seen = Gauge::new();
-    let ended = machine.run(CALLS, &mut seen);
+    let ended = machine.run_sure(true, CALLS, &mut seen);
     match failure_of(ended, CALLS, FRAMES) {
         Some(failure) => (Err(failure), Some(machine.into_sealed())),
         None => match tree_of(alloc, ready, &machine, count) {

@@ -7,7 +7,7 @@ use Rattle.fip_language.specs.declared.FunKind.TheVariants.{Fip, Fbip, Fun}
 use Rattle.fip_language.specs.Table.{Table, shapes, constructors}
 use Rattle.fip_trees.specs.declared.groups.Member.{Member}
 use Rattle.fip_trees.specs.Tree.{Instance}
-use Rattle.lower_frame.specs.lowering_relation.LoweredBodies.{has_function, one_more, if_function, function_of}
+use Rattle.lower_parts.specs.lowering_relation.LoweredBodies.{has_function, one_more, if_function, function_of}
 use Rattle.cell_lower.specs.Limits.{is_ruled, registers, registers_of}
 use Rattle.cell_lower.specs.Shape.{Header, header_of, and_if, headers_from}
 

@@ -4,7 +4,7 @@ use Rattle.fip_trees.specs.declared.program.Instance.{Instance as Tree}
 use Rattle.fip_trees.specs.Tree.{Instance}
 use Rattle.fip_trees.specs.TreeView.{instance_of, instances}
 use Rattle.cell_code.specs.declared.code.Function.{Function}
-use Rattle.lower_frame.specs.lowering_relation.LoweredBodies.{has_function, one_more, if_function, function_of}
+use Rattle.lower_parts.specs.lowering_relation.LoweredBodies.{has_function, one_more, if_function, function_of}
 use Rattle.cell_lower.specs.Instances.{HaveEach, AddsEach}
 use Rattle.cell_lower.specs.Limits.{is_ruled}
 use Rattle.cell_lower.proofs.Programs.{ruled_is, instances_at, instances_past}

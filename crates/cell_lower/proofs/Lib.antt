@@ -1,46 +1,10 @@
 pub mod ExceededLimits
 pub mod Headers
-pub mod Starts
-pub mod Shedding
-pub mod Losing
-pub mod Writing
-pub mod Laying
-pub mod Leaving
-pub mod Marking
-pub mod Building
-pub mod Calling
-pub mod Parted
-pub mod Blocks
-pub mod Expressions
-pub mod Folding
-pub mod Paying
-pub mod Overlaying
-pub mod Seeing
-pub mod Missing
-pub mod Trying
-pub mod Choosing
-pub mod Sighting
-pub mod Sided
-pub mod Going
-pub mod Following
-pub mod Beginning
-pub mod Bounding
-pub mod Arriving
-pub mod Entries
-pub mod Matching
-pub mod Clauses
-pub mod Matched
-pub mod Lessening
-pub mod Shown
-pub mod Begun
-pub mod Composing
-pub mod Composed
 pub mod Programs
 pub mod Instances
 pub mod Smalls
-pub mod Starting
 pub mod Standing
 pub mod Parts
-pub use Rattle.lower_frame.proofs.code_file as code_file
+pub use Rattle.lower_parts.proofs.lower_frame.code_file as code_file
 pub use Rattle.fip_language.proofs as fip_language
 pub use Rattle.fip_trees.proofs as fip_trees

@@ -17,31 +17,31 @@ use Rattle.fip_trees.specs.Tree.{Pattern, Instance, Match, Clauses}
 use Rattle.fip_trees.specs.TreeView.{Case, argument, expression, binding, clause, clauses, is_destructive}
 use Rattle.fip_trees.proofs.TreeViews.{expression_match}
 use Rattle.cell_code.specs.declared.code.Instr.{Instr}
-use Rattle.lower_frame.specs.lowering_relation.Known.{Known}
-use Rattle.lower_frame.specs.lowering_relation.Values.{Setting}
-use Rattle.lower_frame.specs.lowering_relation.LoweredBodies.{Target, Into, Return, with_names, reserved, registers_for}
-use Rattle.lower_frame.specs.lowering_relation.LoweredFunctions.{known_at_start}
-use Rattle.lower_frame.specs.lowering_relation.Landing.{Side}
-use Rattle.lower_frame.specs.lowering_relation.Losing.{Loses, Resumes}
-use Rattle.lower_frame.specs.lowering_relation.Entering.{entering_root}
-use Rattle.lower_frame.specs.lowering_relation.Written.{Written, size, Extends, IsAt, settled, place_of}
-use Rattle.lower_frame.specs.lowering_relation.WellMatched.{WellMatched, WellMatchedBlock}
-use Rattle.cell_lower.specs.declared.matches.Matching.{Matching}
-use Rattle.cell_lower.specs.declared.matches.Progress.{Progress}
-use Rattle.lower_frame.specs.Labels.{labels}
-use Rattle.lower_frame.specs.Registers.{registers}
-use Rattle.lower_frame.specs.Positions.{spot_of}
-use Rattle.cell_lower.specs.Scenes.{ChoosesIf, first_side, sides_of}
-use Rattle.cell_lower.specs.Bodies.{span_block, Asked, AskedBlock, AskedClauses, Lays}
-use Rattle.cell_lower.specs.Matches.{BeginsLaid, EndsMatchLaid, ClauseLays, ClausesLay}
-use Rattle.cell_lower.specs.Clauses.{Begins, EndsMatch, StartsIn, WritesClause, WritesClauses}
+use Rattle.lower_parts.specs.lowering_relation.Known.{Known}
+use Rattle.lower_parts.specs.lowering_relation.Values.{Setting}
+use Rattle.lower_parts.specs.lowering_relation.LoweredBodies.{Target, Into, Return, with_names, reserved, registers_for}
+use Rattle.lower_parts.specs.lowering_relation.LoweredFunctions.{known_at_start}
+use Rattle.lower_parts.specs.lowering_relation.Landing.{Side}
+use Rattle.lower_parts.specs.lowering_relation.Losing.{Loses, Resumes}
+use Rattle.lower_parts.specs.lowering_relation.Entering.{entering_root}
+use Rattle.lower_parts.specs.lowering_relation.Written.{Written, size, Extends, IsAt, settled, place_of}
+use Rattle.lower_parts.specs.lowering_relation.WellMatched.{WellMatched, WellMatchedBlock}
+use Rattle.lower_parts.specs.declared.match_state.Matching.{Matching}
+use Rattle.lower_parts.specs.declared.match_state.Progress.{Progress}
+use Rattle.lower_parts.specs.lower_frame.Labels.{labels}
+use Rattle.lower_parts.specs.lower_frame.Registers.{registers}
+use Rattle.lower_parts.specs.lower_frame.Positions.{spot_of}
+use Rattle.lower_parts.specs.Scenes.{ChoosesIf, first_side, sides_of}
+use Rattle.lower_parts.specs.Bodies.{span_block, Asked, AskedBlock, AskedClauses, Lays}
+use Rattle.lower_parts.specs.Matches.{BeginsLaid, EndsMatchLaid, ClauseLays, ClausesLay}
+use Rattle.lower_parts.specs.Clauses.{Begins, EndsMatch, StartsIn, WritesClause, WritesClauses}
 use Rattle.cell_lower.specs.Lowered.{IsCodeOf}
-use Rattle.cell_lower.specs.Writing.{Binds, Writes, WritesBlock}
-use Rattle.cell_lower.proofs.Beginning.{starts_in}
-use Rattle.cell_lower.proofs.Clauses.{match_written}
-use Rattle.cell_lower.proofs.Composed.{lays_match}
-use Rattle.cell_lower.proofs.Expressions.{bound_into, written_match}
-use Rattle.cell_lower.proofs.Following.{laid_as, asked_first, asked_others}
+use Rattle.lower_parts.specs.Writing.{Binds, Writes, WritesBlock}
+use Rattle.lower_parts.proofs.Beginning.{starts_in}
+use Rattle.lower_parts.proofs.Clauses.{match_written}
+use Rattle.lower_parts.proofs.Composed.{lays_match}
+use Rattle.lower_parts.proofs.Expressions.{bound_into, written_match}
+use Rattle.lower_parts.proofs.Following.{laid_as, asked_first, asked_others}
 use Rattle.cell_lower.proofs.Programs.{is_code}
 
 pub starts_from : (s s' : Setting) (g : Matching) (q q' : Pattern) (i label : ℕ) (v chosen shown put w : Written) (ds es : List Side) (copied resumed tested opened l : Known) → s' ≡ s → q ≡ q' → ChoosesIf s.types g.choice i v ds chosen es true → (length g.choice.rows.items ≤ suc i → es ≡ []) → tested ≡ resumed → shown ≡ chosen → Extends shown put → put.instrs ≡ shown.instrs → IsAt put label (size shown) → w ≡ put → label ≡ get_or g.choice.entries.items i 0 → copied ≡ g.entry → Resumes copied resumed → opened ≡ entering_root s' g.choice.takes q' (spot_of g.choice.root) tested → Loses opened l → registers resumed ≡ registers copied → registers l ≡ registers opened → labels put ≡ labels shown → StartsIn s g q i v ds l w es

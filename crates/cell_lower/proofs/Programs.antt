@@ -9,19 +9,19 @@ use Rattle.fip_trees.specs.TreeView.{instance_of, instances}
 use Rattle.cell_code.specs.declared.code.Function.{Function}
 use Rattle.cell_code.specs.declared.code.Instr.{Instr}
 use Rattle.cell_code.specs.Plain.{plain_function, instrs_of}
-use Rattle.lower_frame.specs.lowering_relation.Known.{Known, joined}
-use Rattle.lower_frame.specs.lowering_relation.Values.{Setting}
-use Rattle.lower_frame.specs.lowering_relation.LoweredBodies.{Return, has_function, one_more, if_function, function_of}
-use Rattle.lower_frame.specs.lowering_relation.LoweredFunctions.{IsSettingOf, AreLowered, known_at_start}
-use Rattle.lower_frame.specs.lowering_relation.Written.{Written, settled, place_of}
-use Rattle.lower_frame.specs.lowering_relation.WellMatched.{WellMatchedBlock, IsWellMatched}
-use Rattle.lower_frame.proofs.lowering_relation.Placing.{has_all}
+use Rattle.lower_parts.specs.lowering_relation.Known.{Known, joined}
+use Rattle.lower_parts.specs.lowering_relation.Values.{Setting}
+use Rattle.lower_parts.specs.lowering_relation.LoweredBodies.{Return, has_function, one_more, if_function, function_of}
+use Rattle.lower_parts.specs.lowering_relation.LoweredFunctions.{IsSettingOf, AreLowered, known_at_start}
+use Rattle.lower_parts.specs.lowering_relation.Written.{Written, settled, place_of}
+use Rattle.lower_parts.specs.lowering_relation.WellMatched.{WellMatchedBlock, IsWellMatched}
+use Rattle.lower_parts.proofs.lowering_relation.Placing.{has_all}
 use Rattle.fip_trees.specs.declared.groups.Member.{Member}
 use Rattle.cell_lower.specs.Limits.{is_ruled, registers}
 use Rattle.cell_lower.specs.Shape.{Header, header_of, headers_from}
 use Rattle.cell_lower.proofs.Headers.{and_if-append}
 use Rattle.cell_lower.specs.Lowered.{function_instrs, IsCodeOf, HaveCodes, AddsCode}
-use Rattle.cell_lower.specs.Writing.{WritesBlock}
+use Rattle.lower_parts.specs.Writing.{WritesBlock}
 use Rattle.fip_language.proofs.Facts.{append_nil as append_none, same_some}
 pub use Rattle.fip_language.proofs.Plain.{every_at as at_place}
 

@@ -5,21 +5,21 @@ use Rattle.fip_trees.specs.Tree.{Instance, Program}
 use Rattle.cell_code.specs.declared.code.Function.{Function}
 use Rattle.cell_code.specs.declared.code.Instr.{Instr}
 use Rattle.cell_code.specs.declared.kind.Label.{Label}
-use Rattle.lower_frame.specs.lowering_relation.Known.{Known}
-use Rattle.lower_frame.specs.lowering_relation.Values.{Setting}
-use Rattle.lower_frame.specs.lowering_relation.LoweredBodies.{Return}
-use Rattle.lower_frame.specs.lowering_relation.LoweredFunctions.{IsSettingOf, known_at_start}
-use Rattle.lower_frame.specs.lowering_relation.Written.{Written, size, settled, place_of}
-use Rattle.lower_frame.specs.lowering_relation.WellMatched.{WellMatchedBlock, IsWellMatched}
-use Rattle.code_size.specs.Bounds.{most_for}
-use Rattle.code_size.specs.Places.{block_places}
+use Rattle.lower_parts.specs.lowering_relation.Known.{Known}
+use Rattle.lower_parts.specs.lowering_relation.Values.{Setting}
+use Rattle.lower_parts.specs.lowering_relation.LoweredBodies.{Return}
+use Rattle.lower_parts.specs.lowering_relation.LoweredFunctions.{IsSettingOf, known_at_start}
+use Rattle.lower_parts.specs.lowering_relation.Written.{Written, size, settled, place_of}
+use Rattle.lower_parts.specs.lowering_relation.WellMatched.{WellMatchedBlock, IsWellMatched}
+use Rattle.lower_parts.specs.code_size.Bounds.{most_for}
+use Rattle.lower_parts.specs.code_size.Places.{block_places}
 use Rattle.cell_lower.specs.Limits.{registers}
-use Rattle.lower_frame.specs.Labels.{labels}
-use Rattle.cell_lower.specs.Growth.{Adds}
-use Rattle.cell_lower.specs.Writing.{WritesBlock}
+use Rattle.lower_parts.specs.lower_frame.Labels.{labels}
+use Rattle.lower_parts.specs.Growth.{Adds}
+use Rattle.lower_parts.specs.Writing.{WritesBlock}
 use Rattle.cell_lower.specs.Sizes.{IsSmall, AreSmall}
 use Rattle.cell_lower.specs.Small.{IsSmallOf, HaveSmall, AddsSmall, small_at}
-use Rattle.cell_lower.proofs.Shedding.{start_length}
+use Rattle.lower_parts.proofs.Shedding.{start_length}
 use Rattle.cell_lower.proofs.Programs.{at_place}
 use Rattle.cell_lower.proofs.Instances.{each_added}
 
@@ -33,7 +33,7 @@ pub small_of : (s s' : Setting) (n : ℕ) (d : Instance) (k l : Known) (v w : Wr
 small_of s s' n d k l v w code ls f same e start h c few is js = record {
   by = λ well.
       let written : WritesBlock s k v d.body Return l w = subst (λ (x : Setting). WellMatchedBlock x.types d.body → WritesBlock x k v d.body Return l w) same h well in
-      let bound : Adds (most_for n (block_places s.types d.body)) (block_places s.types d.body) v w = subst (λ x. Adds (most_for x (block_places s.types d.body)) (block_places s.types d.body) v w) (ap Rattle.lower_frame.specs.Registers.registers e ∙ start_length s n d) written.few in
+      let bound : Adds (most_for n (block_places s.types d.body)) (block_places s.types d.body) v w = subst (λ x. Adds (most_for x (block_places s.types d.body)) (block_places s.types d.body) v w) (ap Rattle.lower_parts.specs.lower_frame.Registers.registers e ∙ start_length s n d) written.few in
       let none : size v ≡ 0 = ap size start in
       let unlabelled : labels v ≡ 0 = ap labels start in
       let long : length f.instrs.items ≡ size w = ap length is ∙ ap length c ∙ settled_length (place_of w.places) w.instrs in

@@ -15,32 +15,32 @@ use Rattle.cell_code.specs.declared.code.Function.{Function}
 use Rattle.cell_code.specs.Plain.{PlainFunction, PlainCode, plain_label, plain_function, plain, function_at}
 use Rattle.cell_code.proofs.CodeKinds.{code_is_fip}
 use Rattle.cell_code.specs.CodeKinds as CodeKinds
-use Rattle.lower_frame.specs.code_rules.Codes.{label_at}
-use Rattle.lower_frame.specs.lowering_relation.Known.{Known}
-use Rattle.lower_frame.specs.lowering_relation.Values.{Setting}
-use Rattle.lower_frame.specs.lowering_relation.LoweredBodies.{Return, has_function}
-use Rattle.lower_frame.specs.lowering_relation.LoweredFunctions.{IsSettingOf, known_at_start}
-use Rattle.lower_frame.specs.lowering_relation.Written.{Written, size, settled, place_of}
-use Rattle.lower_frame.specs.lowering_relation.WellMatched.{WellMatchedBlock, IsWellMatched}
-use Rattle.lower_frame.proofs.lowering_relation.Placing.{has_all}
-use Rattle.lower_frame.specs.lowering_relation.LaidBodies.{BlockLaid}
-use Rattle.lower_frame.specs.lowering_relation.LaidFunctions.{FunctionLaid, IsLaid, AreLaid}
-use Rattle.lower_frame.specs.lowering_relation.Standing.{AreRising, AreOpen, MapsStand}
-use Rattle.lower_frame.specs.Credits.{is_bare}
-use Rattle.lower_frame.specs.Labels.{HaveMaps}
-use Rattle.lower_frame.specs.Registers.{registers}
-use Rattle.cell_lower.specs.Bodies.{ScalarsRight, AskedBlock, BuiltWell, LaysIn, LaysBlock}
+use Rattle.lower_parts.specs.lower_frame.code_rules.Codes.{label_at}
+use Rattle.lower_parts.specs.lowering_relation.Known.{Known}
+use Rattle.lower_parts.specs.lowering_relation.Values.{Setting}
+use Rattle.lower_parts.specs.lowering_relation.LoweredBodies.{Return, has_function}
+use Rattle.lower_parts.specs.lowering_relation.LoweredFunctions.{IsSettingOf, known_at_start}
+use Rattle.lower_parts.specs.lowering_relation.Written.{Written, size, settled, place_of}
+use Rattle.lower_parts.specs.lowering_relation.WellMatched.{WellMatchedBlock, IsWellMatched}
+use Rattle.lower_parts.proofs.lowering_relation.Placing.{has_all}
+use Rattle.lower_parts.specs.lowering_relation.LaidBodies.{BlockLaid}
+use Rattle.lower_parts.specs.lowering_relation.LaidFunctions.{FunctionLaid, IsLaid, AreLaid}
+use Rattle.lower_parts.specs.lowering_relation.Standing.{AreRising, AreOpen, MapsStand}
+use Rattle.lower_parts.specs.lower_frame.Credits.{is_bare}
+use Rattle.lower_parts.specs.lower_frame.Labels.{HaveMaps}
+use Rattle.lower_parts.specs.lower_frame.Registers.{registers}
+use Rattle.lower_parts.specs.Bodies.{ScalarsRight, AskedBlock, BuiltWell, LaysIn, LaysBlock}
 use Rattle.cell_lower.specs.Instances.{HaveEach, AddsEach}
 use Rattle.cell_lower.specs.LaidProgram.{AskedInstance, IsAsked, IsLaidOf, laid_at, IsLaidOut}
-use Rattle.cell_lower.specs.Laying.{HasPart, Underway, is_built}
-use Rattle.cell_lower.specs.Leaving.{is_fbip}
+use Rattle.lower_parts.specs.Laying.{HasPart, Underway, is_built}
+use Rattle.lower_parts.specs.Leaving.{is_fbip}
 use Rattle.cell_lower.specs.Shape.{Header, header, header_of, headers}
 use Rattle.cell_lower.proofs.Headers.{IsOfInstance, instance_there, has_function_there}
 use Rattle.cell_lower.proofs.Instances.{each_added}
 use Rattle.cell_lower.proofs.Programs.{at_place}
-use Rattle.cell_lower.proofs.Shedding.{start_length}
+use Rattle.lower_parts.proofs.Shedding.{start_length}
 use Rattle.cell_lower.proofs.Smalls.{settled_length}
-use Rattle.cell_lower.proofs.Starting.{Starts, starts, start_next}
+use Rattle.lower_parts.proofs.Starting.{Starts, starts, start_next}
 
 -- ---- one function
 

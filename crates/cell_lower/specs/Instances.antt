@@ -4,7 +4,7 @@
 use Rattle.std.specs.Prelude.{◌≡◌, ◌+◌, ℕ, Bool, true, false, List, [], ◌∷◌, ◌++◌, Some, slice_get}
 use Rattle.fip_trees.specs.Tree.{Instance}
 use Rattle.cell_code.specs.declared.code.Function.{Function}
-use Rattle.lower_frame.specs.lowering_relation.LoweredBodies.{function_of}
+use Rattle.lower_parts.specs.lowering_relation.LoweredBodies.{function_of}
 
 -- instances from number i on have functions from number n on, of each of which this is so
 pub record HaveEach (P : ℕ → Instance → Function → Type 0) (ds : List Instance) (i n : ℕ) (fs : List Function) :

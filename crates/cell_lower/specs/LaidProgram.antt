@@ -10,19 +10,15 @@ use Rattle.fip_trees.specs.NeedsView.{needs_of}
 use Rattle.fip_trees.specs.Tree.{Instance, Program}
 use Rattle.cell_code.specs.declared.code.Function.{Function}
 use Rattle.cell_code.specs.Plain.{PlainFunction, PlainCode, plain_function, function_at}
-use Rattle.lower_frame.specs.lowering_relation.Known.{Known}
-use Rattle.lower_frame.specs.lowering_relation.Values.{Setting}
-use Rattle.lower_frame.specs.lowering_relation.LoweredBodies.{has_function}
-use Rattle.lower_frame.specs.lowering_relation.LoweredFunctions.{IsSettingOf}
-use Rattle.lower_frame.specs.lowering_relation.WellMatched.{WellMatchedBlock}
-use Rattle.lower_frame.specs.lowering_relation.LaidFunctions.{FunctionLaid, AreLaid}
-use Rattle.lower_frame.specs.lowering_relation.Standing.{MapsStand}
-use Rattle.lower_frame.specs.Registers.{registers}
-use Rattle.cell_lower.specs.Bodies.{ScalarsRight, FoundedBlock, NeedsRest}
-
--- the function has the registers that are used already
-abbrev pub IsInRoom : Known → Type 0
-IsInRoom k = k.next ≤ registers k
+use Rattle.lower_parts.specs.lowering_relation.Known.{Known}
+use Rattle.lower_parts.specs.lowering_relation.Values.{Setting}
+use Rattle.lower_parts.specs.lowering_relation.LoweredBodies.{has_function}
+use Rattle.lower_parts.specs.lowering_relation.LoweredFunctions.{IsSettingOf}
+use Rattle.lower_parts.specs.lowering_relation.WellMatched.{WellMatchedBlock}
+use Rattle.lower_parts.specs.lowering_relation.LaidFunctions.{FunctionLaid, AreLaid}
+use Rattle.lower_parts.specs.lowering_relation.Standing.{MapsStand}
+use Rattle.lower_parts.specs.lower_frame.Registers.{registers}
+use Rattle.lower_parts.specs.Bodies.{ScalarsRight, FoundedBlock, NeedsRest}
 
 -- Of an instance that isn't plain, of which these needs are reported. The first one is that of its body as a whole.
 pub record AskedInstance (s : Setting) (ns : List Need) (d : Instance) : Type 0 where

@@ -3,10 +3,10 @@ use Rattle.std.specs.Prelude.{◌≡◌, ◌+◌, ℕ, Bool, true, false, List, 
 use Rattle.fip_trees.specs.Tree.{Instance}
 use Rattle.cell_code.specs.declared.code.Function.{Function}
 use Rattle.cell_code.specs.declared.code.Instr.{Instr}
-use Rattle.lower_frame.specs.lowering_relation.Values.{Setting}
-use Rattle.lower_frame.specs.lowering_relation.LoweredBodies.{function_of}
-use Rattle.lower_frame.specs.lowering_relation.LoweredFunctions.{IsFunction}
-use Rattle.lower_frame.specs.lowering_relation.WellMatched.{WellMatchedBlock}
+use Rattle.lower_parts.specs.lowering_relation.Values.{Setting}
+use Rattle.lower_parts.specs.lowering_relation.LoweredBodies.{function_of}
+use Rattle.lower_parts.specs.lowering_relation.LoweredFunctions.{IsFunction}
+use Rattle.lower_parts.specs.lowering_relation.WellMatched.{WellMatchedBlock}
 
 abbrev pub function_instrs : Function → List Instr
 function_instrs f = f.instrs.items

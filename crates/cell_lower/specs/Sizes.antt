@@ -7,9 +7,9 @@ use Rattle.fip_language.specs.Table.{Table}
 use Rattle.fip_trees.specs.declared.groups.Member.{Member}
 use Rattle.fip_trees.specs.Tree.{Instance, Program}
 use Rattle.cell_code.specs.declared.code.Function.{Function}
-use Rattle.lower_frame.specs.lowering_relation.LoweredBodies.{function_of}
-use Rattle.code_size.specs.Bounds.{most_for, most_labels}
-use Rattle.code_size.specs.Places.{places}
+use Rattle.lower_parts.specs.lowering_relation.LoweredBodies.{function_of}
+use Rattle.lower_parts.specs.code_size.Bounds.{most_for, most_labels}
+use Rattle.lower_parts.specs.code_size.Places.{places}
 use Rattle.cell_lower.specs.Limits.{registers}
 
 pub record IsSmall (tb : Table) (n : ℕ) (d : Instance) (f : Function) : Type 0 where

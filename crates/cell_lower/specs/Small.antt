@@ -3,8 +3,8 @@ use Rattle.std.specs.Prelude.{ℕ, Bool, List}
 use Rattle.fip_trees.specs.declared.groups.Member.{Member}
 use Rattle.fip_trees.specs.Tree.{Instance}
 use Rattle.cell_code.specs.declared.code.Function.{Function}
-use Rattle.lower_frame.specs.lowering_relation.Values.{Setting}
-use Rattle.lower_frame.specs.lowering_relation.WellMatched.{WellMatchedBlock}
+use Rattle.lower_parts.specs.lowering_relation.Values.{Setting}
+use Rattle.lower_parts.specs.lowering_relation.WellMatched.{WellMatchedBlock}
 use Rattle.cell_lower.specs.Instances.{HaveEach, AddsEach}
 use Rattle.cell_lower.specs.Limits.{registers}
 use Rattle.cell_lower.specs.Sizes.{IsSmall}

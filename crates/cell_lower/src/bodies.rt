@@ -2,28 +2,30 @@
 ghost use Rattle.std.specs.Prelude.{◌≡◌, ◌≤◌, ◌<◌, ◌+◌, ℕ, suc, not, IfOk, OnOk, drop, length, slice_get};
 ghost use Rattle.fip_trees.specs.Tree as T;
 ghost use Rattle.fip_trees.specs.TreeView as V;
-ghost use Rattle.lower_frame.specs.lowering_relation.LoweredBodies as B;
-ghost use Rattle.lower_frame.specs.lowering_relation.WellMatched.{WellMatched, WellMatchedBlock};
-ghost use Rattle.lower_frame.specs.Registers.{HasRoom};
-ghost use Rattle.cell_lower.specs.Bodies.{span, span_block, span_clauses, Asked, AskedBlock, AskedClauses};
-ghost use Rattle.cell_lower.specs.Bodies.{Lays, LaysBlock, LaysLet};
-ghost use Rattle.cell_lower.specs.Clauses.{WritesClause, WritesClauses};
-ghost use Rattle.cell_lower.specs.Laying.{AppliedLaid, AppliesLaid, GivesValuesLaid};
-ghost use Rattle.cell_lower.specs.Matches.{ClauseLays, ClausesLay};
-ghost use Rattle.cell_lower.specs.Scenes.{IsWhole};
-ghost use Rattle.cell_lower.specs.Writing.{setting, target_of, named_at, AppliesTo, Binds, GivesValues, Writes};
-ghost use Rattle.cell_lower.specs.Writing.{WritesBlock};
+ghost use Rattle.lower_parts.specs.lowering_relation.LoweredBodies as B;
+ghost use Rattle.lower_parts.specs.lowering_relation.WellMatched.{WellMatched, WellMatchedBlock};
+ghost use Rattle.lower_parts.specs.lower_frame.Registers.{HasRoom};
+ghost use Rattle.lower_parts.specs.Bodies.{span, span_block, span_clauses, Asked, AskedBlock, AskedClauses};
+ghost use Rattle.lower_parts.specs.Bodies.{Lays, LaysBlock, LaysLet};
+ghost use Rattle.lower_parts.specs.Clauses.{WritesClause, WritesClauses};
+ghost use Rattle.lower_parts.specs.Laying.{AppliedLaid, AppliesLaid, GivesValuesLaid};
+ghost use Rattle.lower_parts.specs.Matches.{ClauseLays, ClausesLay};
+ghost use Rattle.lower_parts.specs.Scenes.{IsWhole};
+ghost use Rattle.lower_parts.specs.Writing.{setting, target_of, named_at, AppliesTo, Binds, GivesValues, Writes};
+ghost use Rattle.lower_parts.specs.Writing.{WritesBlock};
 
 use crate::calls::Applied;
-use crate::lowerer::{Lowerer, Target, is_destructive};
-use crate::matches::{Matching, Progress, Written};
+use crate::lowerer::{Lowerer, is_destructive};
+use crate::matches::Written;
 use fip_base::plain::NoMemory;
 use fip_trees::program::{Argument, Binder, Binding, Block, Clause, Expression};
+use lower_parts::context::Target;
+use lower_parts::match_state::{Matching, Progress};
 
 impl<'a> Lowerer<'a> {
     /// A block: what it binds, then its last expression.
     #[cycle(block)]
-    #[tactic(auto, using(crate::proofs::Blocks::blocks))]
+    #[tactic(auto, using(lower_parts::proofs::Blocks::blocks))]
     pub fn block(&mut self, block: &Block, target: Target<'_>) -> Result<(), NoMemory>
         ensures writes { OnOk result (WellMatchedBlock self.old.context.now.program.now.types (V.block block.now) →
             WritesBlock (setting self.old.context.now) self.old.frame self.old.buffer (V.block block.now)
@@ -46,7 +48,7 @@ impl<'a> Lowerer<'a> {
 
     // A let without its body.
     #[cycle(block)]
-    #[tactic(auto, using(crate::proofs::Blocks::binding_one))]
+    #[tactic(auto, using(lower_parts::proofs::Blocks::binding_one))]
     fn binding(&mut self, binding: &Binding) -> Result<(), NoMemory>
         ensures binds { OnOk result (WellMatched self.old.context.now.program.now.types (V.binding binding.now).bound →
             Binds (setting self.old.context.now) self.old.frame self.old.buffer (V.binding binding.now).binders
@@ -83,7 +85,7 @@ impl<'a> Lowerer<'a> {
     }
 
     // Variables get these registers.
-    #[tactic(auto, using(crate::proofs::Blocks::naming_all))]
+    #[tactic(auto, using(lower_parts::proofs::Blocks::naming_all))]
     fn name_all(&mut self, binders: &[Binder], registers: &[u16])
         ensures named { self.new.frame ≡ B.with_names self.old.frame binders.now registers.now }
         ensures context { self.new.context ≡ self.old.context }
@@ -111,7 +113,7 @@ impl<'a> Lowerer<'a> {
     }
 
     // Registers for the variables of a let.
-    #[tactic(auto, using(crate::proofs::Blocks::reserving))]
+    #[tactic(auto, using(lower_parts::proofs::Blocks::reserving))]
     fn reserve(&mut self, binders: &[Binder]) -> Result<Vec<u16>, NoMemory>
         ensures registers { IfOk result (λ rs. rs.items ≡ B.registers_for self.old.frame.next binders.now) }
         ensures reserved { OnOk result (self.new.frame ≡ B.reserved self.old.frame binders.now) }
@@ -129,7 +131,7 @@ impl<'a> Lowerer<'a> {
     }
 
     #[cycle(block)]
-    #[tactic(auto, using(crate::proofs::Blocks::expressions))]
+    #[tactic(auto, using(lower_parts::proofs::Blocks::expressions))]
     fn expression(&mut self, expression: &Expression, target: Target<'_>) -> Result<(), NoMemory>
         ensures writes { OnOk result (WellMatched self.old.context.now.program.now.types (V.expression expression.now) →
             Writes (setting self.old.context.now) self.old.frame self.old.buffer (V.expression expression.now)
@@ -201,7 +203,7 @@ impl<'a> Lowerer<'a> {
         }
     }
 
-    #[tactic(auto, using(crate::proofs::Blocks::expressions))]
+    #[tactic(auto, using(lower_parts::proofs::Blocks::expressions))]
     fn give_one(&mut self, argument: &Argument, target: Target<'_>) -> Result<(), NoMemory>
         ensures writes { OnOk result (Writes (setting self.old.context.now) self.old.frame self.old.buffer
             (T.Give (V.argument argument.now)) (target_of target.entry) self.new.frame self.new.buffer) }
@@ -218,7 +220,7 @@ impl<'a> Lowerer<'a> {
         Ok(())
     }
 
-    #[tactic(auto, using(crate::proofs::Blocks::expressions))]
+    #[tactic(auto, using(lower_parts::proofs::Blocks::expressions))]
     fn give_all(&mut self, arguments: &[Argument], target: Target<'_>) -> Result<(), NoMemory>
         ensures gives { OnOk result (GivesValues (setting self.old.context.now) self.old.frame self.old.buffer
             (V.arguments arguments.now) (target_of target.entry) self.new.frame self.new.buffer) }
@@ -236,7 +238,7 @@ impl<'a> Lowerer<'a> {
     }
 
     // A call.
-    #[tactic(auto, using(crate::proofs::Blocks::expressions))]
+    #[tactic(auto, using(lower_parts::proofs::Blocks::expressions))]
     fn apply(
         &mut self,
         callee: u32,
@@ -258,7 +260,7 @@ impl<'a> Lowerer<'a> {
         Ok(())
     }
 
-    #[tactic(auto, using(crate::proofs::Blocks::expressions))]
+    #[tactic(auto, using(lower_parts::proofs::Blocks::expressions))]
     fn operate(
         &mut self,
         applied: Applied,

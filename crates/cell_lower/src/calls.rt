@@ -1,19 +1,20 @@
 // Operators and calls.
 ghost use Rattle.std.specs.Prelude.{◌≡◌, not, IfOk, OnOk, Some, slice_get};
-ghost use Rattle.lower_frame.specs.lowering_relation.declared.held.Held.{Held as a_held};
+ghost use Rattle.lower_parts.specs.lowering_relation.declared.held.Held.{Held as a_held};
 ghost use Rattle.fip_trees.specs.TreeView as V;
-ghost use Rattle.lower_frame.specs.lowering_relation.LoweredBodies as B;
-ghost use Rattle.lower_frame.specs.lowering_relation.Known as K;
-ghost use Rattle.lower_frame.specs.Registers.{HasRoom};
-ghost use Rattle.cell_lower.specs.Laying.{CallsLaid, EndsLaid, OperatesLaid};
-ghost use Rattle.cell_lower.specs.Writing.{setting, target_of, handed_at, received_at, CallsAt, EndsCall, Operates};
-ghost use Rattle.cell_lower.specs.Writing.{TakesAll, TakesOne};
+ghost use Rattle.lower_parts.specs.lowering_relation.LoweredBodies as B;
+ghost use Rattle.lower_parts.specs.lowering_relation.Known as K;
+ghost use Rattle.lower_parts.specs.lower_frame.Registers.{HasRoom};
+ghost use Rattle.lower_parts.specs.Laying.{CallsLaid, EndsLaid, OperatesLaid};
+ghost use Rattle.lower_parts.specs.Writing.{setting, target_of, handed_at, received_at, CallsAt, EndsCall, Operates};
+ghost use Rattle.lower_parts.specs.Writing.{TakesAll, TakesOne};
 
-use crate::lowerer::{Context, Lowerer, Target};
+use crate::lowerer::Lowerer;
 use cell_code::{Instr, Registers};
 use fip_base::plain::{NoMemory, Operator, Param, Place};
 use fip_trees::program::Instance;
-use lower_frame::relation::Held;
+use lower_parts::context::{Context, Target};
+use lower_parts::frame::relation::Held;
 
 /// An operator and where it stands.
 #[derive(Clone, Copy)]
@@ -24,7 +25,7 @@ pub struct Applied {
 
 impl<'a> Lowerer<'a> {
     /// An operator applied to two registers.
-    #[tactic(auto, using(crate::proofs::Calling::operating))]
+    #[tactic(auto, using(lower_parts::proofs::Calling::operating))]
     pub fn operation(
         &mut self,
         applied: Applied,
@@ -76,7 +77,7 @@ impl<'a> Lowerer<'a> {
 
     /// A call of an instance with arguments in these registers; where its results are the function's own, its frame
     /// takes the place of this one.
-    #[tactic(auto, using(crate::proofs::Calling::calling))]
+    #[tactic(auto, using(lower_parts::proofs::Calling::calling))]
     pub fn call(
         &mut self,
         callee: u32,
@@ -103,7 +104,7 @@ impl<'a> Lowerer<'a> {
     }
 
     // A call or a tail call, with these arguments and credits.
-    #[tactic(auto, using(crate::proofs::Calling::calling))]
+    #[tactic(auto, using(lower_parts::proofs::Calling::calling))]
     fn end_call(
         &mut self,
         function: u32,
@@ -143,7 +144,7 @@ impl<'a> Lowerer<'a> {
     }
 
     // What isn't lent is used up.
-    #[tactic(auto, using(crate::proofs::Calling::handing))]
+    #[tactic(auto, using(lower_parts::proofs::Calling::handing))]
     fn hand_over(&mut self, params: &[Param], registers: &[u16])
         ensures handed { self.new.frame ≡ K.using self.old.frame
             (B.handed self.old.frame.held params.now registers.now) }
@@ -175,7 +176,7 @@ impl<'a> Lowerer<'a> {
     }
 
     // Credits of these sizes are handed over too.
-    #[tactic(auto, using(crate::proofs::Calling::taking))]
+    #[tactic(auto, using(lower_parts::proofs::Calling::taking))]
     fn take_credits(&mut self, sizes: &[u8], registers: &mut Vec<u16>) -> Result<(), NoMemory>
         ensures taken { OnOk result (TakesAll self.old.frame sizes.now registers.old.items registers.new.items
             self.new.frame) }
@@ -204,7 +205,7 @@ impl<'a> Lowerer<'a> {
     }
 
     // The results of a call are in these registers.
-    #[tactic(auto, using(crate::proofs::Calling::handing))]
+    #[tactic(auto, using(lower_parts::proofs::Calling::handing))]
     fn receive(&mut self, types: &[u32], destinations: &[u16])
         ensures received { self.new.frame ≡ K.using self.old.frame
             (B.received (setting self.old.context.now) self.old.frame.held types.now destinations.now) }
@@ -248,7 +249,7 @@ fn function_of(context: &Context<'_>, instance: u32) -> Result<u32, NoMemory>
     }
 }
 
-#[tactic(auto, using(crate::proofs::Calling::numbering))]
+#[tactic(auto, using(lower_parts::proofs::Calling::numbering))]
 fn instance_of<'a>(context: &Context<'a>, number: u32) -> Result<&'a Instance, NoMemory>
     ensures there { IfOk result (λ d. slice_get (V.instances context.now.program.now.instances.items) number
         ≡ Some (V.instance_of d.now)) }

@@ -8,20 +8,20 @@ ghost use Rattle.cell_lower.specs.Instances.{HaveEach, AddsEach};
 ghost use Rattle.cell_lower.specs.LaidProgram.{IsAsked, IsLaidOf, IsLaidOut, laid_at};
 ghost use Rattle.cell_lower.specs.Limits.{Breaks, Says, is_ruled};
 ghost use Rattle.cell_lower.specs.Shape.{header, header_of, headers, headers_from, entry_name};
-ghost use Rattle.lower_frame.specs.lowering_relation.LoweredBodies.{function_of};
-ghost use Rattle.lower_frame.specs.lowering_relation.LoweredFunctions.{AreLowered};
-ghost use Rattle.lower_frame.specs.lowering_relation.Known.{joined};
-ghost use Rattle.lower_frame.specs.lowering_relation.WellMatched.{IsWellMatched};
+ghost use Rattle.lower_parts.specs.lowering_relation.LoweredBodies.{function_of};
+ghost use Rattle.lower_parts.specs.lowering_relation.LoweredFunctions.{AreLowered};
+ghost use Rattle.lower_parts.specs.lowering_relation.Known.{joined};
+ghost use Rattle.lower_parts.specs.lowering_relation.WellMatched.{IsWellMatched};
 ghost use Rattle.cell_lower.specs.Lowered.{AddsCode, HaveCodes, IsCodeOf, function_instrs};
 ghost use Rattle.cell_lower.specs.Sizes.{AreSmall};
 ghost use Rattle.cell_lower.specs.Small.{AddsSmall, HaveSmall, IsSmallOf};
-ghost use Rattle.cell_lower.specs.Writing.{setting};
+ghost use Rattle.lower_parts.specs.Writing.{setting};
 ghost use Rattle.cell_code.specs.Plain.{plain, all_instrs};
-ghost use Rattle.lower_frame.specs.Spelled.{AreSpelt, IsFunctionSpelt};
+ghost use Rattle.lower_parts.specs.lower_frame.Spelled.{AreSpelt, IsFunctionSpelt};
 
 use crate::copies::table_of;
 use crate::limits::note_limits;
-use crate::lowerer::{Context, Lowerer, Target};
+use crate::lowerer::Lowerer;
 use cell_code::{Code, CodeKind, Function};
 use fip_base::plain::{Name, NoMemory};
 use fip_base::refusal::PhaseError;
@@ -29,6 +29,7 @@ use fip_trees::groups::Groups;
 use fip_trees::needs::Needs;
 use fip_trees::program::{Instance, Program, Typed};
 use fip_trees::scalars::Scalars;
+use lower_parts::context::{Context, Target};
 use std::alloc::Global;
 
 /// The code of a program: its types, and a function for each instance that isn't plain, in the order of their numbers,
@@ -110,7 +111,7 @@ fn code_of(
 }
 
 // The functions of a program's instances.
-#[tactic(auto, using(crate::proofs::Headers::heading, lower_frame::proofs::Spelt::functions))]
+#[tactic(auto, using(crate::proofs::Headers::heading, lower_parts::proofs::lower_frame::Spelt::functions))]
 fn functions_of(
     context: &Context<'_>,
     instances: &[Instance],

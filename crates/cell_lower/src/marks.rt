@@ -1,10 +1,10 @@
 // Marks of registers: which trees an expression may use up.
 ghost use Rattle.std.specs.Prelude.{◌≡◌, true, IfSome, IfNone, None, Some, slice_get, slice_set};
 ghost use Rattle.fip_trees.specs.TreeView as V;
-ghost use Rattle.lower_frame.specs.lowering_relation.Uses.{takes_of};
-ghost use Rattle.cell_lower.specs.Marks.{is_marked, marking, marking_all, marking_block, marking_clauses, marking_if};
-ghost use Rattle.cell_lower.specs.Marks.{marking_in, marking_passed};
-ghost use Rattle.cell_lower.specs.Writing.{setting};
+ghost use Rattle.lower_parts.specs.lowering_relation.Uses.{takes_of};
+ghost use Rattle.lower_parts.specs.Marks.{is_marked, marking, marking_all, marking_block, marking_clauses, marking_if};
+ghost use Rattle.lower_parts.specs.Marks.{marking_in, marking_passed};
+ghost use Rattle.lower_parts.specs.Writing.{setting};
 
 use crate::lowerer::{Lowerer, is_destructive};
 use fip_trees::program::{Argument, Block, Clause, Expression, Instance};

@@ -1,76 +1,38 @@
 // Matches: for each clause the tests that choose it and its body, then the place where the clauses meet.
-ghost use Rattle.std.specs.Prelude.{◌≡◌, ◌≤◌, ◌<◌, ◌+◌, ◌&&◌, not, suc, [], ◌∷◌, None, Some, IfOk, OnOk, drop, length};
+ghost use Rattle.std.specs.Prelude.{◌≡◌, ◌≤◌, ◌<◌, ◌+◌, ◌&&◌, not, suc, ◌∷◌, None, Some, IfOk, OnOk, drop, length};
 ghost use Rattle.fip_trees.specs.TreeView as V;
 ghost use Rattle.match_knowledge.specs.View as View;
-ghost use Rattle.lower_frame.specs.lowering_relation.Entering.{entering, entering_all, entering_root, root_of, variable_held, with_cell};
-ghost use Rattle.lower_frame.specs.lowering_relation.Entering.{with_variable, spent_if};
-ghost use Rattle.lower_frame.specs.lowering_relation.Losing.{Loses};
-ghost use Rattle.lower_frame.specs.lowering_relation.Rows.{row_of, rows_of};
-ghost use Rattle.lower_frame.specs.lowering_relation.Written.{Extends, GivesUp, size};
-ghost use Rattle.lower_frame.specs.Positions.{reaching, spot_of, spots_of};
-ghost use Rattle.cell_lower.specs.Scenes.{AtSpot, IsWhole, first_side, patterns_of, sides_of};
-ghost use Rattle.cell_lower.specs.Clauses.{AddsPattern, IsBegun, EndsIn, EndsMatch, GoesToEnd, HasPositions};
-ghost use Rattle.cell_lower.specs.Clauses.{JoinsKnown, StartsIn};
-ghost use Rattle.lower_frame.specs.Registers.{HasRoom, registers};
-ghost use Rattle.cell_lower.specs.Growth.{Sheds};
-ghost use Rattle.cell_lower.specs.Laying.{ForgetsLaid, is_built};
-ghost use Rattle.cell_lower.specs.Leaving.{ClauseLeavesLaid, EndsMatchedLaid};
-ghost use Rattle.cell_lower.specs.Marks.{MarkedFor, MarkedIf};
-ghost use Rattle.cell_lower.specs.Matches.{BeginsLaid, EndsInLaid, EndsMatchLaid, GoesLaid, JoinsLaid, StartsLaid};
-ghost use Rattle.lower_frame.specs.Labels.{labels};
-ghost use Rattle.lower_frame.specs.lowering_relation.Values.{is_scalar};
-ghost use Rattle.lowering_relation.proofs.Choices.{patterns_in};
-ghost use Rattle.cell_lower.specs.Writing.{setting, target_of};
+ghost use Rattle.lower_parts.specs.lowering_relation.Entering.{entering, entering_all, entering_root, root_of, variable_held, with_cell};
+ghost use Rattle.lower_parts.specs.lowering_relation.Entering.{with_variable, spent_if};
+ghost use Rattle.lower_parts.specs.lowering_relation.Losing.{Loses};
+ghost use Rattle.lower_parts.specs.lowering_relation.Rows.{row_of, rows_of};
+ghost use Rattle.lower_parts.specs.lowering_relation.Written.{Extends, GivesUp, size};
+ghost use Rattle.lower_parts.specs.lower_frame.Positions.{reaching, spot_of, spots_of};
+ghost use Rattle.lower_parts.specs.Scenes.{AtSpot, IsWhole, patterns_of, sides_of};
+ghost use Rattle.lower_parts.specs.Clauses.{AddsPattern, IsBegun, EndsIn, EndsMatch, GoesToEnd, HasPositions};
+ghost use Rattle.lower_parts.specs.Clauses.{JoinsKnown, StartsIn};
+ghost use Rattle.lower_parts.specs.lower_frame.Registers.{HasRoom, registers};
+ghost use Rattle.lower_parts.specs.Growth.{Sheds};
+ghost use Rattle.lower_parts.specs.Laying.{ForgetsLaid, is_built};
+ghost use Rattle.lower_parts.specs.Leaving.{ClauseLeavesLaid, EndsMatchedLaid};
+ghost use Rattle.lower_parts.specs.Marks.{MarkedFor, MarkedIf};
+ghost use Rattle.lower_parts.specs.Matches.{BeginsLaid, EndsInLaid, EndsMatchLaid, GoesLaid, JoinsLaid, StartsLaid};
+ghost use Rattle.lower_parts.specs.lower_frame.Labels.{labels};
+ghost use Rattle.lower_parts.specs.lowering_relation.Values.{is_scalar};
+ghost use Rattle.lower_parts.proofs.lowering_relation.Choices.{patterns_in};
+ghost use Rattle.lower_parts.specs.Writing.{setting, target_of};
 
-use crate::choices::{Choice, Side, is_named, start_of};
-use crate::lowerer::{Lowerer, Target};
+use crate::lowerer::Lowerer;
 use cell_code::Instr;
 use fip_base::plain::NoMemory;
 use fip_trees::program::{Argument, Binder, Clause, Pattern};
-use fip_trees::sizes::Sizes;
-use lower_frame::relation::Held;
-use lower_frame::{Frame, Spot, add_spots, field_at};
+use lower_parts::choice::{Choice, is_named};
+use lower_parts::context::Target;
+use lower_parts::frame::relation::Held;
+use lower_parts::frame::{Frame, Spot, add_spots, field_at};
+use lower_parts::match_state::{Matching, Progress};
 use match_knowledge::{Head, Row};
 use std::alloc::Global;
-
-/// A match that is being written.
-#[derive(Drop)]
-pub struct Matching<'c> {
-    choice: Choice<'c>,
-    /// What is known at its start; the positions have registers.
-    entry: Frame,
-    /// The registers of trees that a clause may use up.
-    used: Vec<bool>,
-    need: Sizes,
-    /// The label of the place where the clauses meet.
-    end: u32,
-}
-
-/// How far a match is written.
-#[derive(Drop)]
-pub struct Progress {
-    /// Where tests aren't written yet; the last one is next.
-    sides: Vec<Side>,
-    /// The number of the next clause.
-    clause: usize,
-    /// What is known at the ends of all clauses so far.
-    joined: Option<Frame>,
-}
-
-impl Progress {
-    /// At the start of a match.
-    pub fn new(alloc: Global) -> Result<Progress, NoMemory>
-        ensures sides { IfOk result (λ p. sides_of p.sides.items ≡ first_side ∷ []) }
-        ensures clause { IfOk result (λ p. p.clause ≡ 0) }
-        ensures joined { IfOk result (λ p. p.joined ≡ None) }
-    {
-        Ok(Progress {
-            sides: start_of(alloc)?,
-            clause: 0,
-            joined: None,
-        })
-    }
-}
 
 /// A match as it is written.
 #[derive(Clone, Copy)]
@@ -132,7 +94,7 @@ impl<'a> Lowerer<'a> {
     }
 
     // Where the clauses meet, no constructor that was matched before is used in them.
-    #[tactic(auto, using(crate::proofs::Losing::giving_up, crate::proofs::Leaving::ending_bares))]
+    #[tactic(auto, using(lower_parts::proofs::Losing::giving_up, lower_parts::proofs::Leaving::ending_bares))]
     fn end_matched(&mut self, target: Target<'_>) -> Result<(), NoMemory>
         ensures given_up { OnOk result (GivesUp self.old.buffer self.new.buffer) }
         ensures loses { OnOk result (Loses self.old.frame self.new.frame) }
@@ -150,7 +112,7 @@ impl<'a> Lowerer<'a> {
     }
 
     // A tree that was just built has one constructor; tests ask for others too, so a label stands before them.
-    #[tactic(auto, using(crate::proofs::Losing::forgetting))]
+    #[tactic(auto, using(lower_parts::proofs::Losing::forgetting))]
     fn forget_built(&mut self, register: u16) -> Result<(), NoMemory>
         ensures loses { OnOk result (Loses self.old.frame self.new.frame) }
         ensures registers { OnOk result (registers self.new.frame ≡ registers self.old.frame) }
@@ -185,7 +147,7 @@ impl<'a> Lowerer<'a> {
     }
 
     // The registers of trees that a clause may use up, where it may leave something.
-    #[tactic(auto, using(crate::proofs::Marking::marks))]
+    #[tactic(auto, using(lower_parts::proofs::Marking::marks))]
     fn marks_of(&self, written: &Written<'_>) -> Result<Vec<bool>, NoMemory>
         ensures marked { IfOk result (λ v. MarkedIf (not self.now.gives_up) (setting self.now.context.now)
             self.now.frame written.now.destructive (V.argument written.now.scrutinee.now)
@@ -234,7 +196,7 @@ impl<'a> Lowerer<'a> {
         Ok(choice)
     }
 
-    #[tactic(auto, using(crate::proofs::Beginning::adding))]
+    #[tactic(auto, using(lower_parts::proofs::Beginning::adding))]
     fn add_pattern<'t>(
         &mut self,
         choice: &mut Choice<'t>,
@@ -446,7 +408,7 @@ impl<'a> Lowerer<'a> {
     }
 
     // A cell that was taken apart is a credit; a constructor without fields can be used again.
-    #[tactic(auto, using(crate::proofs::Beginning::cells))]
+    #[tactic(auto, using(lower_parts::proofs::Beginning::cells))]
     fn open_cell(&mut self, takes: bool, cell: Cell, patterns: &[Pattern]) -> Result<(), NoMemory>
         ensures opens { OnOk result (self.new.frame ≡ with_cell (setting self.old.context.now) takes cell.ty
             cell.constructor (V.patterns patterns.now) cell.register self.old.frame) }
@@ -505,7 +467,7 @@ impl<'a> Lowerer<'a> {
     }
 
     // Gives up what a clause leaves and another doesn't.
-    #[tactic(auto, using(crate::proofs::Losing::leaving))]
+    #[tactic(auto, using(lower_parts::proofs::Losing::leaving))]
     fn leave(&mut self, matching: &Matching<'_>, given: &[u16]) -> Result<(), NoMemory>
         ensures given_up { OnOk result (GivesUp self.old.buffer self.new.buffer) }
         ensures loses { OnOk result (Loses self.old.frame self.new.frame) }
@@ -547,7 +509,7 @@ impl<'a> Lowerer<'a> {
     }
 
     // What is known at the ends of the clauses so far and of this one.
-    #[tactic(auto, using(crate::proofs::Clauses::joining, crate::proofs::Matched::joining_laid))]
+    #[tactic(auto, using(lower_parts::proofs::Clauses::joining, lower_parts::proofs::Matched::joining_laid))]
     fn joined(&self, before: &Option<Frame>) -> Result<Frame, NoMemory>
         ensures joins { IfOk result (λ f. JoinsKnown self.now.frame before.now (Some f)) }
         ensures laid { IfOk result (λ f. JoinsLaid before.now self.now.frame (Some f)) }

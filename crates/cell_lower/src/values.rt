@@ -2,28 +2,29 @@
 ghost use Rattle.std.specs.Prelude.{◌≡◌, true, false, not, [], IfOk, OnOk, slice_get};
 ghost use Rattle.fip_trees.specs.TreeView as V;
 ghost use Rattle.cell_code.specs.declared.code.Instr.TheVariants as I;
-ghost use Rattle.lower_frame.specs.lowering_relation.declared.held.Held.TheVariants as H;
-ghost use Rattle.lower_frame.specs.lowering_relation.Known as K;
-ghost use Rattle.lower_frame.specs.lowering_relation.Losing.{Loses};
-ghost use Rattle.lower_frame.specs.lowering_relation.Written.{GivesUp, added};
-ghost use Rattle.lower_frame.specs.Credits.{NoBares, is_bare};
-ghost use Rattle.lower_frame.specs.Registers.{HasRoom};
-ghost use Rattle.cell_lower.specs.Growth.{Sheds};
-ghost use Rattle.cell_lower.specs.Laying.{GivesLaid, GivesUpLaid};
-ghost use Rattle.cell_lower.specs.Writing.{setting, target_of, Builds, Computes, ComputesAll, Gives, Moves};
-ghost use Rattle.cell_lower.specs.Writing.{MovesOne, MovesTo};
+ghost use Rattle.lower_parts.specs.lowering_relation.declared.held.Held.TheVariants as H;
+ghost use Rattle.lower_parts.specs.lowering_relation.Known as K;
+ghost use Rattle.lower_parts.specs.lowering_relation.Losing.{Loses};
+ghost use Rattle.lower_parts.specs.lowering_relation.Written.{GivesUp, added};
+ghost use Rattle.lower_parts.specs.lower_frame.Credits.{NoBares, is_bare};
+ghost use Rattle.lower_parts.specs.lower_frame.Registers.{HasRoom};
+ghost use Rattle.lower_parts.specs.Growth.{Sheds};
+ghost use Rattle.lower_parts.specs.Laying.{GivesLaid, GivesUpLaid};
+ghost use Rattle.lower_parts.specs.Writing.{setting, target_of, Builds, Computes, ComputesAll, Gives, Moves};
+ghost use Rattle.lower_parts.specs.Writing.{MovesOne, MovesTo};
 
-use crate::lowerer::{Lowerer, Target};
+use crate::lowerer::Lowerer;
 use cell_code::{Instr, Registers};
 use fip_base::plain::NoMemory;
 use fip_trees::program::Argument;
-use lower_frame::as_value;
-use lower_frame::relation::Held;
+use lower_parts::context::Target;
+use lower_parts::frame::as_value;
+use lower_parts::frame::relation::Held;
 
 impl<'a> Lowerer<'a> {
     /// The register that holds the value of an argument: a variable's own, or that of what is built.
     #[cycle(value)]
-    #[tactic(auto, using(crate::proofs::Writing::writing))]
+    #[tactic(auto, using(lower_parts::proofs::Writing::writing))]
     pub fn value(&mut self, argument: &Argument) -> Result<u16, NoMemory>
         ensures computes { IfOk result (λ r. Computes (setting self.old.context.now) self.old.frame self.old.buffer
             (V.argument argument.now) r self.new.frame self.new.buffer) }
@@ -53,7 +54,7 @@ impl<'a> Lowerer<'a> {
 
     /// The registers that hold the values of arguments.
     #[cycle(value)]
-    #[tactic(auto, using(crate::proofs::Writing::following))]
+    #[tactic(auto, using(lower_parts::proofs::Writing::following))]
     pub fn values(&mut self, arguments: &[Argument]) -> Result<Vec<u16>, NoMemory>
         ensures computes { IfOk result (λ rs. ComputesAll (setting self.old.context.now) self.old.frame
             self.old.buffer (V.arguments arguments.now) rs.items self.new.frame self.new.buffer) }
@@ -85,7 +86,7 @@ impl<'a> Lowerer<'a> {
 
     // A constructor of these fields. One with fields is put into the cell of the last credit of its size, which is
     // there since no body needs more than it has.
-    #[tactic(auto, using(crate::proofs::Writing::writing))]
+    #[tactic(auto, using(lower_parts::proofs::Writing::writing))]
     fn construct(&mut self, ty: u32, constructor: u32, fields: &[u16]) -> Result<u16, NoMemory>
         ensures builds { IfOk result (λ r. Builds (setting self.old.context.now) self.old.frame self.old.buffer ty
             constructor fields.now r self.new.frame self.new.buffer) }
@@ -110,7 +111,7 @@ impl<'a> Lowerer<'a> {
     }
 
     // A constructor without fields: one that was matched, or a new one.
-    #[tactic(auto, using(crate::proofs::Writing::writing))]
+    #[tactic(auto, using(lower_parts::proofs::Writing::writing))]
     fn atom(&mut self, ty: u32, constructor: u32) -> Result<u16, NoMemory>
         ensures builds { IfOk result (λ r. Builds (setting self.old.context.now) self.old.frame self.old.buffer ty
             constructor [] r self.new.frame self.new.buffer) }
@@ -139,7 +140,7 @@ impl<'a> Lowerer<'a> {
     }
 
     /// What these registers own is used up.
-    #[tactic(auto, using(crate::proofs::Writing::using_up))]
+    #[tactic(auto, using(lower_parts::proofs::Writing::using_up))]
     pub fn use_up_all(&mut self, registers: &[u16])
         ensures used { self.new.frame ≡ K.using self.old.frame (K.used_all self.old.frame.held registers.now) }
         ensures context { self.new.context ≡ self.old.context }
@@ -153,7 +154,7 @@ impl<'a> Lowerer<'a> {
     }
 
     /// Uses up each constructor without fields that was matched and is not used.
-    #[tactic(auto, using(crate::proofs::Losing::giving_up, crate::proofs::Laying::spending))]
+    #[tactic(auto, using(lower_parts::proofs::Losing::giving_up, lower_parts::proofs::Laying::spending))]
     pub fn end_bare(&mut self) -> Result<(), NoMemory>
         ensures given_up { OnOk result (GivesUp self.old.buffer self.new.buffer) }
         ensures loses { OnOk result (Loses self.old.frame self.new.frame) }
@@ -170,7 +171,7 @@ impl<'a> Lowerer<'a> {
         Ok(())
     }
 
-    #[tactic(auto, using(crate::proofs::Losing::giving_up, crate::proofs::Laying::spending))]
+    #[tactic(auto, using(lower_parts::proofs::Losing::giving_up, lower_parts::proofs::Laying::spending))]
     fn end_one(&mut self, register: u16) -> Result<(), NoMemory>
         ensures given_up { OnOk result (GivesUp self.old.buffer self.new.buffer) }
         ensures loses { OnOk result (Loses self.old.frame self.new.frame) }
@@ -192,7 +193,7 @@ impl<'a> Lowerer<'a> {
     }
 
     /// Hands results on.
-    #[tactic(auto, using(crate::proofs::Writing::giving, crate::proofs::Laying::ending))]
+    #[tactic(auto, using(lower_parts::proofs::Writing::giving, lower_parts::proofs::Laying::ending))]
     pub fn give(&mut self, results: &[u16], target: Target<'_>) -> Result<(), NoMemory>
         ensures gives { OnOk result (Gives self.old.frame self.old.buffer results.now (target_of target.entry)
             self.new.frame self.new.buffer) }
@@ -220,7 +221,7 @@ impl<'a> Lowerer<'a> {
     }
 
     // Registers get the words of others.
-    #[tactic(auto, using(crate::proofs::Writing::moving))]
+    #[tactic(auto, using(lower_parts::proofs::Writing::moving))]
     fn move_all(&mut self, sources: &[u16], destinations: &[u16]) -> Result<(), NoMemory>
         ensures moves { OnOk result (Moves self.old.frame self.old.buffer sources.now destinations.now
             self.new.frame self.new.buffer) }
@@ -251,7 +252,7 @@ impl<'a> Lowerer<'a> {
     }
 
     // A register gets the word of another.
-    #[tactic(auto, using(crate::proofs::Writing::moving))]
+    #[tactic(auto, using(lower_parts::proofs::Writing::moving))]
     fn move_word(&mut self, source: u16, destination: u16) -> Result<(), NoMemory>
         ensures moves { OnOk result (MovesOne self.old.frame self.old.buffer source destination
             self.new.frame self.new.buffer) }

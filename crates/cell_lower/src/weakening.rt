@@ -1,27 +1,27 @@
 // What is left over in an fbip function is given up: trees are dropped, cells of credits are freed.
 ghost use Rattle.std.specs.Prelude.{◌≡◌, ◌-◌, false, not, OnOk, slice_get};
-ghost use Rattle.lower_frame.specs.lowering_relation.Known.{is_owned};
-ghost use Rattle.lower_frame.specs.lowering_relation.Losing.{Loses};
-ghost use Rattle.lower_frame.specs.lowering_relation.Written.{GivesUp};
-ghost use Rattle.lower_frame.specs.Credits.{NoTrees, sized};
-ghost use Rattle.cell_lower.specs.Growth.{Sheds};
-ghost use Rattle.cell_lower.specs.Laying.{AllGone, GivesUpLaid, SpendsAll, SpendsPast};
-ghost use Rattle.cell_lower.specs.Leaving.{DropsBut, DropsUnless, FreesBut, FreesPast, LeavesLaid, kept_of, stays_at};
-ghost use Rattle.cell_lower.specs.Writing.{setting};
+ghost use Rattle.lower_parts.specs.lowering_relation.Known.{is_owned};
+ghost use Rattle.lower_parts.specs.lowering_relation.Losing.{Loses};
+ghost use Rattle.lower_parts.specs.lowering_relation.Written.{GivesUp};
+ghost use Rattle.lower_parts.specs.lower_frame.Credits.{NoTrees, sized};
+ghost use Rattle.lower_parts.specs.Growth.{Sheds};
+ghost use Rattle.lower_parts.specs.Laying.{AllGone, GivesUpLaid, SpendsAll, SpendsPast};
+ghost use Rattle.lower_parts.specs.Leaving.{DropsBut, DropsUnless, FreesBut, FreesPast, LeavesLaid, kept_of, stays_at};
+ghost use Rattle.lower_parts.specs.Writing.{setting};
 ghost use Rattle.fip_language.specs.declared.limits.TheConstants.{MOST_FIELDS};
 
-use crate::choices::contains;
 use crate::lowerer::Lowerer;
 use crate::marks::is_marked;
 use cell_code::Instr;
 use fip_base::plain::NoMemory;
 use fip_language::limits::MOST_FIELDS;
 use fip_trees::sizes::Sizes;
-use lower_frame::Frame;
+use lower_parts::choice::contains;
+use lower_parts::frame::Frame;
 
 impl<'a> Lowerer<'a> {
     /// Gives up all that is left when the function ends.
-    #[tactic(auto, using(crate::proofs::Losing::giving_up, crate::proofs::Laying::spending))]
+    #[tactic(auto, using(lower_parts::proofs::Losing::giving_up, lower_parts::proofs::Laying::spending))]
     pub fn give_up_all(&mut self) -> Result<(), NoMemory>
         ensures given_up { OnOk result (GivesUp self.old.buffer self.new.buffer) }
         ensures loses { OnOk result (Loses self.old.frame self.new.frame) }
@@ -41,7 +41,7 @@ impl<'a> Lowerer<'a> {
         Ok(())
     }
 
-    #[tactic(auto, using(crate::proofs::Losing::giving_up, crate::proofs::Laying::spending))]
+    #[tactic(auto, using(lower_parts::proofs::Losing::giving_up, lower_parts::proofs::Laying::spending))]
     fn drop_all(&mut self) -> Result<(), NoMemory>
         ensures given_up { OnOk result (GivesUp self.old.buffer self.new.buffer) }
         ensures loses { OnOk result (Loses self.old.frame self.new.frame) }
@@ -58,7 +58,7 @@ impl<'a> Lowerer<'a> {
         Ok(())
     }
 
-    #[tactic(auto, using(crate::proofs::Losing::giving_up, crate::proofs::Laying::spending))]
+    #[tactic(auto, using(lower_parts::proofs::Losing::giving_up, lower_parts::proofs::Laying::spending))]
     fn free_all(&mut self) -> Result<(), NoMemory>
         ensures given_up { OnOk result (GivesUp self.old.buffer self.new.buffer) }
         ensures loses { OnOk result (Loses self.old.frame self.new.frame) }
@@ -78,7 +78,7 @@ impl<'a> Lowerer<'a> {
     /// Gives up what a clause leaves and another doesn't: trees that weren't there at the entry of its match or that a
     /// clause may use up, and credits past those that are left where the match took what it needs. What the clause
     /// gives is kept.
-    #[tactic(auto, using(crate::proofs::Losing::giving_up, crate::proofs::Leaving::leaving_over))]
+    #[tactic(auto, using(lower_parts::proofs::Losing::giving_up, lower_parts::proofs::Leaving::leaving_over))]
     pub fn give_up_to(
         &mut self,
         entry: &Frame,
@@ -106,7 +106,7 @@ impl<'a> Lowerer<'a> {
     }
 
     // Drops what wasn't there at the entry of the match, or what a clause may use up, but not what the clause gives.
-    #[tactic(auto, using(crate::proofs::Losing::giving_up, crate::proofs::Leaving::leaving_over))]
+    #[tactic(auto, using(lower_parts::proofs::Losing::giving_up, lower_parts::proofs::Leaving::leaving_over))]
     fn drop_but(&mut self, entry: &Frame, used: &[bool], given: &[u16]) -> Result<(), NoMemory>
         ensures given_up { OnOk result (GivesUp self.old.buffer self.new.buffer) }
         ensures loses { OnOk result (Loses self.old.frame self.new.frame) }
@@ -124,7 +124,7 @@ impl<'a> Lowerer<'a> {
         Ok(())
     }
 
-    #[tactic(auto, using(crate::proofs::Losing::giving_up, crate::proofs::Leaving::leaving_over))]
+    #[tactic(auto, using(lower_parts::proofs::Losing::giving_up, lower_parts::proofs::Leaving::leaving_over))]
     fn drop_unless(&mut self, register: u16, stays: bool) -> Result<(), NoMemory>
         ensures given_up { OnOk result (GivesUp self.old.buffer self.new.buffer) }
         ensures loses { OnOk result (Loses self.old.frame self.new.frame) }
@@ -142,7 +142,7 @@ impl<'a> Lowerer<'a> {
     }
 
     // Frees the credits past those that are left where the match took what it needs.
-    #[tactic(auto, using(crate::proofs::Losing::giving_up, crate::proofs::Leaving::leaving_over))]
+    #[tactic(auto, using(lower_parts::proofs::Losing::giving_up, lower_parts::proofs::Leaving::leaving_over))]
     fn free_but(&mut self, entry: &Frame, need: &Sizes) -> Result<(), NoMemory>
         ensures given_up { OnOk result (GivesUp self.old.buffer self.new.buffer) }
         ensures loses { OnOk result (Loses self.old.frame self.new.frame) }
@@ -160,7 +160,7 @@ impl<'a> Lowerer<'a> {
         Ok(())
     }
 
-    #[tactic(auto, using(crate::proofs::Losing::giving_up, crate::proofs::Leaving::leaving_over))]
+    #[tactic(auto, using(lower_parts::proofs::Losing::giving_up, lower_parts::proofs::Leaving::leaving_over))]
     fn drop_tree(&mut self, register: u16) -> Result<(), NoMemory>
         ensures given_up { OnOk result (GivesUp self.old.buffer self.new.buffer) }
         ensures loses { OnOk result (Loses self.old.frame self.new.frame) }
@@ -181,7 +181,7 @@ impl<'a> Lowerer<'a> {
     }
 
     // Frees all credits of a size but so many.
-    #[tactic(auto, using(crate::proofs::Losing::giving_up, crate::proofs::Leaving::leaving_over))]
+    #[tactic(auto, using(lower_parts::proofs::Losing::giving_up, lower_parts::proofs::Leaving::leaving_over))]
     fn free_past(&mut self, size: usize, kept: usize) -> Result<(), NoMemory>
         ensures given_up { OnOk result (GivesUp self.old.buffer self.new.buffer) }
         ensures loses { OnOk result (Loses self.old.frame self.new.frame) }
@@ -200,7 +200,7 @@ impl<'a> Lowerer<'a> {
         Ok(())
     }
 
-    #[tactic(auto, using(crate::proofs::Losing::giving_up, crate::proofs::Leaving::leaving_over))]
+    #[tactic(auto, using(lower_parts::proofs::Losing::giving_up, lower_parts::proofs::Leaving::leaving_over))]
     fn free_one(&mut self, size: usize) -> Result<(), NoMemory>
         ensures given_up { OnOk result (GivesUp self.old.buffer self.new.buffer) }
         ensures loses { OnOk result (Loses self.old.frame self.new.frame) }

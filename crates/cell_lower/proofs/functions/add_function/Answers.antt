@@ -3,11 +3,11 @@ use Rattle.std.specs.Prelude.{option_map}
 use Rattle.fip_trees.specs.declared.groups.Member.{Member}
 use Rattle.fip_trees.specs.TreeView.{instance_of}
 use Rattle.cell_lower.specs.Limits.{is_ruled}
-use Rattle.cell_lower.specs.Writing.{setting}
+use Rattle.lower_parts.specs.Writing.{setting}
 use Rattle.cell_lower.proofs.Headers.{registers-some}
 use Rattle.cell_lower.proofs.Smalls.{small_added}
 use Rattle.cell_lower.proofs.Standing.{laid_added}
-use Rattle.lower_frame.proofs.Spelt.{function_pushed}
+use Rattle.lower_parts.proofs.lower_frame.Spelt.{function_pushed}
 use Rattle.cell_lower.proofs.functions.add_function.Goals as goal
 
 pub returns-in_ok-push-clause-small : goal.returns-in_ok-push-clause-small

@@ -1,9 +1,9 @@
 use Rattle.std.proofs.Common.{refl, subst, map, ap, ◌∙◌}
 use Rattle.fip_trees.specs.TreeView.{program, instances}
-use Rattle.lower_frame.specs.lowering_relation.Values.{Setting}
+use Rattle.lower_parts.specs.lowering_relation.Values.{Setting}
 use Rattle.cell_lower.specs.Lowered.{function_instrs, HaveCodes}
 use Rattle.cell_lower.specs.Shape.{headers}
-use Rattle.cell_lower.specs.Writing.{setting}
+use Rattle.lower_parts.specs.Writing.{setting}
 use Rattle.cell_lower.proofs.Programs.{functions_lowered}
 use Rattle.cell_lower.specs.Instances.{HaveEach}
 use Rattle.cell_lower.specs.LaidProgram.{laid_at}

@@ -1,7 +1,7 @@
 use Rattle.std.proofs.Common.{rules, refl, ap, ◌∙◌}
 use Rattle.fip_trees.specs.NeedsView.{needs_of}
 use Rattle.fip_trees.specs.TreeView.{instance_of}
-use Rattle.cell_lower.specs.Writing.{setting}
+use Rattle.lower_parts.specs.Writing.{setting}
 use Rattle.cell_lower.proofs.Parts.{code_from}
 use Rattle.cell_lower.proofs.Smalls.{small_of}
 use Rattle.cell_lower.proofs.Standing.{fip_of, laid_of}

@@ -1,9 +1,9 @@
 use Rattle.std.proofs.Common.{rules, map, ◌+◌, arith}
 use Rattle.cell_lower.specs.Lowered.{function_instrs}
 use Rattle.cell_lower.specs.Shape.{header, headers}
-use Rattle.cell_lower.specs.Writing.{setting}
+use Rattle.lower_parts.specs.Writing.{setting}
 use Rattle.fip_trees.specs.TreeView.{instances}
-use Rattle.cell_lower.proofs.Folding.{item}
+use Rattle.lower_parts.proofs.Folding.{item}
 use Rattle.cell_lower.proofs.Programs.{codes_next, headers_next}
 use Rattle.cell_lower.specs.LaidProgram.{laid_at}
 use Rattle.cell_lower.specs.Small.{small_at}

@@ -2,12 +2,12 @@ use Rattle.std.proofs.Common.{◌≡◌, drop, map, ◌++◌}
 use Rattle.fip_trees.specs.TreeView.{instances}
 use Rattle.cell_lower.specs.Lowered.{function_instrs}
 use Rattle.cell_lower.specs.Shape.{header, headers, headers_from}
-use Rattle.cell_lower.specs.Writing.{setting}
+use Rattle.lower_parts.specs.Writing.{setting}
 use Rattle.cell_lower.proofs.Programs.{FollowCodes}
 use Rattle.cell_lower.specs.LaidProgram.{laid_at}
 use Rattle.cell_lower.specs.Small.{small_at}
 use Rattle.cell_lower.proofs.Instances.{FollowEach}
-use Rattle.lower_frame.specs.Spelled.{AreSpelt}
+use Rattle.lower_parts.specs.lower_frame.Spelled.{AreSpelt}
 use Rattle.cell_lower.proofs.functions.functions_of.Given as goal
 
 abbrev pub invariant-loop-instance : goal.invariant-loop-instance

@@ -1,6 +1,6 @@
 use Rattle.std.proofs.Common.{ap, ◌∙◌}
 use Rattle.fip_trees.specs.TreeView.{instances}
-use Rattle.lower_frame.specs.lowering_relation.LoweredBodies.{function_of}
+use Rattle.lower_parts.specs.lowering_relation.LoweredBodies.{function_of}
 use Rattle.cell_lower.proofs.Programs.{numbers_end}
 use Rattle.cell_lower.proofs.functions.numbers_of.Goals as goal
 

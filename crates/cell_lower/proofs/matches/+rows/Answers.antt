@@ -1,7 +1,7 @@
 use Rattle.std.proofs.Common.{◌+◌, arith}
 use Rattle.fip_trees.specs.TreeView.{patterns}
-use Rattle.lower_frame.specs.lowering_relation.Rows as R
-use Rattle.cell_lower.proofs.Folding.{rows_next, rows_end, item}
+use Rattle.lower_parts.specs.lowering_relation.Rows as R
+use Rattle.lower_parts.proofs.Folding.{rows_next, rows_end, item}
 use Rattle.cell_lower.proofs.matches.+rows.Goals as goal
 
 pub rows_of-loop-pattern-preserved : goal.rows_of-loop-pattern-preserved

@@ -1,7 +1,7 @@
 use Rattle.std.proofs.Common.{◌≡◌, drop}
 use Rattle.fip_trees.specs.TreeView.{patterns}
-use Rattle.lower_frame.specs.lowering_relation.Rows as R
-use Rattle.cell_lower.proofs.Folding.{before_rows}
+use Rattle.lower_parts.specs.lowering_relation.Rows as R
+use Rattle.lower_parts.proofs.Folding.{before_rows}
 use Rattle.cell_lower.proofs.matches.+rows.Given as goal
 
 abbrev pub invariant-rows_of-loop-pattern : goal.invariant-rows_of-loop-pattern

@@ -5,20 +5,20 @@ use Rattle.fip_trees.specs.declared.program.Binding.{out-Binding}
 use Rattle.fip_trees.specs.declared.program.Clause.{out-Clause}
 use Rattle.fip_trees.specs.declared.program.Expression.{the_lemmas}
 use Rattle.fip_trees.specs.TreeView.{arguments, binding, block, clause, clauses, expression}
-use Rattle.lower_frame.specs.lowering_relation.LoweredBodies.{with_names}
-use Rattle.lower_frame.specs.lowering_relation.WellMatched.{WellMatched}
-use Rattle.cell_lower.specs.declared.lowerer.Context.{Context}
+use Rattle.lower_parts.specs.lowering_relation.LoweredBodies.{with_names}
+use Rattle.lower_parts.specs.lowering_relation.WellMatched.{WellMatched}
+use Rattle.lower_parts.specs.declared.context.Context.{Context}
 use Rattle.cell_lower.specs.declared.lowerer.Walk.{Walk}
-use Rattle.cell_lower.specs.Bodies.{span, span_block, span_clauses, Asked, AskedBlock, Lays, LaysBlock, LaysLet}
-use Rattle.cell_lower.specs.Laying.{AppliesLaid, GivesValuesLaid}
-use Rattle.cell_lower.specs.Matches.{ClauseLays}
-use Rattle.cell_lower.specs.Clauses.{WritesClause}
-use Rattle.cell_lower.specs.Writing.{setting, target_of, AppliesTo, Binds, ComputesAll, GivesValues, Writes}
-use Rattle.cell_lower.proofs.Folding.{item}
-use Rattle.cell_lower.proofs.Blocks.{follows_on, follows_done}
-use Rattle.cell_lower.proofs.Clauses.{clauses_next, clauses_end}
-use Rattle.cell_lower.proofs.Expressions.{bound_give, bound_tuple, written_call}
-use Rattle.cell_lower.proofs.Following.{follows_laid_on, follows_laid_done, walks_on, walks_done, walks_block, laid_give, laid_tuple, laid_operation, laid_call, laid_nested, walked_give, walked_tuple, walked_operation, walked_call, walked_nested, let_give, let_tuple, let_from, walked_bound, clause_lays_from, walked_clause, follow_clauses_next, follow_clauses_end, walks_clauses_on, walks_clauses_end, walked_matched}
+use Rattle.lower_parts.specs.Bodies.{span, span_block, span_clauses, Asked, AskedBlock, Lays, LaysBlock, LaysLet}
+use Rattle.lower_parts.specs.Laying.{AppliesLaid, GivesValuesLaid}
+use Rattle.lower_parts.specs.Matches.{ClauseLays}
+use Rattle.lower_parts.specs.Clauses.{WritesClause}
+use Rattle.lower_parts.specs.Writing.{setting, target_of, AppliesTo, Binds, ComputesAll, GivesValues, Writes}
+use Rattle.lower_parts.proofs.Folding.{item}
+use Rattle.lower_parts.proofs.Blocks.{follows_on, follows_done}
+use Rattle.lower_parts.proofs.Clauses.{clauses_next, clauses_end}
+use Rattle.lower_parts.proofs.Expressions.{bound_give, bound_tuple, written_call}
+use Rattle.lower_parts.proofs.Following.{follows_laid_on, follows_laid_done, walks_on, walks_done, walks_block, laid_give, laid_tuple, laid_operation, laid_call, laid_nested, walked_give, walked_tuple, walked_operation, walked_call, walked_nested, let_give, let_tuple, let_from, walked_bound, clause_lays_from, walked_clause, follow_clauses_next, follow_clauses_end, walks_clauses_on, walks_clauses_end, walked_matched}
 use Rattle.cell_lower.proofs.Parts.{bound_from, match_from, match_laid_from}
 use Rattle.cell_lower.proofs.lowerer.Lowerer.+block.Goals as goal
 

@@ -1,10 +1,10 @@
 use Rattle.std.proofs.Common.{◌≡◌, ◌+◌, not, drop}
 use Rattle.fip_trees.specs.declared.program.Block.{out-Block}
 use Rattle.fip_trees.specs.TreeView as V
-use Rattle.cell_lower.specs.Writing.{setting, target_of}
-use Rattle.cell_lower.proofs.Blocks.{Follows, rest_of}
-use Rattle.cell_lower.proofs.Clauses.{FollowsClauses}
-use Rattle.cell_lower.proofs.Following.{FollowsLaid, Walks, FollowClauses, WalksClauses}
+use Rattle.lower_parts.specs.Writing.{setting, target_of}
+use Rattle.lower_parts.proofs.Blocks.{Follows, rest_of}
+use Rattle.lower_parts.proofs.Clauses.{FollowsClauses}
+use Rattle.lower_parts.proofs.Following.{FollowsLaid, Walks, FollowClauses, WalksClauses}
 use Rattle.cell_lower.proofs.lowerer.Lowerer.+block.Given as goal
 
 abbrev pub invariant-block-loop-binding : goal.invariant-block-loop-binding

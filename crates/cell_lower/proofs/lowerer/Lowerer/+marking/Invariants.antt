@@ -1,6 +1,6 @@
 use Rattle.std.proofs.Common.{◌≡◌, drop}
 use Rattle.fip_trees.specs.TreeView.{arguments}
-use Rattle.cell_lower.specs.Marks.{marking_all}
+use Rattle.lower_parts.specs.Marks.{marking_all}
 use Rattle.cell_lower.proofs.lowerer.Lowerer.+marking.Given as goal
 
 abbrev pub invariant-mark_all-loop-argument : goal.invariant-mark_all-loop-argument

@@ -1,11 +1,11 @@
 use Rattle.std.proofs.Common.{rules, subst, sym, ap, ◌∙◌, ◌+◌, arith}
 use Rattle.fip_trees.specs.TreeView.{pattern}
-use Rattle.lower_frame.specs.lowering_relation.Spots as S
-use Rattle.lower_frame.specs.lowering_relation.Opening.{names_any, naming}
-use Rattle.lower_frame.specs.lowering_relation.Reading.{read_one}
-use Rattle.lower_frame.specs.Positions.{spot_of}
-use Rattle.cell_lower.specs.Scenes.{AtSpot, naming_part, reading_of}
-use Rattle.cell_lower.proofs.Folding.{read_next, item, if_true, if_false, field_there, read_is}
+use Rattle.lower_parts.specs.lowering_relation.Spots as S
+use Rattle.lower_parts.specs.lowering_relation.Opening.{names_any, naming}
+use Rattle.lower_parts.specs.lowering_relation.Reading.{read_one}
+use Rattle.lower_parts.specs.lower_frame.Positions.{spot_of}
+use Rattle.lower_parts.specs.Scenes.{AtSpot, naming_part, reading_of}
+use Rattle.lower_parts.proofs.Folding.{read_next, item, if_true, if_false, field_there, read_is}
 use Rattle.cell_lower.proofs.lowerer.Lowerer.+naming.Goals as goal
 
 pub read_field-returns-then-not-names_any-clause-reads : goal.read_field-returns-then-not-names_any-clause-reads

@@ -1,9 +1,9 @@
 use Rattle.std.proofs.Common.{◌≡◌, drop}
 use Rattle.fip_trees.specs.TreeView.{patterns}
-use Rattle.lower_frame.specs.lowering_relation.Spots as S
-use Rattle.lower_frame.specs.lowering_relation.Opening.{naming_all}
-use Rattle.lower_frame.specs.Positions.{spot_of, past}
-use Rattle.cell_lower.specs.Scenes.{reading_of}
+use Rattle.lower_parts.specs.lowering_relation.Spots as S
+use Rattle.lower_parts.specs.lowering_relation.Opening.{naming_all}
+use Rattle.lower_parts.specs.lower_frame.Positions.{spot_of, past}
+use Rattle.lower_parts.specs.Scenes.{reading_of}
 use Rattle.cell_lower.proofs.lowerer.Lowerer.+naming.Given as goal
 
 abbrev pub invariant-read_fields-loop-part : goal.invariant-read_fields-loop-part

@@ -1,7 +1,7 @@
 use Rattle.std.proofs.Common.{rules, arith, ◌∙◌, ◌+◌}
-use Rattle.lower_frame.specs.Positions.{spot_of, spots_of}
-use Rattle.cell_lower.specs.Writing.{setting}
-use Rattle.cell_lower.proofs.Folding.{entered_next, item, spot_there}
+use Rattle.lower_parts.specs.lower_frame.Positions.{spot_of, spots_of}
+use Rattle.lower_parts.specs.Writing.{setting}
+use Rattle.lower_parts.proofs.Folding.{entered_next, item, spot_there}
 use Rattle.cell_lower.proofs.lowerer.Lowerer.+opening.Goals as goal
 
 pub open_all-loop-part-preserved : goal.open_all-loop-part-preserved

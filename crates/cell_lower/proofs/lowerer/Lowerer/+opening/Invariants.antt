@@ -1,8 +1,8 @@
 use Rattle.std.proofs.Common.{◌≡◌, drop}
 use Rattle.fip_trees.specs.TreeView.{patterns}
-use Rattle.lower_frame.specs.lowering_relation.Entering.{entering_all}
-use Rattle.lower_frame.specs.Positions.{spots_of, past}
-use Rattle.cell_lower.specs.Writing.{setting}
+use Rattle.lower_parts.specs.lowering_relation.Entering.{entering_all}
+use Rattle.lower_parts.specs.lower_frame.Positions.{spots_of, past}
+use Rattle.lower_parts.specs.Writing.{setting}
 use Rattle.cell_lower.proofs.lowerer.Lowerer.+opening.Given as goal
 
 abbrev pub invariant-open_all-loop-part : goal.invariant-open_all-loop-part

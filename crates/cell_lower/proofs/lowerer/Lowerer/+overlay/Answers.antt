@@ -3,13 +3,13 @@ use Rattle.std.specs.declared.vec.Vec.{Vec}
 use Rattle.std.specs.declared.alloc.Global.{Global}
 use Rattle.cell_code.specs.declared.kind.Kind.{Kind}
 use Rattle.match_knowledge.specs.View.{known, knowns}
-use Rattle.lower_frame.specs.lowering_relation.Spots as S
-use Rattle.lower_frame.specs.lowering_relation.Reading.{contains}
-use Rattle.lower_frame.specs.Positions.{spot_of, spot_at, past}
-use Rattle.cell_lower.specs.Overlays.{overlaid_all, field_overlaid, part_reported}
-use Rattle.cell_lower.specs.Writing.{setting}
-use Rattle.cell_lower.proofs.Folding.{item, field_there, register_is}
-use Rattle.cell_lower.proofs.Overlaying.{missing, overlay_skips, overlay_next, field_missing, field_none, field_skipped, field_reported}
+use Rattle.lower_parts.specs.lowering_relation.Spots as S
+use Rattle.lower_parts.specs.lowering_relation.Reading.{contains}
+use Rattle.lower_parts.specs.lower_frame.Positions.{spot_of, spot_at, past}
+use Rattle.lower_parts.specs.Overlays.{overlaid_all, field_overlaid, part_reported}
+use Rattle.lower_parts.specs.Writing.{setting}
+use Rattle.lower_parts.proofs.Folding.{item, field_there, register_is}
+use Rattle.lower_parts.proofs.Overlaying.{missing, overlay_skips, overlay_next, field_missing, field_none, field_skipped, field_reported}
 use Rattle.cell_lower.proofs.lowerer.Lowerer.+overlay.Goals as goal
 use Rattle.cell_lower.proofs.lowerer.Lowerer.+overlay.Goals.{overlay_all-in-None, overlay_all-in-Some+in_ok-overlay_field-in-Some}
 

@@ -1,9 +1,9 @@
 use Rattle.std.proofs.Common.{◌≡◌, drop}
 use Rattle.match_knowledge.specs.View.{knowns}
-use Rattle.lower_frame.specs.lowering_relation.Spots as S
-use Rattle.lower_frame.specs.Positions.{spot_of, past}
-use Rattle.cell_lower.specs.Overlays.{overlaid_all}
-use Rattle.cell_lower.specs.Writing.{setting}
+use Rattle.lower_parts.specs.lowering_relation.Spots as S
+use Rattle.lower_parts.specs.lower_frame.Positions.{spot_of, past}
+use Rattle.lower_parts.specs.Overlays.{overlaid_all}
+use Rattle.lower_parts.specs.Writing.{setting}
 use Rattle.cell_lower.proofs.lowerer.Lowerer.+overlay.Given as goal
 
 abbrev pub invariant-overlay_all-loop-part : goal.invariant-overlay_all-loop-part

@@ -1,10 +1,10 @@
 use Rattle.std.proofs.Common.{◌≡◌, subst, sym, ap, ◌∙◌, Some, slice_get}
 use Rattle.match_knowledge.specs.View.{row, known, parts, knowns}
 use Rattle.match_knowledge.specs.Patterns as M
-use Rattle.lower_frame.specs.lowering_relation.Reading.{asked, reading}
-use Rattle.lower_frame.specs.Positions.{spot_of}
-use Rattle.cell_lower.specs.Scenes.{asked_of, asking, reading_of}
-use Rattle.cell_lower.proofs.Folding.{asked_in, reading_in, field_there, read_is, row_test, known_is}
+use Rattle.lower_parts.specs.lowering_relation.Reading.{asked, reading}
+use Rattle.lower_parts.specs.lower_frame.Positions.{spot_of}
+use Rattle.lower_parts.specs.Scenes.{asked_of, asking, reading_of}
+use Rattle.lower_parts.proofs.Folding.{asked_in, reading_in, field_there, read_is, row_test, known_is}
 use Rattle.cell_lower.proofs.lowerer.Lowerer.+read_asked.Goals as goal
 
 pub returns-in_ok-asked-in-Is-clause-asks : goal.returns-in_ok-asked-in-Is-clause-asks

@@ -1,6 +1,6 @@
 use Rattle.std.proofs.Common.{rules, arith, ◌∙◌, ◌+◌}
-use Rattle.lower_frame.specs.Positions.{spot_of, spots_of}
-use Rattle.cell_lower.proofs.Folding.{taken_next, item, spot_there}
+use Rattle.lower_parts.specs.lower_frame.Positions.{spot_of, spots_of}
+use Rattle.lower_parts.proofs.Folding.{taken_next, item, spot_there}
 use Rattle.cell_lower.proofs.lowerer.Lowerer.+taking.Goals as goal
 
 pub take_all-loop-part-preserved : goal.take_all-loop-part-preserved

@@ -1,7 +1,7 @@
 use Rattle.std.proofs.Common.{◌≡◌, drop}
 use Rattle.fip_trees.specs.TreeView.{patterns}
-use Rattle.lower_frame.specs.lowering_relation.Opening.{taking_all}
-use Rattle.lower_frame.specs.Positions.{spots_of, past}
+use Rattle.lower_parts.specs.lowering_relation.Opening.{taking_all}
+use Rattle.lower_parts.specs.lower_frame.Positions.{spots_of, past}
 use Rattle.cell_lower.proofs.lowerer.Lowerer.+taking.Given as goal
 
 abbrev pub invariant-take_all-loop-part : goal.invariant-take_all-loop-part

@@ -1,9 +1,9 @@
 use Rattle.std.proofs.Common.{◌≡◌, drop}
 use Rattle.fip_trees.specs.TreeView.{clauses, expression}
 use Rattle.fip_trees.specs.declared.program.Block.{out-Block}
-use Rattle.cell_lower.specs.Marks.{marking_block, marking_clauses}
-use Rattle.cell_lower.specs.Writing.{setting}
-use Rattle.cell_lower.proofs.Blocks.{rest_of}
+use Rattle.lower_parts.specs.Marks.{marking_block, marking_clauses}
+use Rattle.lower_parts.specs.Writing.{setting}
+use Rattle.lower_parts.proofs.Blocks.{rest_of}
 use Rattle.cell_lower.proofs.lowerer.Lowerer.+used.Given as goal
 
 abbrev pub invariant-mark_block-loop-binding : goal.invariant-mark_block-loop-binding

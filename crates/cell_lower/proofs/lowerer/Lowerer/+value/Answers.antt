@@ -1,13 +1,13 @@
 use Rattle.std.proofs.Common.{rules, ◌≡◌, subst, sym, ap, ◌∙◌, ◌+◌, arith, to_z, of_z, w64}
 use Rattle.cell_code.specs.declared.code.Instr.TheVariants as I
-use Rattle.lower_frame.specs.lowering_relation.Written.{added}
+use Rattle.lower_parts.specs.lowering_relation.Written.{added}
 use Rattle.fip_trees.proofs.TreeViews.{argument_constructor}
 use Rattle.std.specs.Borrow.{Bor}
-use Rattle.cell_lower.specs.declared.lowerer.Context.{Context}
-use Rattle.cell_lower.specs.Writing.{setting, Computes, ComputesAll, Builds}
+use Rattle.lower_parts.specs.declared.context.Context.{Context}
+use Rattle.lower_parts.specs.Writing.{setting, Computes, ComputesAll, Builds}
 use Rattle.fip_trees.specs.TreeView.{argument, arguments}
-use Rattle.lower_frame.proofs.Frames.{item}
-use Rattle.cell_lower.proofs.Writing.{argument_literal, computes_literal, computes_constructor, follow_to}
+use Rattle.lower_parts.proofs.lower_frame.Frames.{item}
+use Rattle.lower_parts.proofs.Writing.{argument_literal, computes_literal, computes_constructor, follow_to}
 use Rattle.cell_lower.proofs.lowerer.Lowerer.+value.Goals as goal
 
 pub value-returns-in_ok-register-in-Literal-clause-computes : goal.value-returns-in_ok-register-in-Literal-clause-computes

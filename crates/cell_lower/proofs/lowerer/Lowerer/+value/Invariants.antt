@@ -1,6 +1,6 @@
 use Rattle.std.proofs.Common.{◌≡◌, drop}
 use Rattle.fip_trees.specs.TreeView.{arguments}
-use Rattle.cell_lower.specs.Writing.{setting, Follow}
+use Rattle.lower_parts.specs.Writing.{setting, Follow}
 use Rattle.cell_lower.proofs.lowerer.Lowerer.+value.Given as goal
 
 abbrev pub invariant-values-loop-argument : goal.invariant-values-loop-argument

@@ -1,7 +1,7 @@
 use Rattle.std.proofs.Common.{subst, arith}
 use Rattle.match_knowledge.specs.View.{rows, known}
-use Rattle.cell_lower.specs.Scenes.{sides_of, reading_of, IsFirstOf}
-use Rattle.cell_lower.proofs.Choosing.{advances_asks, advances_chosen, chosen_at, chosen_there, asks_fewer, settles_longer}
+use Rattle.lower_parts.specs.Scenes.{sides_of, reading_of, IsFirstOf}
+use Rattle.lower_parts.proofs.Choosing.{advances_asks, advances_chosen, chosen_at, chosen_there, asks_fewer, settles_longer}
 use Rattle.cell_lower.proofs.lowerer.Lowerer.advance.Goals as goal
 
 pub returns-in_ok-settle-in-Chosen-clause-advances : goal.returns-in_ok-settle-in-Chosen-clause-advances

@@ -1,12 +1,12 @@
 use Rattle.std.proofs.Common.{subst}
 use Rattle.std.specs.Borrow.{Bor}
-use Rattle.cell_lower.specs.declared.lowerer.Context.{Context}
-use Rattle.cell_lower.specs.Writing.{setting, target_of, CallsAt}
+use Rattle.lower_parts.specs.declared.context.Context.{Context}
+use Rattle.lower_parts.specs.Writing.{setting, target_of, CallsAt}
 use Rattle.fip_trees.specs.TreeView.{arguments}
-use Rattle.cell_lower.proofs.Blocks.{applies_to}
+use Rattle.lower_parts.proofs.Blocks.{applies_to}
 use Rattle.std.proofs.Common.{not}
-use Rattle.cell_lower.specs.Laying.{CallsLaid}
-use Rattle.cell_lower.proofs.Parted.{applies_laid}
+use Rattle.lower_parts.specs.Laying.{CallsLaid}
+use Rattle.lower_parts.proofs.Parted.{applies_laid}
 use Rattle.cell_lower.proofs.lowerer.Lowerer.apply.Goals as goal
 
 pub returns-clause-applies : goal.returns-clause-applies

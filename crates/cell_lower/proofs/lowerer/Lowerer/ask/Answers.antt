@@ -1,8 +1,8 @@
 use Rattle.std.proofs.Common.{sym, ◌∙◌}
 use Rattle.match_knowledge.specs.View.{row, known}
-use Rattle.lower_frame.specs.Positions.{spot_of}
-use Rattle.cell_lower.specs.Scenes.{reading_of, side_of, sides_of}
-use Rattle.cell_lower.proofs.Choosing.{asks_last, asks_test, sides_pushed, tests_longer}
+use Rattle.lower_parts.specs.lower_frame.Positions.{spot_of}
+use Rattle.lower_parts.specs.Scenes.{reading_of, side_of, sides_of}
+use Rattle.lower_parts.proofs.Choosing.{asks_last, asks_test, sides_pushed, tests_longer}
 use Rattle.cell_lower.proofs.lowerer.Lowerer.ask.Goals as goal
 
 pub returns-then-is_last-clause-asks : goal.returns-then-is_last-clause-asks

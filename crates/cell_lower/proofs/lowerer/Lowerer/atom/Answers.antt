@@ -1,11 +1,11 @@
 use Rattle.std.proofs.Common.{refl, ◌≡◌, sym, ap, ◌∙◌, subst}
 use Rattle.cell_code.specs.declared.code.Instr.TheVariants as I
-use Rattle.lower_frame.specs.lowering_relation.Known.{Known, holding, with_next, with_used}
-use Rattle.lower_frame.specs.lowering_relation.Values.{built}
-use Rattle.lower_frame.specs.lowering_relation.Written.{added}
-use Rattle.lower_frame.specs.Registers.{HasRoom}
-use Rattle.cell_lower.specs.Writing.{setting}
-use Rattle.cell_lower.proofs.Writing.{builds_atom, builds_reused}
+use Rattle.lower_parts.specs.lowering_relation.Known.{Known, holding, with_next, with_used}
+use Rattle.lower_parts.specs.lowering_relation.Values.{built}
+use Rattle.lower_parts.specs.lowering_relation.Written.{added}
+use Rattle.lower_parts.specs.lower_frame.Registers.{HasRoom}
+use Rattle.lower_parts.specs.Writing.{setting}
+use Rattle.lower_parts.proofs.Writing.{builds_atom, builds_reused}
 use Rattle.cell_lower.proofs.lowerer.Lowerer.atom.Goals as goal
 
 pub returns-in_ok-add-in-None-clause-builds : goal.returns-in_ok-add-in-None-clause-builds

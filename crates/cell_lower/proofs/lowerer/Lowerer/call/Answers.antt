@@ -1,14 +1,14 @@
 use Rattle.std.proofs.Common.{subst, ap, ◌∙◌}
 use Rattle.std.specs.Borrow.{Bor}
 use Rattle.fip_trees.specs.TreeView.{instance_of}
-use Rattle.lower_frame.specs.lowering_relation.Known.{using}
-use Rattle.lower_frame.specs.lowering_relation.LoweredBodies.{handed}
-use Rattle.cell_lower.specs.declared.lowerer.Context.{Context}
-use Rattle.cell_lower.specs.Writing.{setting, target_of, TakesAll, EndsCall}
-use Rattle.cell_lower.proofs.Calling.{calls_at}
+use Rattle.lower_parts.specs.lowering_relation.Known.{using}
+use Rattle.lower_parts.specs.lowering_relation.LoweredBodies.{handed}
+use Rattle.lower_parts.specs.declared.context.Context.{Context}
+use Rattle.lower_parts.specs.Writing.{setting, target_of, TakesAll, EndsCall}
+use Rattle.lower_parts.proofs.Calling.{calls_at}
 use Rattle.std.proofs.Common.{not}
-use Rattle.cell_lower.specs.Laying.{EndsLaid}
-use Rattle.cell_lower.proofs.Laying.{calls_laid}
+use Rattle.lower_parts.specs.Laying.{EndsLaid}
+use Rattle.lower_parts.proofs.Laying.{calls_laid}
 use Rattle.cell_lower.proofs.lowerer.Lowerer.call.Goals as goal
 
 pub returns-clause-calls : goal.returns-clause-calls

@@ -1,13 +1,13 @@
 use Rattle.std.proofs.Common.{refl, sym, ap, subst, ◌∙◌, ◌+◌, ◌++◌, [], ◌∷◌, arith}
 use Rattle.fip_trees.specs.TreeView.{Case, clause, clauses}
 use Rattle.fip_trees.proofs.TreeViews.{clause_is}
-use Rattle.lower_frame.proofs.lowering_relation.Placing.{extends_on}
-use Rattle.lower_frame.proofs.lowering_relation.Choices.{patterns_in}
-use Rattle.cell_lower.specs.Clauses.{AddsPattern}
-use Rattle.cell_lower.proofs.Folding.{item}
-use Rattle.lower_frame.proofs.Growing.{reached_on, room_on}
-use Rattle.cell_lower.proofs.Beginning.{positions_new, positions_on, patterns_next, labels_first, labels_next}
-use Rattle.cell_lower.proofs.Matched.{entries_first, entries_next}
+use Rattle.lower_parts.proofs.lowering_relation.Placing.{extends_on}
+use Rattle.lower_parts.proofs.lowering_relation.Choices.{patterns_in}
+use Rattle.lower_parts.specs.Clauses.{AddsPattern}
+use Rattle.lower_parts.proofs.Folding.{item}
+use Rattle.lower_parts.proofs.lower_frame.Growing.{reached_on, room_on}
+use Rattle.lower_parts.proofs.Beginning.{positions_new, positions_on, patterns_next, labels_first, labels_next}
+use Rattle.lower_parts.proofs.Matched.{entries_first, entries_next}
 use Rattle.cell_lower.proofs.lowerer.Lowerer.choice_of.Goals as goal
 
 pub loop-clause-init : goal.loop-clause-init

@@ -1,14 +1,14 @@
 use Rattle.std.proofs.Common.{◌≡◌, drop, ◌+◌, ◌++◌, ◌∷◌, ◌&&◌, not, length}
 use Rattle.fip_trees.specs.TreeView as V
-use Rattle.lower_frame.specs.lowering_relation.Written.{Extends, size}
-use Rattle.lower_frame.proofs.lowering_relation.Choices.{patterns_in}
-use Rattle.lower_frame.specs.Registers.{HasRoom}
-use Rattle.lower_frame.specs.Labels.{labels}
-use Rattle.lower_frame.specs.Positions.{reaching}
-use Rattle.cell_lower.specs.Scenes.{patterns_of}
-use Rattle.cell_lower.specs.Clauses.{HasPositions}
-use Rattle.lower_frame.specs.lowering_relation.Values.{is_scalar}
-use Rattle.cell_lower.specs.Writing.{setting}
+use Rattle.lower_parts.specs.lowering_relation.Written.{Extends, size}
+use Rattle.lower_parts.proofs.lowering_relation.Choices.{patterns_in}
+use Rattle.lower_parts.specs.lower_frame.Registers.{HasRoom}
+use Rattle.lower_parts.specs.lower_frame.Labels.{labels}
+use Rattle.lower_parts.specs.lower_frame.Positions.{reaching}
+use Rattle.lower_parts.specs.Scenes.{patterns_of}
+use Rattle.lower_parts.specs.Clauses.{HasPositions}
+use Rattle.lower_parts.specs.lowering_relation.Values.{is_scalar}
+use Rattle.lower_parts.specs.Writing.{setting}
 use Rattle.cell_lower.proofs.lowerer.Lowerer.choice_of.Given as goal
 
 abbrev pub invariant-loop-clause : goal.invariant-loop-clause

@@ -1,12 +1,12 @@
 use Rattle.std.proofs.Common.{refl, subst, ◌∙◌, arith}
 use Rattle.std.specs.Borrow.{Bor}
-use Rattle.cell_lower.specs.declared.lowerer.Context.{Context}
-use Rattle.cell_lower.specs.Scenes.{sides_of, ChoosesIf}
-use Rattle.lower_frame.specs.lowering_relation.Known.{Known}
-use Rattle.cell_lower.specs.Chosen.{ChoosesLaid}
-use Rattle.cell_lower.specs.Writing.{setting}
-use Rattle.cell_lower.proofs.Sided.{laid_start, laid_next, laid_end}
-use Rattle.cell_lower.proofs.Choosing.{turns_start, turns_next, turns_end}
+use Rattle.lower_parts.specs.declared.context.Context.{Context}
+use Rattle.lower_parts.specs.Scenes.{sides_of, ChoosesIf}
+use Rattle.lower_parts.specs.lowering_relation.Known.{Known}
+use Rattle.lower_parts.specs.Chosen.{ChoosesLaid}
+use Rattle.lower_parts.specs.Writing.{setting}
+use Rattle.lower_parts.proofs.Sided.{laid_start, laid_next, laid_end}
+use Rattle.lower_parts.proofs.Choosing.{turns_start, turns_next, turns_end}
 use Rattle.cell_lower.proofs.lowerer.Lowerer.choose.Goals as goal
 
 pub turns-init : goal.turns-init

@@ -1,9 +1,9 @@
 use Rattle.std.proofs.Common.{◌≡◌, ◌-◌}
-use Rattle.lower_frame.specs.lowering_relation.Written.{size}
-use Rattle.cell_lower.specs.Scenes.{sides_of}
-use Rattle.cell_lower.specs.Writing.{setting}
-use Rattle.cell_lower.proofs.Choosing.{Turns}
-use Rattle.cell_lower.proofs.Sided.{TurnsLaid}
+use Rattle.lower_parts.specs.lowering_relation.Written.{size}
+use Rattle.lower_parts.specs.Scenes.{sides_of}
+use Rattle.lower_parts.specs.Writing.{setting}
+use Rattle.lower_parts.proofs.Choosing.{Turns}
+use Rattle.lower_parts.proofs.Sided.{TurnsLaid}
 use Rattle.cell_lower.proofs.lowerer.Lowerer.choose.Given as goal
 
 abbrev pub invariant-turns : goal.invariant-turns

@@ -1,12 +1,12 @@
 use Rattle.std.proofs.Common.{refl, subst, ◌++◌, ◌∷◌, []}
 use Rattle.match_knowledge.specs.View.{known, rows}
-use Rattle.lower_frame.specs.Positions.{spot_of}
-use Rattle.cell_lower.specs.Overlays.{failed_reported}
-use Rattle.cell_lower.specs.Scenes.{side_of, sides_of, Follows}
-use Rattle.cell_lower.specs.Writing.{setting}
-use Rattle.cell_lower.specs.Testing.{AreMissed}
-use Rattle.cell_lower.proofs.Choosing.{chooses_here, chooses_on}
-use Rattle.cell_lower.proofs.Sided.{here_laid, on_laid}
+use Rattle.lower_parts.specs.lower_frame.Positions.{spot_of}
+use Rattle.lower_parts.specs.Overlays.{failed_reported}
+use Rattle.lower_parts.specs.Scenes.{side_of, sides_of, Follows}
+use Rattle.lower_parts.specs.Writing.{setting}
+use Rattle.lower_parts.specs.Testing.{AreMissed}
+use Rattle.lower_parts.proofs.Choosing.{chooses_here, chooses_on}
+use Rattle.lower_parts.proofs.Sided.{here_laid, on_laid}
 use Rattle.cell_lower.proofs.lowerer.Lowerer.choose_from.Goals as goal
 
 pub returns-then-is_written-clause-turn : goal.returns-then-is_written-clause-turn

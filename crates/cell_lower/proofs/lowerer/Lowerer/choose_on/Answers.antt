@@ -1,11 +1,11 @@
 use Rattle.std.proofs.Common.{sym, subst}
 use Rattle.match_knowledge.specs.View.{rows}
-use Rattle.cell_lower.specs.Chosen.{ChoosesLaid}
-use Rattle.cell_lower.specs.Scenes.{sides_of, ChoosesIf, NotFirst}
-use Rattle.cell_lower.specs.Testing.{AreMissed}
-use Rattle.cell_lower.specs.Writing.{setting}
-use Rattle.cell_lower.proofs.Sided.{none_laid}
-use Rattle.cell_lower.proofs.Choosing.{chooses_none, sides_pushed}
+use Rattle.lower_parts.specs.Chosen.{ChoosesLaid}
+use Rattle.lower_parts.specs.Scenes.{sides_of, ChoosesIf, NotFirst}
+use Rattle.lower_parts.specs.Testing.{AreMissed}
+use Rattle.lower_parts.specs.Writing.{setting}
+use Rattle.lower_parts.proofs.Sided.{none_laid}
+use Rattle.lower_parts.proofs.Choosing.{chooses_none, sides_pushed}
 use Rattle.cell_lower.proofs.lowerer.Lowerer.choose_on.Goals as goal
 
 pub returns-then-is_written-clause-turn : goal.returns-then-is_written-clause-turn

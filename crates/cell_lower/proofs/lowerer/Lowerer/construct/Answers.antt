@@ -1,12 +1,12 @@
 use Rattle.std.proofs.Common.{rules, ◌≡◌, ap, ◌∙◌, arith, length, Some}
 use Rattle.cell_code.specs.declared.code.Instr.TheVariants as I
-use Rattle.lower_frame.specs.lowering_relation.declared.held.Held.TheVariants as H
-use Rattle.lower_frame.specs.lowering_relation.Known.{holding}
-use Rattle.lower_frame.specs.lowering_relation.Written.{added}
-use Rattle.lower_frame.specs.Frames.{Takes}
-use Rattle.cell_lower.specs.Writing.{setting}
-use Rattle.cell_lower.proofs.Folding.{nonempty}
-use Rattle.cell_lower.proofs.Writing.{builds_fields}
+use Rattle.lower_parts.specs.lowering_relation.declared.held.Held.TheVariants as H
+use Rattle.lower_parts.specs.lowering_relation.Known.{holding}
+use Rattle.lower_parts.specs.lowering_relation.Written.{added}
+use Rattle.lower_parts.specs.lower_frame.Frames.{Takes}
+use Rattle.lower_parts.specs.Writing.{setting}
+use Rattle.lower_parts.proofs.Folding.{nonempty}
+use Rattle.lower_parts.proofs.Writing.{builds_fields}
 use Rattle.cell_lower.proofs.lowerer.Lowerer.construct.Goals as goal
 
 pub returns-clause-builds : goal.returns-clause-builds

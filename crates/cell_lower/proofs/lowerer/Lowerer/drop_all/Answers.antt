@@ -1,9 +1,9 @@
 use Rattle.std.proofs.Common.{◌∙◌}
-use Rattle.lower_frame.proofs.lowering_relation.Placing.{gives_up_on}
-use Rattle.lower_frame.proofs.Losing.{loses_on}
-use Rattle.cell_lower.proofs.Shedding.{sheds_on}
-use Rattle.cell_lower.proofs.Laying.{laid_on}
-use Rattle.lower_frame.proofs.Accounts.{no_trees_next}
+use Rattle.lower_parts.proofs.lowering_relation.Placing.{gives_up_on}
+use Rattle.lower_parts.proofs.lower_frame.Losing.{loses_on}
+use Rattle.lower_parts.proofs.Shedding.{sheds_on}
+use Rattle.lower_parts.proofs.Laying.{laid_on}
+use Rattle.lower_parts.proofs.lower_frame.Accounts.{no_trees_next}
 use Rattle.std.proofs.Common.{false, ◌+◌, arith}
 use Rattle.cell_lower.proofs.lowerer.Lowerer.drop_all.Goals as goal
 

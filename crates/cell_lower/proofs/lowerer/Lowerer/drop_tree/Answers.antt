@@ -1,10 +1,10 @@
 use Rattle.std.proofs.Common.{sym, ap, ◌∙◌}
-use Rattle.lower_frame.specs.lowering_relation.Known.{Known}
-use Rattle.lower_frame.proofs.Accounts.{tree_gone}
-use Rattle.lower_frame.proofs.Losing.{loses_used}
-use Rattle.cell_lower.proofs.Laying.{laid_drop}
-use Rattle.cell_lower.proofs.Leaving.{drops_used}
-use Rattle.cell_lower.proofs.Shedding.{sheds_drop}
+use Rattle.lower_parts.specs.lowering_relation.Known.{Known}
+use Rattle.lower_parts.proofs.lower_frame.Accounts.{tree_gone}
+use Rattle.lower_parts.proofs.lower_frame.Losing.{loses_used}
+use Rattle.lower_parts.proofs.Laying.{laid_drop}
+use Rattle.lower_parts.proofs.Leaving.{drops_used}
+use Rattle.lower_parts.proofs.Shedding.{sheds_drop}
 use Rattle.cell_lower.proofs.lowerer.Lowerer.drop_tree.Goals as goal
 
 pub returns-clause-loses : goal.returns-clause-loses

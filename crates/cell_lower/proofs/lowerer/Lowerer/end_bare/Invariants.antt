@@ -1,9 +1,9 @@
 use Rattle.std.proofs.Common.{◌≡◌}
-use Rattle.lower_frame.specs.lowering_relation.Losing.{Loses}
-use Rattle.lower_frame.specs.lowering_relation.Written.{GivesUp}
-use Rattle.cell_lower.specs.Growth.{Sheds}
-use Rattle.lower_frame.specs.Credits.{NoBares}
-use Rattle.cell_lower.specs.Laying.{GivesUpLaid}
+use Rattle.lower_parts.specs.lowering_relation.Losing.{Loses}
+use Rattle.lower_parts.specs.lowering_relation.Written.{GivesUp}
+use Rattle.lower_parts.specs.Growth.{Sheds}
+use Rattle.lower_parts.specs.lower_frame.Credits.{NoBares}
+use Rattle.lower_parts.specs.Laying.{GivesUpLaid}
 use Rattle.std.proofs.Common.{true}
 use Rattle.cell_lower.proofs.lowerer.Lowerer.end_bare.Given as goal
 

@@ -1,13 +1,13 @@
 use Rattle.std.proofs.Common.{rules, ◌≡◌, subst, sym, ap, ◌∙◌}
 use Rattle.cell_code.specs.declared.code.Instr.TheVariants as I
-use Rattle.lower_frame.specs.lowering_relation.Known.{using}
-use Rattle.lower_frame.specs.lowering_relation.LoweredBodies.{received}
-use Rattle.lower_frame.specs.lowering_relation.Written.{added}
-use Rattle.cell_lower.specs.Writing.{setting, target_of, EndsCall}
-use Rattle.cell_lower.proofs.Calling.{ends_tail, ends_call}
+use Rattle.lower_parts.specs.lowering_relation.Known.{using}
+use Rattle.lower_parts.specs.lowering_relation.LoweredBodies.{received}
+use Rattle.lower_parts.specs.lowering_relation.Written.{added}
+use Rattle.lower_parts.specs.Writing.{setting, target_of, EndsCall}
+use Rattle.lower_parts.proofs.Calling.{ends_tail, ends_call}
 use Rattle.std.proofs.Common.{not}
-use Rattle.cell_lower.specs.Laying.{AllGone, EndsLaid, GivesUpLaid}
-use Rattle.cell_lower.proofs.Laying.{ends_laid_tail, ends_laid_call}
+use Rattle.lower_parts.specs.Laying.{AllGone, EndsLaid, GivesUpLaid}
+use Rattle.lower_parts.proofs.Laying.{ends_laid_tail, ends_laid_call}
 use Rattle.cell_lower.proofs.lowerer.Lowerer.end_call.Goals as goal
 
 pub returns-in_ok-add-in-Return-clause-ends : goal.returns-in_ok-add-in-Return-clause-ends

@@ -1,9 +1,9 @@
 use Rattle.std.proofs.Common.{refl, subst, sym, ap, length}
-use Rattle.cell_lower.specs.Clauses.{EndsMatch}
-use Rattle.cell_lower.proofs.Clauses.{meets_at}
-use Rattle.cell_lower.specs.Matches.{EndsMatchLaid}
-use Rattle.cell_lower.specs.Writing.{setting}
-use Rattle.cell_lower.proofs.Matched.{meets_laid}
+use Rattle.lower_parts.specs.Clauses.{EndsMatch}
+use Rattle.lower_parts.proofs.Clauses.{meets_at}
+use Rattle.lower_parts.specs.Matches.{EndsMatchLaid}
+use Rattle.lower_parts.specs.Writing.{setting}
+use Rattle.lower_parts.proofs.Matched.{meets_laid}
 use Rattle.cell_lower.proofs.lowerer.Lowerer.end_match.Goals as goal
 
 pub returns-clause-ends : goal.returns-clause-ends

@@ -1,10 +1,10 @@
 use Rattle.std.proofs.Common.{sym, ap, ◌∙◌}
 use Rattle.cell_code.specs.declared.code.Instr.TheVariants as I
-use Rattle.lower_frame.specs.lowering_relation.Written.{added}
-use Rattle.cell_lower.proofs.Shedding.{sheds_take}
-use Rattle.lower_frame.specs.lowering_relation.Known.{Known}
-use Rattle.lower_frame.proofs.Accounts.{bare_gone}
-use Rattle.cell_lower.proofs.Laying.{laid_take}
+use Rattle.lower_parts.specs.lowering_relation.Written.{added}
+use Rattle.lower_parts.proofs.Shedding.{sheds_take}
+use Rattle.lower_parts.specs.lowering_relation.Known.{Known}
+use Rattle.lower_parts.proofs.lower_frame.Accounts.{bare_gone}
+use Rattle.lower_parts.proofs.Laying.{laid_take}
 use Rattle.cell_lower.proofs.lowerer.Lowerer.end_one.Goals as goal
 
 pub returns-in_ok-add-clause-sheds : goal.returns-in_ok-add-clause-sheds

@@ -1,12 +1,12 @@
 use Rattle.std.proofs.Common.{subst, refl, ◌∙◌, arith}
 use Rattle.std.specs.Borrow.{Bor}
 use Rattle.match_knowledge.specs.View.{known}
-use Rattle.cell_lower.specs.declared.lowerer.Context.{Context}
-use Rattle.lower_frame.specs.Positions.{spot_of}
-use Rattle.cell_lower.specs.Overlays.{failed_reported}
-use Rattle.cell_lower.specs.Scenes.{side_of, sides_of, Advances, PlacesSide}
-use Rattle.cell_lower.specs.Writing.{setting}
-use Rattle.cell_lower.proofs.Choosing.{Goes, goes_next, follows_to, places_long}
+use Rattle.lower_parts.specs.declared.context.Context.{Context}
+use Rattle.lower_parts.specs.lower_frame.Positions.{spot_of}
+use Rattle.lower_parts.specs.Overlays.{failed_reported}
+use Rattle.lower_parts.specs.Scenes.{side_of, sides_of, Advances, PlacesSide}
+use Rattle.lower_parts.specs.Writing.{setting}
+use Rattle.lower_parts.proofs.Choosing.{Goes, goes_next, follows_to, places_long}
 use Rattle.cell_lower.proofs.lowerer.Lowerer.follow.Goals as goal
 
 pub returns-in-Some-clause-follows : goal.returns-in-Some-clause-follows

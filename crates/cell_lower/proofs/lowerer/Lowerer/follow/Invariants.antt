@@ -1,9 +1,9 @@
 use Rattle.std.proofs.Common.{◌≡◌, ◌≤◌}
 use Rattle.match_knowledge.specs.Known.{row_tests}
 use Rattle.match_knowledge.specs.View.{known, rows}
-use Rattle.lower_frame.specs.lowering_relation.Written.{size}
-use Rattle.cell_lower.specs.Scenes.{sides_of}
-use Rattle.cell_lower.proofs.Choosing.{Goes}
+use Rattle.lower_parts.specs.lowering_relation.Written.{size}
+use Rattle.lower_parts.specs.Scenes.{sides_of}
+use Rattle.lower_parts.proofs.Choosing.{Goes}
 use Rattle.cell_lower.proofs.lowerer.Lowerer.follow.Given as goal
 
 abbrev pub invariant-steps : goal.invariant-steps

@@ -1,8 +1,8 @@
 use Rattle.std.proofs.Common.{◌∙◌}
-use Rattle.lower_frame.proofs.lowering_relation.Placing.{gives_up_on}
-use Rattle.lower_frame.proofs.Losing.{loses_on}
-use Rattle.cell_lower.proofs.Shedding.{sheds_on}
-use Rattle.cell_lower.proofs.Laying.{laid_on, up_next}
+use Rattle.lower_parts.proofs.lowering_relation.Placing.{gives_up_on}
+use Rattle.lower_parts.proofs.lower_frame.Losing.{loses_on}
+use Rattle.lower_parts.proofs.Shedding.{sheds_on}
+use Rattle.lower_parts.proofs.Laying.{laid_on, up_next}
 use Rattle.std.proofs.Common.{false, ◌+◌, arith}
 use Rattle.cell_lower.proofs.lowerer.Lowerer.free_all.Goals as goal
 

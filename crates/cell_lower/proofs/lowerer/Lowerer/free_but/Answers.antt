@@ -1,10 +1,10 @@
 use Rattle.std.proofs.Common.{◌∙◌, ◌+◌, false, arith}
 use Rattle.fip_language.specs.declared.limits.TheConstants.{MOST_FIELDS}
-use Rattle.lower_frame.proofs.lowering_relation.Placing.{gives_up_on}
-use Rattle.lower_frame.proofs.Losing.{loses_on}
-use Rattle.cell_lower.proofs.Shedding.{sheds_on}
-use Rattle.cell_lower.proofs.Laying.{laid_on}
-use Rattle.cell_lower.proofs.Leaving.{but_done, but_next}
+use Rattle.lower_parts.proofs.lowering_relation.Placing.{gives_up_on}
+use Rattle.lower_parts.proofs.lower_frame.Losing.{loses_on}
+use Rattle.lower_parts.proofs.Shedding.{sheds_on}
+use Rattle.lower_parts.proofs.Laying.{laid_on}
+use Rattle.lower_parts.proofs.Leaving.{but_done, but_next}
 use Rattle.cell_lower.proofs.lowerer.Lowerer.free_but.Goals as goal
 
 pub loop-below-preserved : goal.loop-below-preserved

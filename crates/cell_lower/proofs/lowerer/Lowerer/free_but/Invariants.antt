@@ -1,10 +1,10 @@
 use Rattle.std.proofs.Common.{◌≡◌}
-use Rattle.lower_frame.specs.lowering_relation.Losing.{Loses}
-use Rattle.lower_frame.specs.lowering_relation.Written.{GivesUp}
+use Rattle.lower_parts.specs.lowering_relation.Losing.{Loses}
+use Rattle.lower_parts.specs.lowering_relation.Written.{GivesUp}
 use Rattle.std.proofs.Common.{false}
-use Rattle.cell_lower.specs.Growth.{Sheds}
-use Rattle.cell_lower.specs.Laying.{GivesUpLaid}
-use Rattle.cell_lower.specs.Leaving.{FreesBut}
+use Rattle.lower_parts.specs.Growth.{Sheds}
+use Rattle.lower_parts.specs.Laying.{GivesUpLaid}
+use Rattle.lower_parts.specs.Leaving.{FreesBut}
 use Rattle.cell_lower.proofs.lowerer.Lowerer.free_but.Given as goal
 
 abbrev pub invariant-loop-below : goal.invariant-loop-below

@@ -1,10 +1,10 @@
 use Rattle.std.proofs.Common.{◌∙◌}
-use Rattle.lower_frame.proofs.lowering_relation.Placing.{gives_up_on}
-use Rattle.lower_frame.proofs.Losing.{loses_on}
-use Rattle.cell_lower.proofs.Shedding.{sheds_on}
-use Rattle.lower_frame.specs.Credits.{sized}
-use Rattle.cell_lower.proofs.Laying.{laid_on, spends_next}
-use Rattle.cell_lower.proofs.Leaving.{frees_done, frees_next, within_next}
+use Rattle.lower_parts.proofs.lowering_relation.Placing.{gives_up_on}
+use Rattle.lower_parts.proofs.lower_frame.Losing.{loses_on}
+use Rattle.lower_parts.proofs.Shedding.{sheds_on}
+use Rattle.lower_parts.specs.lower_frame.Credits.{sized}
+use Rattle.lower_parts.proofs.Laying.{laid_on, spends_next}
+use Rattle.lower_parts.proofs.Leaving.{frees_done, frees_next, within_next}
 use Rattle.std.proofs.Common.{rules, false, ◌+◌, arith}
 use Rattle.cell_lower.proofs.lowerer.Lowerer.free_past.Goals as goal
 

@@ -1,10 +1,10 @@
 use Rattle.std.proofs.Common.{◌≡◌, ◌⊎◌, ◌≤◌}
-use Rattle.lower_frame.specs.lowering_relation.Losing.{Loses}
-use Rattle.lower_frame.specs.lowering_relation.Written.{GivesUp}
-use Rattle.cell_lower.specs.Growth.{Sheds}
-use Rattle.lower_frame.specs.Credits.{sized}
-use Rattle.cell_lower.specs.Laying.{GivesUpLaid, SpendsPast}
-use Rattle.cell_lower.specs.Leaving.{FreesPast}
+use Rattle.lower_parts.specs.lowering_relation.Losing.{Loses}
+use Rattle.lower_parts.specs.lowering_relation.Written.{GivesUp}
+use Rattle.lower_parts.specs.Growth.{Sheds}
+use Rattle.lower_parts.specs.lower_frame.Credits.{sized}
+use Rattle.lower_parts.specs.Laying.{GivesUpLaid, SpendsPast}
+use Rattle.lower_parts.specs.Leaving.{FreesPast}
 use Rattle.std.proofs.Common.{false, ◌-◌}
 use Rattle.cell_lower.proofs.lowerer.Lowerer.free_past.Given as goal
 

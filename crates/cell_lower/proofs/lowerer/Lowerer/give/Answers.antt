@@ -1,12 +1,12 @@
 use Rattle.std.proofs.Common.{subst, sym, ap, ◌∙◌}
 use Rattle.cell_code.specs.declared.code.Instr.TheVariants as I
-use Rattle.lower_frame.specs.lowering_relation.Written.{added, GivesUp}
-use Rattle.cell_lower.specs.Growth.{Sheds}
-use Rattle.cell_lower.specs.Writing.{target_of, Gives}
-use Rattle.cell_lower.proofs.Writing.{gives_into, gives_return}
+use Rattle.lower_parts.specs.lowering_relation.Written.{added, GivesUp}
+use Rattle.lower_parts.specs.Growth.{Sheds}
+use Rattle.lower_parts.specs.Writing.{target_of, Gives}
+use Rattle.lower_parts.proofs.Writing.{gives_into, gives_return}
 use Rattle.std.proofs.Common.{◌≡◌, true, not}
-use Rattle.cell_lower.specs.Laying.{AllGone, GivesLaid, GivesUpLaid}
-use Rattle.cell_lower.proofs.Laying.{gives_laid_return}
+use Rattle.lower_parts.specs.Laying.{AllGone, GivesLaid, GivesUpLaid}
+use Rattle.lower_parts.proofs.Laying.{gives_laid_return}
 use Rattle.cell_lower.proofs.lowerer.Lowerer.give.Goals as goal
 
 pub returns-in_ok-add-in-Return-clause-gives : goal.returns-in_ok-add-in-Return-clause-gives

@@ -1,10 +1,10 @@
 use Rattle.std.proofs.Common.{subst}
 use Rattle.fip_trees.specs.TreeView.{arguments}
-use Rattle.cell_lower.specs.Writing.{setting, target_of, Gives}
-use Rattle.cell_lower.proofs.Blocks.{gives_values}
+use Rattle.lower_parts.specs.Writing.{setting, target_of, Gives}
+use Rattle.lower_parts.proofs.Blocks.{gives_values}
 use Rattle.std.proofs.Common.{not}
-use Rattle.cell_lower.specs.Laying.{GivesLaid}
-use Rattle.cell_lower.proofs.Parted.{gives_values_laid}
+use Rattle.lower_parts.specs.Laying.{GivesLaid}
+use Rattle.lower_parts.proofs.Parted.{gives_values_laid}
 use Rattle.cell_lower.proofs.lowerer.Lowerer.give_all.Goals as goal
 
 pub returns-clause-gives : goal.returns-clause-gives

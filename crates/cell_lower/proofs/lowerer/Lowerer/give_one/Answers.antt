@@ -1,9 +1,9 @@
 use Rattle.fip_trees.specs.TreeView.{argument}
-use Rattle.cell_lower.specs.Writing.{setting, target_of}
-use Rattle.cell_lower.proofs.Blocks.{writes_give}
+use Rattle.lower_parts.specs.Writing.{setting, target_of}
+use Rattle.lower_parts.proofs.Blocks.{writes_give}
 use Rattle.std.proofs.Common.{subst, not, [], ◌∷◌}
-use Rattle.cell_lower.specs.Laying.{GivesLaid}
-use Rattle.cell_lower.proofs.Parted.{gives_one_laid}
+use Rattle.lower_parts.specs.Laying.{GivesLaid}
+use Rattle.lower_parts.proofs.Parted.{gives_one_laid}
 use Rattle.cell_lower.proofs.lowerer.Lowerer.give_one.Goals as goal
 
 pub returns-clause-writes : goal.returns-clause-writes

@@ -1,6 +1,6 @@
 use Rattle.std.proofs.Common.{false}
-use Rattle.lower_frame.proofs.Losing.{loses_on}
-use Rattle.cell_lower.proofs.Laying.{gone_fbip, laid_fbip, laid_on}
+use Rattle.lower_parts.proofs.lower_frame.Losing.{loses_on}
+use Rattle.lower_parts.proofs.Laying.{gone_fbip, laid_fbip, laid_on}
 use Rattle.cell_lower.proofs.lowerer.Lowerer.give_up_all.Goals as goal
 
 pub returns-clause-loses : goal.returns-clause-loses

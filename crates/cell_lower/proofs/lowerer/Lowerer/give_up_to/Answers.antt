@@ -1,8 +1,8 @@
 use Rattle.std.proofs.Common.{false}
-use Rattle.lower_frame.proofs.Losing.{loses_on}
-use Rattle.cell_lower.specs.Writing.{setting}
-use Rattle.cell_lower.proofs.Laying.{laid_fbip, laid_on}
-use Rattle.cell_lower.proofs.Leaving.{leaves_fbip}
+use Rattle.lower_parts.proofs.lower_frame.Losing.{loses_on}
+use Rattle.lower_parts.specs.Writing.{setting}
+use Rattle.lower_parts.proofs.Laying.{laid_fbip, laid_on}
+use Rattle.lower_parts.proofs.Leaving.{leaves_fbip}
 use Rattle.cell_lower.proofs.lowerer.Lowerer.give_up_to.Goals as goal
 
 pub returns-clause-loses : goal.returns-clause-loses

@@ -1,6 +1,6 @@
 use Rattle.std.proofs.Common.{rules, arith, ◌∙◌, ◌+◌}
 use Rattle.std.proofs.lemmas.Option.{slice_get-get_or}
-use Rattle.cell_lower.proofs.Calling.{handed_to}
+use Rattle.lower_parts.proofs.Calling.{handed_to}
 use Rattle.cell_lower.proofs.lowerer.Lowerer.hand_over.Goals as goal
 
 pub loop-param-preserved : goal.loop-param-preserved

@@ -1,6 +1,6 @@
 use Rattle.std.proofs.Common.{◌≡◌, drop}
-use Rattle.lower_frame.specs.lowering_relation.Known.{using}
-use Rattle.lower_frame.specs.lowering_relation.LoweredBodies.{handed}
+use Rattle.lower_parts.specs.lowering_relation.Known.{using}
+use Rattle.lower_parts.specs.lowering_relation.LoweredBodies.{handed}
 use Rattle.cell_lower.proofs.lowerer.Lowerer.hand_over.Given as goal
 
 abbrev pub invariant-loop-param : goal.invariant-loop-param

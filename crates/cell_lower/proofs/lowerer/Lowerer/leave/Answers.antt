@@ -1,12 +1,12 @@
 use Rattle.std.proofs.Common.{subst, not}
 use Rattle.std.specs.Borrow.{Bor}
-use Rattle.lower_frame.proofs.Losing.{loses_on}
-use Rattle.cell_lower.specs.declared.lowerer.Context.{Context}
-use Rattle.cell_lower.specs.Laying.{GivesUpLaid}
-use Rattle.cell_lower.specs.Leaving.{LeavesLaid}
-use Rattle.cell_lower.specs.Writing.{setting}
-use Rattle.cell_lower.proofs.Leaving.{clause_leaves}
-use Rattle.cell_lower.proofs.Shedding.{sheds_on, sheds_widened}
+use Rattle.lower_parts.proofs.lower_frame.Losing.{loses_on}
+use Rattle.lower_parts.specs.declared.context.Context.{Context}
+use Rattle.lower_parts.specs.Laying.{GivesUpLaid}
+use Rattle.lower_parts.specs.Leaving.{LeavesLaid}
+use Rattle.lower_parts.specs.Writing.{setting}
+use Rattle.lower_parts.proofs.Leaving.{clause_leaves}
+use Rattle.lower_parts.proofs.Shedding.{sheds_on, sheds_widened}
 use Rattle.cell_lower.proofs.lowerer.Lowerer.leave.Goals as goal
 
 pub returns-clause-loses : goal.returns-clause-loses

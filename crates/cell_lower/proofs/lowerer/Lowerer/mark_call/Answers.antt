@@ -1,8 +1,8 @@
 use Rattle.std.proofs.Common.{ap, sym, ◌∙◌, slice_get}
 use Rattle.fip_trees.specs.TreeView.{arguments}
-use Rattle.lower_frame.proofs.Frames.{item}
-use Rattle.cell_lower.proofs.Marking.{passed_none, passed_some}
-use Rattle.cell_lower.proofs.Overlaying.{missing}
+use Rattle.lower_parts.proofs.lower_frame.Frames.{item}
+use Rattle.lower_parts.proofs.Marking.{passed_none, passed_some}
+use Rattle.lower_parts.proofs.Overlaying.{missing}
 use Rattle.cell_lower.proofs.lowerer.Lowerer.mark_call.Goals as goal
 
 pub returns-in-None : goal.returns-in-None

@@ -1,6 +1,6 @@
 use Rattle.std.proofs.Common.{◌≡◌, drop, Some}
 use Rattle.fip_trees.specs.TreeView.{arguments, instance_of}
-use Rattle.cell_lower.specs.Marks.{marking_passed}
+use Rattle.lower_parts.specs.Marks.{marking_passed}
 use Rattle.cell_lower.proofs.lowerer.Lowerer.mark_passed.Given as goal
 
 abbrev pub invariant-loop-argument : goal.invariant-loop-argument

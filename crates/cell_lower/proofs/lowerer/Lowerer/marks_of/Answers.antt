@@ -2,9 +2,9 @@ use Rattle.std.proofs.Common.{sym, ap, ◌∙◌, ◌-◌, arith}
 use Rattle.std.specs.Vec.{vec_len}
 use Rattle.fip_trees.specs.TreeView.{Case, argument, clause, clauses}
 use Rattle.fip_trees.proofs.TreeViews.{clause_is}
-use Rattle.cell_lower.specs.Marks.{marking_block, marking_clauses}
-use Rattle.cell_lower.specs.Writing.{setting}
-use Rattle.cell_lower.proofs.Marking.{marked_as, match_marked, new_marks}
+use Rattle.lower_parts.specs.Marks.{marking_block, marking_clauses}
+use Rattle.lower_parts.specs.Writing.{setting}
+use Rattle.lower_parts.proofs.Marking.{marked_as, match_marked, new_marks}
 use Rattle.cell_lower.proofs.lowerer.Lowerer.marks_of.Goals as goal
 
 pub returns : goal.returns

@@ -1,6 +1,6 @@
 use Rattle.std.proofs.Common.{rules, arith, ◌∙◌, ◌+◌}
 use Rattle.std.proofs.lemmas.Option.{slice_get-get_or}
-use Rattle.cell_lower.proofs.Writing.{moves_to}
+use Rattle.lower_parts.proofs.Writing.{moves_to}
 use Rattle.cell_lower.proofs.lowerer.Lowerer.move_all.Goals as goal
 
 pub loop-source-preserved : goal.loop-source-preserved

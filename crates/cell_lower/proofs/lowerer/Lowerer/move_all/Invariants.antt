@@ -1,5 +1,5 @@
 use Rattle.std.proofs.Common.{◌≡◌, drop}
-use Rattle.cell_lower.specs.Writing.{FollowMoves}
+use Rattle.lower_parts.specs.Writing.{FollowMoves}
 use Rattle.cell_lower.proofs.lowerer.Lowerer.move_all.Given as goal
 
 abbrev pub invariant-loop-source : goal.invariant-loop-source

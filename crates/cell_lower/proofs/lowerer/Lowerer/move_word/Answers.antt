@@ -1,8 +1,8 @@
 use Rattle.std.proofs.Common.{ap, ◌∙◌, arith, get_or}
-use Rattle.lower_frame.specs.lowering_relation.declared.held.Held.TheVariants as H
-use Rattle.lower_frame.specs.lowering_relation.Known.{holding}
-use Rattle.lower_frame.specs.lowering_relation.LoweredBodies.{as_value}
-use Rattle.cell_lower.proofs.Writing.{moves_word}
+use Rattle.lower_parts.specs.lowering_relation.declared.held.Held.TheVariants as H
+use Rattle.lower_parts.specs.lowering_relation.Known.{holding}
+use Rattle.lower_parts.specs.lowering_relation.LoweredBodies.{as_value}
+use Rattle.lower_parts.proofs.Writing.{moves_word}
 use Rattle.cell_lower.proofs.lowerer.Lowerer.move_word.Goals as goal
 
 pub returns-clause-moves : goal.returns-clause-moves

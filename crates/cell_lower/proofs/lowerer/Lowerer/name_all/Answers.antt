@@ -1,6 +1,6 @@
 use Rattle.std.proofs.Common.{rules, arith, ◌∙◌, ◌+◌}
-use Rattle.lower_frame.proofs.Frames.{item}
-use Rattle.cell_lower.proofs.Blocks.{named_to}
+use Rattle.lower_parts.proofs.lower_frame.Frames.{item}
+use Rattle.lower_parts.proofs.Blocks.{named_to}
 use Rattle.cell_lower.proofs.lowerer.Lowerer.name_all.Goals as goal
 
 pub loop-binder-preserved : goal.loop-binder-preserved

@@ -1,5 +1,5 @@
 use Rattle.std.proofs.Common.{◌≡◌, drop}
-use Rattle.lower_frame.specs.lowering_relation.LoweredBodies.{with_names}
+use Rattle.lower_parts.specs.lowering_relation.LoweredBodies.{with_names}
 use Rattle.cell_lower.proofs.lowerer.Lowerer.name_all.Given as goal
 
 abbrev pub invariant-loop-binder : goal.invariant-loop-binder

@@ -1,12 +1,12 @@
 use Rattle.std.proofs.Common.{subst}
 use Rattle.std.specs.Borrow.{Bor}
-use Rattle.cell_lower.specs.declared.lowerer.Context.{Context}
-use Rattle.cell_lower.specs.Writing.{setting, target_of, Computes}
+use Rattle.lower_parts.specs.declared.context.Context.{Context}
+use Rattle.lower_parts.specs.Writing.{setting, target_of, Computes}
 use Rattle.fip_trees.specs.TreeView.{argument}
-use Rattle.cell_lower.proofs.Blocks.{writes_operation}
+use Rattle.lower_parts.proofs.Blocks.{writes_operation}
 use Rattle.std.proofs.Common.{not, ◌∙◌}
-use Rattle.cell_lower.specs.Laying.{OperatesLaid}
-use Rattle.cell_lower.proofs.Parted.{applied_laid}
+use Rattle.lower_parts.specs.Laying.{OperatesLaid}
+use Rattle.lower_parts.proofs.Parted.{applied_laid}
 use Rattle.cell_lower.proofs.lowerer.Lowerer.operate.Goals as goal
 
 pub returns-clause-writes : goal.returns-clause-writes

@@ -1,15 +1,15 @@
 use Rattle.std.proofs.Common.{subst, sym, ap, ◌∙◌}
 use Rattle.cell_code.specs.declared.code.Instr.TheVariants as I
-use Rattle.lower_frame.specs.lowering_relation.declared.held.Held.TheVariants as H
-use Rattle.lower_frame.specs.lowering_relation.Known.{holding}
-use Rattle.lower_frame.specs.lowering_relation.LoweredBodies.{GoesTo, result_type}
-use Rattle.lower_frame.specs.lowering_relation.Written.{added}
-use Rattle.cell_lower.specs.Writing.{target_of}
-use Rattle.cell_lower.proofs.Calling.{operates}
+use Rattle.lower_parts.specs.lowering_relation.declared.held.Held.TheVariants as H
+use Rattle.lower_parts.specs.lowering_relation.Known.{holding}
+use Rattle.lower_parts.specs.lowering_relation.LoweredBodies.{GoesTo, result_type}
+use Rattle.lower_parts.specs.lowering_relation.Written.{added}
+use Rattle.lower_parts.specs.Writing.{target_of}
+use Rattle.lower_parts.proofs.Calling.{operates}
 use Rattle.std.proofs.Common.{not, [], ◌∷◌}
-use Rattle.cell_lower.specs.Laying.{GivesLaid}
-use Rattle.cell_lower.proofs.Laying.{operates_laid}
-use Rattle.lower_frame.specs.Registers.{HasRoom}
+use Rattle.lower_parts.specs.Laying.{GivesLaid}
+use Rattle.lower_parts.proofs.Laying.{operates_laid}
+use Rattle.lower_parts.specs.lower_frame.Registers.{HasRoom}
 use Rattle.cell_lower.proofs.lowerer.Lowerer.operation.Goals as goal
 
 pub returns-clause-operates : goal.returns-clause-operates

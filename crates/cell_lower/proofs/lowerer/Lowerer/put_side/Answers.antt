@@ -1,11 +1,11 @@
 use Rattle.std.proofs.Common.{subst, sym, ap, ◌∙◌, length}
 use Rattle.match_knowledge.specs.View.{known}
-use Rattle.lower_frame.specs.Labels.{telling}
-use Rattle.lower_frame.specs.Positions.{spot_of}
-use Rattle.lower_frame.specs.lowering_relation.Written.{size}
-use Rattle.cell_lower.specs.Overlays.{failed_reported}
-use Rattle.cell_lower.specs.Scenes.{PlacesSide}
-use Rattle.cell_lower.specs.Writing.{setting}
+use Rattle.lower_parts.specs.lower_frame.Labels.{telling}
+use Rattle.lower_parts.specs.lower_frame.Positions.{spot_of}
+use Rattle.lower_parts.specs.lowering_relation.Written.{size}
+use Rattle.lower_parts.specs.Overlays.{failed_reported}
+use Rattle.lower_parts.specs.Scenes.{PlacesSide}
+use Rattle.lower_parts.specs.Writing.{setting}
 use Rattle.cell_lower.proofs.lowerer.Lowerer.put_side.Goals as goal
 
 pub returns-in_ok-put_label-in-Some-clause-placed : goal.returns-in_ok-put_label-in-Some-clause-placed

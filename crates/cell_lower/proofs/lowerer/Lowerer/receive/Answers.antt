@@ -1,7 +1,7 @@
 use Rattle.std.proofs.Common.{rules, arith, ◌∙◌, ◌+◌}
 use Rattle.std.proofs.lemmas.Option.{slice_get-get_or}
-use Rattle.cell_lower.specs.Writing.{setting}
-use Rattle.cell_lower.proofs.Calling.{received_to}
+use Rattle.lower_parts.specs.Writing.{setting}
+use Rattle.lower_parts.proofs.Calling.{received_to}
 use Rattle.cell_lower.proofs.lowerer.Lowerer.receive.Goals as goal
 
 pub loop-ty-preserved : goal.loop-ty-preserved

@@ -1,7 +1,7 @@
 use Rattle.std.proofs.Common.{◌≡◌, drop}
-use Rattle.lower_frame.specs.lowering_relation.Known.{using}
-use Rattle.lower_frame.specs.lowering_relation.LoweredBodies.{received}
-use Rattle.cell_lower.specs.Writing.{setting}
+use Rattle.lower_parts.specs.lowering_relation.Known.{using}
+use Rattle.lower_parts.specs.lowering_relation.LoweredBodies.{received}
+use Rattle.lower_parts.specs.Writing.{setting}
 use Rattle.cell_lower.proofs.lowerer.Lowerer.receive.Given as goal
 
 abbrev pub invariant-loop-ty : goal.invariant-loop-ty

@@ -1,8 +1,8 @@
 use Rattle.std.proofs.Common.{ap, ◌∙◌, ◌+◌, arith}
-use Rattle.lower_frame.specs.lowering_relation.Known.{Known}
-use Rattle.lower_frame.specs.lowering_relation.LoweredBodies.{registers_for}
-use Rattle.cell_lower.proofs.Blocks.{reserved_next, reserved_to}
-use Rattle.lower_frame.proofs.Growing.{reached_on, reached_used, room_on}
+use Rattle.lower_parts.specs.lowering_relation.Known.{Known}
+use Rattle.lower_parts.specs.lowering_relation.LoweredBodies.{registers_for}
+use Rattle.lower_parts.proofs.Blocks.{reserved_next, reserved_to}
+use Rattle.lower_parts.proofs.lower_frame.Growing.{reached_on, reached_used, room_on}
 use Rattle.cell_lower.proofs.lowerer.Lowerer.reserve.Goals as goal
 
 pub loop-preserved : goal.loop-preserved

@@ -1,7 +1,7 @@
 use Rattle.std.proofs.Common.{◌≡◌, drop, ◌++◌}
-use Rattle.lower_frame.specs.lowering_relation.LoweredBodies.{registers_for, reserved}
-use Rattle.lower_frame.specs.Positions.{reaching}
-use Rattle.lower_frame.specs.Registers.{HasRoom}
+use Rattle.lower_parts.specs.lowering_relation.LoweredBodies.{registers_for, reserved}
+use Rattle.lower_parts.specs.lower_frame.Positions.{reaching}
+use Rattle.lower_parts.specs.lower_frame.Registers.{HasRoom}
 use Rattle.cell_lower.proofs.lowerer.Lowerer.reserve.Given as goal
 
 abbrev pub invariant-loop : goal.invariant-loop

@@ -3,11 +3,11 @@ use Rattle.std.specs.Borrow.{Bor}
 use Rattle.fip_trees.specs.declared.program.Clause.{out-Clause}
 use Rattle.fip_trees.specs.TreeView.{Case, clause, pattern}
 use Rattle.fip_trees.proofs.TreeViews.{clause_is}
-use Rattle.cell_lower.specs.declared.lowerer.Context.{Context}
-use Rattle.cell_lower.specs.Scenes.{sides_of}
-use Rattle.cell_lower.specs.Writing.{setting}
+use Rattle.lower_parts.specs.declared.context.Context.{Context}
+use Rattle.lower_parts.specs.Scenes.{sides_of}
+use Rattle.lower_parts.specs.Writing.{setting}
 use Rattle.cell_lower.proofs.Parts.{starts_from}
-use Rattle.cell_lower.proofs.Matched.{starts_laid}
+use Rattle.lower_parts.proofs.Matched.{starts_laid}
 use Rattle.cell_lower.proofs.lowerer.Lowerer.start_clause.Goals as goal
 
 pub returns-clause-starts : goal.returns-clause-starts

@@ -1,21 +1,21 @@
 use Rattle.std.proofs.Common.{◌≡◌, sym, ap, subst, ◌∙◌, length, arith, not, ◌&&◌}
 use Rattle.std.specs.Borrow.{Bor}
 use Rattle.fip_trees.specs.TreeView.{argument, clause, clauses}
-use Rattle.lower_frame.specs.lowering_relation.Known.{Known}
-use Rattle.lower_frame.specs.lowering_relation.Losing.{Loses}
-use Rattle.lower_frame.specs.lowering_relation.Written.{size}
-use Rattle.lower_frame.proofs.lowering_relation.Placing.{extends_on}
-use Rattle.cell_lower.specs.Clauses.{HasPositions}
-use Rattle.lower_frame.specs.Registers.{registers, HasRoom}
-use Rattle.lower_frame.specs.lowering_relation.Values.{is_scalar}
-use Rattle.cell_lower.specs.declared.lowerer.Context.{Context}
-use Rattle.cell_lower.specs.Laying.{ForgetsLaid}
-use Rattle.cell_lower.specs.Leaving.{sizes_of}
-use Rattle.cell_lower.specs.Marks.{MarkedFor}
-use Rattle.cell_lower.specs.Writing.{setting, target_of}
-use Rattle.lower_frame.specs.Positions.{reaching}
-use Rattle.cell_lower.specs.Scenes.{patterns_of}
-use Rattle.cell_lower.proofs.Beginning.{resumes_reached, loses_then, begun_few, entry_room, as_many_clauses, whole_choice}
+use Rattle.lower_parts.specs.lowering_relation.Known.{Known}
+use Rattle.lower_parts.specs.lowering_relation.Losing.{Loses}
+use Rattle.lower_parts.specs.lowering_relation.Written.{size}
+use Rattle.lower_parts.proofs.lowering_relation.Placing.{extends_on}
+use Rattle.lower_parts.specs.Clauses.{HasPositions}
+use Rattle.lower_parts.specs.lower_frame.Registers.{registers, HasRoom}
+use Rattle.lower_parts.specs.lowering_relation.Values.{is_scalar}
+use Rattle.lower_parts.specs.declared.context.Context.{Context}
+use Rattle.lower_parts.specs.Laying.{ForgetsLaid}
+use Rattle.lower_parts.specs.Leaving.{sizes_of}
+use Rattle.lower_parts.specs.Marks.{MarkedFor}
+use Rattle.lower_parts.specs.Writing.{setting, target_of}
+use Rattle.lower_parts.specs.lower_frame.Positions.{reaching}
+use Rattle.lower_parts.specs.Scenes.{patterns_of}
+use Rattle.lower_parts.proofs.Beginning.{resumes_reached, loses_then, begun_few, entry_room, as_many_clauses, whole_choice}
 use Rattle.cell_lower.proofs.lowerer.Lowerer.start_match.Goals as goal
 
 pub returns-clause-begins : goal.returns-clause-begins

@@ -1,11 +1,11 @@
 use Rattle.std.proofs.Common.{ap, ◌∙◌, length}
 use Rattle.fip_trees.specs.TreeView.{patterns}
-use Rattle.lower_frame.specs.lowering_relation.Spots as S
+use Rattle.lower_parts.specs.lowering_relation.Spots as S
 use Rattle.cell_code.specs.declared.code.Instr.TheVariants as I
-use Rattle.lower_frame.specs.lowering_relation.Written.{added}
-use Rattle.lower_frame.specs.lowering_relation.Opening.{as_many}
-use Rattle.lower_frame.specs.Positions.{spot_of, spots_of}
-use Rattle.cell_lower.proofs.Folding.{taken_cell, nonempty, register_is, fields_are}
+use Rattle.lower_parts.specs.lowering_relation.Written.{added}
+use Rattle.lower_parts.specs.lowering_relation.Opening.{as_many}
+use Rattle.lower_parts.specs.lower_frame.Positions.{spot_of, spots_of}
+use Rattle.lower_parts.proofs.Folding.{taken_cell, nonempty, register_is, fields_are}
 use Rattle.cell_lower.proofs.lowerer.Lowerer.take_cell.Goals as goal
 
 pub returns-clause-takes : goal.returns-clause-takes

@@ -1,6 +1,6 @@
 use Rattle.std.proofs.Common.{arith, ◌∙◌, ◌+◌}
 use Rattle.std.proofs.lemmas.Option.{slice_get-get_or}
-use Rattle.cell_lower.proofs.Calling.{takes_done, takes_to}
+use Rattle.lower_parts.proofs.Calling.{takes_done, takes_to}
 use Rattle.cell_lower.proofs.lowerer.Lowerer.take_credits.Goals as goal
 
 pub loop-size-preserved : goal.loop-size-preserved

@@ -1,5 +1,5 @@
 use Rattle.std.proofs.Common.{◌≡◌, drop}
-use Rattle.cell_lower.specs.Writing.{FollowCredits}
+use Rattle.lower_parts.specs.Writing.{FollowCredits}
 use Rattle.cell_lower.proofs.lowerer.Lowerer.take_credits.Given as goal
 
 abbrev pub invariant-loop-size : goal.invariant-loop-size

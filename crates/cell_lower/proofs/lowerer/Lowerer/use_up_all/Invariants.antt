@@ -1,5 +1,5 @@
 use Rattle.std.proofs.Common.{◌≡◌, drop}
-use Rattle.lower_frame.specs.lowering_relation.Known.{using, used_all}
+use Rattle.lower_parts.specs.lowering_relation.Known.{using, used_all}
 use Rattle.cell_lower.proofs.lowerer.Lowerer.use_up_all.Given as goal
 
 abbrev pub invariant-loop-register : goal.invariant-loop-register

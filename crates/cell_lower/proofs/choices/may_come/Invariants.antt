@@ -1,9 +1,0 @@
-use Rattle.std.proofs.Common.{take}
-use Rattle.fip_language.specs.Every.{Every}
-use Rattle.match_knowledge.specs.View.{row}
-use Rattle.cell_lower.specs.Scenes.{sides_of}
-use Rattle.cell_lower.specs.Testing.{Misses}
-use Rattle.cell_lower.proofs.choices.may_come.Given as goal
-
-abbrev pub invariant-loop-next : goal.invariant-loop-next
-invariant-loop-next l = Every (Misses (row l.row)) (sides_of (take l.next-index l.sides))

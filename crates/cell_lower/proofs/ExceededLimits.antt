@@ -1,7 +1,9 @@
 -- Types past the end of the table, and the violations of E60 as a list.
-use Rattle.std.proofs.Common.{arith, ap, ◌≡◌, refl, sym, subst, ◌⊎◌, inl, inr, ℕ, zero, suc, ◌<◌, ◌≤◌, Bool, true, false, List, [], ◌∷◌, length, Option, Some, None, Result, Ok, Err, IfOk}
-use Rattle.std.specs.Prelude.{option_map, nat_lt, not, ◌&&◌}
-use Rattle.fip_language.specs.declared.limits.TheConstants.{MOST_MATCHED_CONSTRUCTORS}
+use Rattle.std.proofs.Common.{arith, ap, ap₂, ◌≡◌, ◌∙◌, refl, sym, subst, ◌⊎◌, inl, inr, ℕ, zero, suc, ◌+◌, ◌<◌, ◌≤◌, Bool, true, false, List, [], ◌∷◌, length, Option, Some, None, Result, Ok, Err, IfOk, slice_get}
+use Rattle.std.proofs.lemmas.Bool.Decides.{nat_tests}
+use Rattle.std.proofs.lemmas.Option.{none-some, same_Some}
+use Rattle.std.specs.Prelude.{option_map, nat_lt, not, ◌&&◌, ◌||◌}
+use Rattle.fip_language.specs.declared.limits.TheConstants.{MOST_MATCHED_CONSTRUCTORS, MOST_REGISTERS}
 use Rattle.fip_language.specs.declared.rule.Rule.TheVariants.{E60}
 use Rattle.fip_language.specs.Table.{Table, shapes, constructors, is_scalar}
 use Rattle.fip_base.specs.declared.refusal.Refusal.{Refusal}
@@ -10,8 +12,8 @@ use Rattle.fip_trees.specs.declared.least.Violation.{Violation}
 use Rattle.fip_trees.specs.Tree.{Instance, Program}
 use Rattle.fip_trees.specs.Least.{In, after, IsLeastOf, refusal, violation}
 use Rattle.fip_trees.proofs.Leasts.{after-append, least_of, none_of, in_left, in_right, in_either}
-use Rattle.cell_lower.specs.Limits.{BreaksFrom, Breaks, exceeds, registers, is_wide}
-use Rattle.cell_lower.specs.LimitNotes.{when, instance_notes, notes_from}
+use Rattle.cell_lower.specs.Limits.{BreaksFrom, Breaks, exceeds, is_ruled, matches_wide, registers, is_wide}
+use Rattle.cell_lower.specs.LimitNotes.{HaveFewRegisters, when, instance_notes, notes_from}
 
 pub ruleset noting = (after-append)
 
@@ -62,3 +64,24 @@ accepted p ms (Some u) h g v k = absurd (cc)
 pub always : {A B P : Type 0} (r : Result A B) → P → IfOk r (λ _. P)
 always (Ok a) p = p
 always (Err e) p = record {}
+
+-- ---- registers where the rule is kept
+
+few_where_kept : (tb : Table) (n : ℕ) (d : Instance) → is_ruled d.kind ≡ true → (exceeds tb n d ≡ true → ⊥) → n ≤ MOST_REGISTERS
+few_where_kept tb n d r h = by (nat_lt MOST_REGISTERS n) refl
+  where
+    by : (b : Bool) → nat_lt MOST_REGISTERS n ≡ b → n ≤ MOST_REGISTERS
+    by true e = absurd (h (ap₂ (λ a b. a && (b || matches_wide tb d)) r e))
+    by false e = grind (arith, nat_tests)
+
+few_from : (tb : Table) (ms : List Member) (i j : ℕ) (ds : List Instance) (d : Instance) → ((v : Violation) → BreaksFrom tb ms i ds v → ⊥) → slice_get ds j ≡ Some d → is_ruled d.kind ≡ true → registers ms (i + j) ≤ MOST_REGISTERS
+few_from tb ms i j [] d h e r = absurd (none-some d e)
+few_from tb ms i zero (x ∷ ds) d h e r =
+    let same : x ≡ d = same_Some x d e in
+    let ruled : is_ruled x.kind ≡ true = ap (λ (y : Instance). is_ruled y.kind) same ∙ r in
+    subst (λ n. registers ms n ≤ MOST_REGISTERS) (omega arith) (few_where_kept tb (registers ms i) x ruled (λ k. h (violation E60 x.place i 0 x.name) (inl (k, refl))))
+few_from tb ms i (suc j) (x ∷ ds) d h e r =
+    subst (λ n. registers ms n ≤ MOST_REGISTERS) (omega arith) (few_from tb ms (suc i) j ds d (λ v k. h v (inr k)) e r)
+
+pub few_registers : (p : Program) (ms : List Member) → ((v : Violation) → Breaks p ms v → ⊥) → HaveFewRegisters ms p.instances
+few_registers p ms h i d e r = subst (λ n. registers ms n ≤ MOST_REGISTERS) (omega arith) (few_from p.types ms 0 i p.instances d h e r)

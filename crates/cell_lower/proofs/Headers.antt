@@ -8,6 +8,7 @@ use Rattle.fip_language.specs.Table.{Table, shapes, constructors}
 use Rattle.fip_trees.specs.declared.groups.Member.{Member}
 use Rattle.fip_trees.specs.Tree.{Instance}
 use Rattle.lower_parts.specs.lowering_relation.LoweredBodies.{has_function, one_more, if_function, function_of}
+use Rattle.lower_parts.proofs.lower_frame.Spelt.{no_function_spelt}
 use Rattle.cell_lower.specs.Limits.{is_ruled, registers, registers_of}
 use Rattle.cell_lower.specs.Shape.{Header, header_of, and_if, headers_from}
 
@@ -20,6 +21,7 @@ registers-some None r h = absurd (cc)
 registers-some (Some m) r h = cc
 
 pub ruleset heading = (and_if-append, registers-some)
+pub ruleset functions = (no_function_spelt)
 
 -- the instance of a function
 

@@ -3,6 +3,7 @@ pub mod Headers
 pub mod Programs
 pub mod Instances
 pub mod Smalls
+pub mod SoundScalars
 pub mod Standing
 pub mod Parts
 pub use Rattle.lower_parts.proofs.lower_frame.code_file as code_file

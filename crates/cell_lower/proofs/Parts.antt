@@ -37,12 +37,15 @@ use Rattle.lower_parts.specs.Matches.{BeginsLaid, EndsMatchLaid, ClauseLays, Cla
 use Rattle.lower_parts.specs.Clauses.{Begins, EndsMatch, StartsIn, WritesClause, WritesClauses}
 use Rattle.cell_lower.specs.Lowered.{IsCodeOf}
 use Rattle.lower_parts.specs.Writing.{Binds, Writes, WritesBlock}
+use Rattle.lower_parts.proofs.lower_frame.Losing.{loses_same, loses_nothing, loses_used, loses_taken, loses_widened}
 use Rattle.lower_parts.proofs.Beginning.{starts_in}
 use Rattle.lower_parts.proofs.Clauses.{match_written}
 use Rattle.lower_parts.proofs.Composed.{lays_match}
 use Rattle.lower_parts.proofs.Expressions.{bound_into, written_match}
 use Rattle.lower_parts.proofs.Following.{laid_as, asked_first, asked_others}
 use Rattle.cell_lower.proofs.Programs.{is_code}
+
+pub ruleset losing = (loses_same, loses_nothing, loses_used, loses_taken, loses_widened)
 
 pub starts_from : (s s' : Setting) (g : Matching) (q q' : Pattern) (i label : ℕ) (v chosen shown put w : Written) (ds es : List Side) (copied resumed tested opened l : Known) → s' ≡ s → q ≡ q' → ChoosesIf s.types g.choice i v ds chosen es true → (length g.choice.rows.items ≤ suc i → es ≡ []) → tested ≡ resumed → shown ≡ chosen → Extends shown put → put.instrs ≡ shown.instrs → IsAt put label (size shown) → w ≡ put → label ≡ get_or g.choice.entries.items i 0 → copied ≡ g.entry → Resumes copied resumed → opened ≡ entering_root s' g.choice.takes q' (spot_of g.choice.root) tested → Loses opened l → registers resumed ≡ registers copied → registers l ≡ registers opened → labels put ≡ labels shown → StartsIn s g q i v ds l w es
 starts_from s s' g q q' i label v chosen shown put w ds es copied resumed tested opened l same qs c a fr sh e f p written at cp r o lost ro rl ll =

@@ -9,6 +9,7 @@ use Rattle.fip_language.proofs.Words.{map_at}
 use Rattle.fip_trees.specs.declared.groups.Member.{Member}
 use Rattle.fip_trees.specs.declared.needs.Need.{Need}
 use Rattle.fip_trees.specs.NeedsView.{needs_of}
+use Rattle.fip_trees.specs.SoundProgram.{AreHeaderCredits, IsSoundProgram}
 use Rattle.fip_trees.specs.Tree.{Instance, Program}
 use Rattle.cell_code.specs.declared.code.Code.{Code}
 use Rattle.cell_code.specs.declared.code.Function.{Function}
@@ -40,6 +41,7 @@ use Rattle.cell_lower.proofs.Instances.{each_added}
 use Rattle.cell_lower.proofs.Programs.{at_place}
 use Rattle.lower_parts.proofs.Shedding.{start_length}
 use Rattle.cell_lower.proofs.Smalls.{settled_length}
+use Rattle.cell_lower.proofs.SoundScalars.{sound_scalars, header_credits}
 use Rattle.lower_parts.proofs.Starting.{Starts, starts, start_next}
 
 -- ---- one function
@@ -77,12 +79,12 @@ record Body (s : Setting) (fip : Bool) (n : ℕ) (d : Instance) (l : Known) (w :
   pub results : f.results ≡ d.results
   pub registers' : f.registers ≡ n
 
-module _ (s : Setting) (fip : Bool) (n : ℕ) (d : Instance) (l : Known) (w : Written) (f : PlainFunction) (h : Body s fip n d l w f) (ns : List Need) (asked : AskedInstance s ns d) where
+module _ (s : Setting) (fip : Bool) (n : ℕ) (d : Instance) (l : Known) (w : Written) (f : PlainFunction) (h : Body s fip n d l w f) (ns : List Need) (credits : AreHeaderCredits d.credits) (asked : AskedInstance s ns d) where
   abbrev k : Known
   k = known_at_start s n d
 
   started : Starts k
-  started = starts s n d h.room asked.sizes
+  started = starts s n d h.room credits.sized
 
   lays_in : LaysIn s k nothing Return l w (λ c f. BlockLaid c s fip f 0 k d.body Return (size w) l)
   lays_in = h.lays.by (begun s k started h.room) tt
@@ -125,8 +127,8 @@ fip_of Fun b e has = absurd (true≢false (sym has))
 
 pub laid_of : (s s' : Setting) (b : Bool) (n : ℕ) (ns ns' : List Need) (d : Instance) (k l : Known) (v w : Written) (f : Function) → s' ≡ s → ns' ≡ ns → k ≡ known_at_start s n d → v ≡ nothing → k.next ≤ registers k → (has_function d.kind ≡ true → not b ≡ is_fip d.kind) → (AskedBlock s' (drop 1 ns') d.body → LaysBlock s' (not b) k v d.body Return l w) → f.instrs.items ≡ map (settled (place_of w.places)) w.instrs → map plain_label f.labels.items ≡ w.maps → HaveMaps w.places (map plain_label f.labels.items) → AreOpen (map plain_label f.labels.items) → header f ≡ header_of n d → IsLaidOf s ns d f
 laid_of s s' b n ns ns' d k l v w f same needs start empty room fip h is maps have opens heads = record {
-  by = λ scalars well asked c types. function_laid s (is_fip d.kind) n d l w (plain_function f) (body scalars well asked) ns asked c types;
-  stand = λ scalars well asked. maps_stand s (is_fip d.kind) n d l w (plain_function f) (body scalars well asked) ns asked;
+  by = λ scalars credits well asked c types. function_laid s (is_fip d.kind) n d l w (plain_function f) (body scalars well asked) ns credits asked c types;
+  stand = λ scalars credits well asked. maps_stand s (is_fip d.kind) n d l w (plain_function f) (body scalars well asked) ns credits asked;
 }
   where
     lays : ScalarsRight s → WellMatchedBlock s.types d.body → AskedInstance s ns d → LaysBlock s (is_fip d.kind) (known_at_start s n d) nothing d.body Return l w
@@ -163,9 +165,9 @@ laid_added s nss i b d fs gs f e g h = each_added (laid_at s nss) i b d fs gs f 
 none_more : (a : ℕ) → 0 + a ≡ a
 none_more a = omega arith
 
-module _ (p : Program) (s : Setting) (ms : List Member) (nss : List (List Need)) (c : Code) (so : IsSettingOf p s) (types : c.types ≡ p.types) (heads : map header c.functions.items ≡ headers ms p.instances) (each : HaveEach (laid_at s nss) p.instances 0 0 c.functions.items) (well : IsWellMatched p) (asked : IsAsked p nss) where
+module _ (p : Program) (s : Setting) (ms : List Member) (nss : List (List Need)) (c : Code) (so : IsSettingOf p s) (types : c.types ≡ p.types) (heads : map header c.functions.items ≡ headers ms p.instances) (each : HaveEach (laid_at s nss) p.instances 0 0 c.functions.items) (sound : ∥ IsSoundProgram p ∥₁) (well : IsWellMatched p) (asked : IsAsked p nss) where
   scalars_right : ScalarsRight s
-  scalars_right = asked.scalars s so
+  scalars_right = sound_scalars p s sound so
 
   same_types : (plain c).types ≡ s.types
   same_types = types ∙ sym so.types
@@ -200,6 +202,9 @@ module _ (p : Program) (s : Setting) (ms : List Member) (nss : List (List Need))
     well_here : WellMatchedBlock s.types d.body
     well_here = subst (λ tb. WellMatchedBlock tb d.body) (sym so.types) (at_place (λ (x : Instance). WellMatchedBlock p.types x.body) p.instances g d well x.of'.there)
 
+    credits_here : AreHeaderCredits d.credits
+    credits_here = header_credits p sound g d x.of'.there
+
     asked_here : AskedInstance s (needs_of nss g) d
     asked_here = asked.each s so g d x.of'.there (has_function_there p.instances g n d x.of'.function x.of'.there)
 
@@ -211,11 +216,11 @@ module _ (p : Program) (s : Setting) (ms : List Member) (nss : List (List Need))
       function = so.functions g ∙ x.of'.function;
       kind = sym (ap (λ (f : PlainFunction). f.kind) x.same) ∙ ap (λ (h : Header). h.signature.kind) x.of'.is;
       laid = subst (λ (f : PlainFunction). FunctionLaid (plain c) s (CodeKinds.is_fip f.kind) f d) x.same
-          (subst (λ b. FunctionLaid (plain c) s b (plain_function x.held) d) (sym (ap (λ (h : Header). CodeKinds.is_fip h.signature.kind) x.of'.is ∙ code_is_fip d.kind)) (laid_here.by scalars_right well_here asked_here (plain c) same_types));
+          (subst (λ b. FunctionLaid (plain c) s b (plain_function x.held) d) (sym (ap (λ (h : Header). CodeKinds.is_fip h.signature.kind) x.of'.is ∙ code_is_fip d.kind)) (laid_here.by scalars_right credits_here well_here asked_here (plain c) same_types));
     }
 
     does_stand : MapsStand f
-    does_stand = subst MapsStand x.same (laid_here.stand scalars_right well_here asked_here)
+    does_stand = subst MapsStand x.same (laid_here.stand scalars_right credits_here well_here asked_here)
 
   pub laid_out : IsLaidOut p (plain c)
   laid_out = record {

@@ -1,12 +1,11 @@
 -- It serves the proof that lowered code is sound: the code of a program is laid out as its instances ask, and its label
--- maps stand in order. What is asked of the program for that: types are scalar as its table says and constructors have
--- few fields; each instance has a binder for each parameter and header credits of sizes that constructors have, its
+-- maps stand in order. What is asked of the program for that: each instance has a binder for each parameter, its
 -- constructors are of their types, and what its expressions need is what is reported of them.
 use Rattle.std.specs.Prelude.{◌≡◌, ◌≤◌, ℕ, true, List, length, drop, Some, slice_get}
 use Rattle.fip_language.specs.Kinds.{is_fip}
-use Rattle.fip_language.specs.declared.limits.TheConstants.{MOST_FIELDS}
 use Rattle.fip_trees.specs.declared.needs.Need.{Need}
 use Rattle.fip_trees.specs.NeedsView.{needs_of}
+use Rattle.fip_trees.specs.SoundProgram.{AreHeaderCredits}
 use Rattle.fip_trees.specs.Tree.{Instance, Program}
 use Rattle.cell_code.specs.declared.code.Function.{Function}
 use Rattle.cell_code.specs.Plain.{PlainFunction, PlainCode, plain_function, function_at}
@@ -24,21 +23,20 @@ use Rattle.lower_parts.specs.Bodies.{ScalarsRight, FoundedBlock, NeedsRest}
 pub record AskedInstance (s : Setting) (ns : List Need) (d : Instance) : Type 0 where
   pub ruled : has_function d.kind ≡ true
   pub binders : length d.binders ≡ length d.params
-  pub sizes : (i n : ℕ) → slice_get d.credits i ≡ Some n → (1 ≤ n) × (n ≤ MOST_FIELDS)
   pub founded : FoundedBlock s.types d.body
   pub needs : NeedsRest s (drop 1 ns) d.body
 
 -- of a program, of which these needs are reported, those of each instance
 pub record IsAsked (p : Program) (nss : List (List Need)) : Type 0 where
-  pub scalars : (s : Setting) → IsSettingOf p s → ScalarsRight s
   pub each : (s : Setting) → IsSettingOf p s → (g : ℕ) (d : Instance) → slice_get p.instances g ≡ Some d →
       has_function d.kind ≡ true → AskedInstance s (needs_of nss g) d
 
--- In each code with these types this is the function of an instance, where that is as asked.
+-- In each code with these types this is the function of an instance, where that is as asked, of a sound program.
 pub record IsLaidOf (s : Setting) (ns : List Need) (d : Instance) (f : Function) : Type 0 where
-  pub by : ScalarsRight s → WellMatchedBlock s.types d.body → AskedInstance s ns d → (c : PlainCode) →
-      c.types ≡ s.types → FunctionLaid c s (is_fip d.kind) (plain_function f) d
-  pub stand : ScalarsRight s → WellMatchedBlock s.types d.body → AskedInstance s ns d → MapsStand (plain_function f)
+  pub by : ScalarsRight s → AreHeaderCredits d.credits → WellMatchedBlock s.types d.body → AskedInstance s ns d →
+      (c : PlainCode) → c.types ≡ s.types → FunctionLaid c s (is_fip d.kind) (plain_function f) d
+  pub stand : ScalarsRight s → AreHeaderCredits d.credits → WellMatchedBlock s.types d.body → AskedInstance s ns d →
+      MapsStand (plain_function f)
 
 -- of instance i
 abbrev pub laid_at : Setting → List (List Need) → ℕ → Instance → Function → Type 0

@@ -1,5 +1,6 @@
 // Copies of tables of types.
-ghost use Rattle.std.specs.Prelude.{◌≡◌, ◌<◌, ◌^◌, IfOk, length};
+ghost use Rattle.std.specs.Prelude.{◌≡◌, ◌<◌, ◌≤◌, ◌^◌, IfOk, length};
+ghost use Rattle.fip_language.specs.declared.limits.TheConstants.{MOST_INSTANCES};
 
 use fip_base::plain::{Name, NoMemory, Types};
 use fip_base::table::{Constructor, DataType, TypeTable};
@@ -8,11 +9,12 @@ use std::alloc::Global;
 /// A table of the same types.
 #[tactic(auto, using(crate::proofs::Headers::tables))]
 pub fn table_of(alloc: Global, types: &TypeTable) -> Result<TypeTable, NoMemory>
+    requires few { length types.now ≤ MOST_INSTANCES }
     ensures same { IfOk result (λ t. t ≡ types.now) }
 {
     let mut table = TypeTable::new(alloc);
     for place in 0..types.len() {
-        let ty = u32::try_from(place + 1).map_err(|_| NoMemory)?;
+        let ty = (place + 1) as u32;
         table.push(type_of(alloc, types.constructors_of(ty))?)?;
     }
     Ok(table)

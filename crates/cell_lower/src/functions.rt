@@ -1,12 +1,15 @@
 // The code of a program.
-ghost use Rattle.std.specs.Prelude.{◌≡◌, ℕ, [], ◌∷◌, ◌++◌, map, IfOk, IfErr, OnOk, Ok, slice_get};
+ghost use Rattle.std.specs.Prelude.{◌≡◌, ◌≤◌, ℕ, true, [], ◌∷◌, ◌++◌, length, map, IfOk, IfErr, OnOk, Ok, slice_get};
 ghost use Rattle.fip_base.specs.declared.refusal.PhaseError.TheVariants as PhaseError;
+ghost use Rattle.fip_language.specs.declared.limits.TheConstants.{MOST_INSTANCES, MOST_REGISTERS};
 ghost use Rattle.fip_trees.specs.NeedsView.{needs_of};
+ghost use Rattle.fip_trees.specs.SoundProgram.{IsSoundProgram};
 ghost use Rattle.fip_trees.specs.TreeView as V;
 ghost use Rattle.fip_trees.specs.declared.least.Violation.{Violation};
 ghost use Rattle.cell_lower.specs.Instances.{HaveEach, AddsEach};
 ghost use Rattle.cell_lower.specs.LaidProgram.{IsAsked, IsLaidOf, IsLaidOut, laid_at};
-ghost use Rattle.cell_lower.specs.Limits.{Breaks, Says, is_ruled};
+ghost use Rattle.cell_lower.specs.LimitNotes.{HaveFewRegisters};
+ghost use Rattle.cell_lower.specs.Limits.{Breaks, Says, is_ruled, registers};
 ghost use Rattle.cell_lower.specs.Shape.{header, header_of, headers, headers_from, entry_name};
 ghost use Rattle.lower_parts.specs.lowering_relation.LoweredBodies.{function_of};
 ghost use Rattle.lower_parts.specs.lowering_relation.LoweredFunctions.{AreLowered};
@@ -80,12 +83,17 @@ fn in_phase(made: Result<Code, NoMemory>) -> Result<Code, PhaseError>
     }
 }
 
+// The code of a sound program that keeps E60.
 fn code_of(
     alloc: Global,
     program: &Program,
     needs: &Needs,
     groups: &Groups,
 ) -> Result<Code, NoMemory>
+    requires few { length program.now.instances.items ≤ MOST_INSTANCES }
+    requires few_types { length program.now.types ≤ MOST_INSTANCES }
+    requires sound { ∥ IsSoundProgram (V.program program.now) ∥₁ }
+    requires within { (v : Violation) → Breaks (V.program program.now) groups.now v → ⊥ }
     ensures types { IfOk result (λ c. c.types ≡ (V.program program.now).types) }
     ensures functions { IfOk result (λ c.
         map header c.functions.items ≡ headers groups.now (V.program program.now).instances) }
@@ -111,13 +119,14 @@ fn code_of(
 }
 
 // The functions of a program's instances.
-#[tactic(auto, using(crate::proofs::Headers::heading, lower_parts::proofs::lower_frame::Spelt::functions))]
+#[tactic(auto, using(crate::proofs::Headers::heading, crate::proofs::Headers::functions))]
 fn functions_of(
     context: &Context<'_>,
     instances: &[Instance],
     needs: &Needs,
     groups: &Groups,
 ) -> Result<Vec<Function>, NoMemory>
+    requires few { HaveFewRegisters groups.now (V.instances instances.now) }
     ensures all { IfOk result (λ fs. map header fs.items ≡ headers groups.now (V.instances instances.now)) }
     ensures codes { IfOk result (λ fs. HaveCodes (setting context.now) (V.instances instances.now) 0
         (map function_instrs fs.items)) }
@@ -146,6 +155,7 @@ fn add_function(
     groups: &Groups,
     number: usize,
 ) -> Result<(), NoMemory>
+    requires few { is_ruled instance.now.kind ≡ true → registers groups.now number ≤ MOST_REGISTERS }
     ensures added { OnOk result (map header functions.new.items ≡ map header functions.old.items
         ++ headers_from groups.now number (V.instance_of instance.now ∷ [])) }
     ensures code { OnOk result (AddsCode (setting context.now) (is_ruled instance.now.kind)
@@ -167,6 +177,7 @@ fn add_function(
 
 // The number of each instance's function; a plain one has none.
 fn numbers_of(alloc: Global, program: &Program) -> Result<Vec<Option<u32>>, NoMemory>
+    requires few { length program.now.instances.items ≤ MOST_INSTANCES }
     ensures numbered { IfOk result (λ ns. (g : ℕ) →
         joined (slice_get ns.items g) ≡ function_of (V.program program.now).instances g) }
 {
@@ -175,7 +186,7 @@ fn numbers_of(alloc: Global, program: &Program) -> Result<Vec<Option<u32>>, NoMe
     for instance in &program.instances {
         if instance.kind.is_ruled() {
             numbers.push(Some(next))?;
-            next = next.checked_add(1).ok_or(NoMemory)?;
+            next += 1;
         } else {
             numbers.push(None)?;
         }
@@ -190,6 +201,7 @@ fn function_of(
     number: usize,
     registers: usize,
 ) -> Result<Function, NoMemory>
+    requires few { registers ≤ MOST_REGISTERS }
     ensures header { IfOk result (λ f. header f ≡ header_of registers (V.instance_of instance.now)) }
     ensures code { IfOk result (λ f. IsCodeOf (setting context.now) (V.instance_of instance.now) f.instrs.items) }
     ensures small { IfOk result (λ f. IsSmallOf (setting context.now) registers (V.instance_of instance.now) f) }
@@ -209,7 +221,7 @@ fn function_of(
         params: instance.params.copy(alloc)?,
         credits,
         results: instance.results.copy(alloc)?,
-        registers: u16::try_from(registers).map_err(|_| NoMemory)?,
+        registers: registers as u16,
         instrs,
         labels,
     })

@@ -19,7 +19,7 @@ ghost use Rattle.lower_parts.specs.Marks.{MarkedFor, MarkedIf};
 ghost use Rattle.lower_parts.specs.Matches.{BeginsLaid, EndsInLaid, EndsMatchLaid, GoesLaid, JoinsLaid, StartsLaid};
 ghost use Rattle.lower_parts.specs.lower_frame.Labels.{labels};
 ghost use Rattle.lower_parts.specs.lowering_relation.Values.{is_scalar};
-ghost use Rattle.lower_parts.proofs.lowering_relation.Choices.{patterns_in};
+ghost use Rattle.lower_parts.specs.lowering_relation.Rows.{patterns_in};
 ghost use Rattle.lower_parts.specs.Writing.{setting, target_of};
 
 use crate::lowerer::Lowerer;
@@ -527,7 +527,7 @@ impl<'a> Lowerer<'a> {
     }
 
     /// The place where the clauses meet.
-    #[tactic(auto, using(lower_frame::proofs::Losing::losing))]
+    #[tactic(auto, using(crate::proofs::Parts::losing))]
     pub fn end_match(&mut self, matching: Matching<'_>, progress: Progress) -> Result<(), NoMemory>
         ensures ends { OnOk result (EndsMatch matching.entry progress.joined self.old.buffer
             self.new.frame self.new.buffer) }

@@ -1,19 +1,14 @@
 -- What lowering asks of a program so that its code is laid out, that of an accepted source gives: its expressions have
--- values and its lets binders, its constructors few fields, and what its expressions need is what was reported of them.
-use Rattle.std.proofs.Common.{◌≡◌, ◌≤◌, ◌<◌, ◌-◌, ◌+◌, ℕ, zero, suc, Bool, true, not, ◌&&◌, List, [], ◌∷◌, ◌++◌, length, map, drop, Option, Some, None, slice_get, inl, inr, refl, sym, ap, ap₂, ◌∙◌, subst, arith}
+-- values and its lets binders, and what its expressions need is what was reported of them.
+use Rattle.std.proofs.Common.{◌≡◌, ◌≤◌, ◌<◌, ◌-◌, ◌+◌, ℕ, zero, suc, Bool, true, not, ◌&&◌, List, [], ◌∷◌, ◌++◌, length, map, drop, Some, slice_get, refl, sym, ap, ap₂, ◌∙◌, subst, arith}
 use Rattle.std.proofs.lemmas.Option.{none-some, same_Some}
 use Rattle.lowering_soundness.specs.fip_language.declared.FunKind.{FunKind}
 use Rattle.lowering_soundness.specs.fip_language.declared.FunKind.TheVariants.{Fip, Fbip, Fun}
 use Rattle.lowering_soundness.specs.fip_language.declared.limits.TheConstants.{MOST_FIELDS}
-use Rattle.lowering_soundness.specs.fip_language.Every.{Among}
-use Rattle.lowering_soundness.specs.fip_language.SoundTable.{AreTypes as AreKnown}
-use Rattle.lowering_soundness.specs.fip_language.Table as T
-use Rattle.lowering_soundness.specs.fip_language.Table.{Shape, Table, shapes, constructors}
 use Rattle.lowering_soundness.specs.fip_trees.declared.needs.Need.{Need}
 use Rattle.lowering_soundness.specs.fip_trees.declared.program.Binder.{Binder}
 use Rattle.lowering_soundness.specs.fip_trees.NeedsView.{needs_of}
 use Rattle.lowering_soundness.specs.fip_trees.Sizes.{number, greater}
-use Rattle.lowering_soundness.specs.fip_trees.SoundProgram.{IsSoundProgram}
 use Rattle.lowering_soundness.specs.fip_trees.Tree.{Argument, Variable, Literal, Constructor, Arguments, NoArguments, MoreArguments, count}
 use Rattle.lowering_soundness.specs.fip_trees.Tree.{Expression, Give, Tuple, Operation, Call, Match, Nested, Block, Last, Let, Clauses, NoClauses, MoreClauses, Instance, Program}
 use Rattle.lowering_soundness.specs.type_check.Binders.{all_annotated, entries}
@@ -22,21 +17,18 @@ use Rattle.lowering_soundness.specs.type_check.Typing.{bound_by, HaveTypes, Bind
 use Rattle.lowering_soundness.specs.type_check.World as W
 use Rattle.source_safety.specs.type_safety.Formed.{FormedArgument, FormedArguments, FormedExpression, FormedBlock, FormedClauses}
 use Rattle.lowering_soundness.specs.credit_check.Needs as N
-use Rattle.lowering_soundness.specs.credit_check.Needs.{made, made_all, asked, given, takes}
+use Rattle.lowering_soundness.specs.credit_check.Needs.{made_all, asked, given, takes}
 use Rattle.lowering_soundness.specs.credit_check.Tallies.{sizes, needs, parts_needs, clauses_needs, instance_needs, all_needs, block_needs}
 use Rattle.lowering_soundness.proofs.credit_check.Amounts.{expression_at}
-use Rattle.lowering_soundness.specs.ownership_agreement.Sized.{AreSizes, IsVariable, SizedExpression, SizedBlock, SizedClauses}
+use Rattle.lowering_soundness.specs.ownership_agreement.Sized.{IsVariable, SizedExpression, SizedBlock, SizedClauses}
 use Rattle.derivation_correctness.specs.source_report.Order.{Spans, SpansBlock, SpansClauses}
-use Rattle.lowering_soundness.specs.code_rules.Types as Y
-use Rattle.lowering_soundness.specs.code_rules.Types.{fields, fields_of, is_scalar_type}
 use Rattle.lowering_soundness.specs.lowering_relation.LoweredBodies.{has_function}
 use Rattle.lowering_soundness.specs.lowering_relation.LoweredFunctions.{IsSettingOf}
 use Rattle.lowering_soundness.specs.lowering_relation.Values.{Setting}
 use Rattle.lowering_soundness.specs.lowering_relation.Matches.{variable_of}
 use Rattle.lowering_soundness.specs.lowering_relation.Uses as U
 use Rattle.lowering_soundness.specs.lowering_relation.Uses.{gives_credits}
-use Rattle.derivation_correctness.specs.cell_lower.Bodies.{ScalarsRight, Founded, FoundedAll, IsSome, FoundedIn, FoundedBlock, FoundedClauses, span, span_rest, span_clauses, HasNeeds, NeedsRest, NeedsClauses}
-use Rattle.compiler_correctness.proofs.Sharing.{in_table, scalar_in_table}
+use Rattle.lower_parts.specs.Bodies.{Founded, FoundedAll, IsSome, FoundedIn, FoundedBlock, FoundedClauses, span, span_rest, span_clauses, HasNeeds, NeedsRest, NeedsClauses}
 
 -- ---- expressions have values, and lets binders
 
@@ -99,47 +91,6 @@ module _ (p : Program) where
       block_founded (s ++ bound_by w (Some t) r) true body ts o.0 o.1 some f.0 z.1 h.1 o.3,
       clauses_founded s t cs ts o.1 m some f.1 z.2 h.2 o.4,
     )
-
--- ---- types
-
-fields_known : (tb : Table) (o : Option Shape) → ((x : Shape) → o ≡ Some x → AreKnown tb x.fields) → AreKnown tb (fields_of o)
-fields_known tb None h = tt
-fields_known tb (Some x) h = h x refl
-
-fields_few : (o : Option Shape) → ((x : Shape) → o ≡ Some x → length x.fields ≤ MOST_FIELDS) → length (fields_of o) ≤ MOST_FIELDS
-fields_few None h = omega arith
-fields_few (Some x) h = h x refl
-
-known_among : (tb : Table) (ts : List ℕ) (u : ℕ) → AreKnown tb ts → Among u ts → u ≤ length tb
-known_among tb [] u h a = absurd a
-known_among tb (t ∷ ts) u h (inl e) = subst (λ x. x ≤ length tb) (sym e) h.0
-known_among tb (t ∷ ts) u h (inr a) = known_among tb ts u h.1 a
-
-module _ (p : Program) (sound : IsSoundProgram p) where
-  type_fields : (t d : ℕ) → AreKnown p.types (fields p.types t d)
-  type_fields zero d = tt
-  type_fields (suc t) d = fields_known p.types (slice_get (shapes p.types t) d) (λ x e. sound.known t d x e)
-
-  few_fields : (t d : ℕ) → length (fields p.types t d) ≤ MOST_FIELDS
-  few_fields zero d = omega arith
-  few_fields (suc t) d = fields_few (slice_get (shapes p.types t) d) (λ x e. sound.narrow t d x e)
-
-one_bare : (ss : List Shape) → length ss ≡ 1 → fields_of (slice_get ss 0) ≡ [] → T.all_bare ss ≡ true
-one_bare [] e f = absurd (let z : ⊥ = omega (arith, e) in z)
-one_bare (x ∷ []) e f = ap (λ ts. T.no_fields ts && true) f
-one_bare (x ∷ y ∷ ss) e f = absurd (let z : ⊥ = omega (arith, e) in z)
-
-one_scalar : (tb : Table) (t : ℕ) → Y.count tb t ≡ 1 → fields tb t 0 ≡ [] → T.is_scalar tb t ≡ true
-one_scalar tb zero e f = refl
-one_scalar tb (suc t) e f = one_bare (shapes tb t) e f
-
-pub scalars_right : (p : Program) (st : Setting) → IsSoundProgram p → IsSettingOf p st → ScalarsRight st
-scalars_right p st sound so = record {
-  parts = λ t d u a. so.scalar u ∙ scalar_in_table p.types u (in_table p.types u (known_among p.types (fields p.types t d) u (type_fields p sound t d) (subst (λ tb. Among u (fields tb t d)) so.types a)))
-      ∙ ap (λ tb. is_scalar_type tb u) (sym so.types);
-  few = λ t d. subst (λ tb. length (fields tb t d) ≤ MOST_FIELDS) (sym so.types) (few_fields p sound t d);
-  atoms = λ t e f. so.scalar t ∙ one_scalar p.types t (sym (ap (λ tb. Y.count tb t) so.types) ∙ e) (sym (ap (λ tb. fields tb t 0) so.types) ∙ f);
-}
 
 -- ---- what expressions need
 
@@ -261,10 +212,3 @@ needs_ruled p Fun d e = absurd (cc)
 pub body_needs : (p : Program) (st : Setting) → IsSettingOf p st → (g : ℕ) (d : Instance) → slice_get p.instances g ≡ Some d → has_function d.kind ≡ true → NeedsRest st (drop 1 (needs_of (all_needs p p.instances) g)) d.body
 body_needs p st so g d there has =
     subst (λ ns. NeedsRest st ns d.body) (append_none (parts_needs p d.body) ∙ sym (ap (drop 1) (needs_there p p.instances g d there ∙ needs_ruled p d.kind d has))) (block_needs_of p st so [] d.body)
-
--- ---- the header
-
-pub sizes_in_range : (ks : List ℕ) → AreSizes ks → (i n : ℕ) → slice_get ks i ≡ Some n → (1 ≤ n) × (n ≤ MOST_FIELDS)
-sizes_in_range [] h i n e = absurd (none-some n e)
-sizes_in_range (k ∷ ks) h zero n e = let z = same_Some k n e in let x = h.0 in let y = h.1 in ((omega (arith, z, x)), (omega (arith, z, y)))
-sizes_in_range (k ∷ ks) h (suc i) n e = sizes_in_range ks h.2 i n e

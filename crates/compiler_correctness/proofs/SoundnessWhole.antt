@@ -33,7 +33,7 @@ use Rattle.lowering_soundness.specs.lowering_relation.Standing.{MapsStand}
 use Rattle.lowering_soundness.specs.lowering_relation.LaidFunctions.{AreLaid}
 use Rattle.lowering_soundness.proofs.Giving.{and_to}
 use Rattle.lowering_soundness.proofs.Joined.{has_one, sound_joined}
-use Rattle.derivation_correctness.specs.cell_lower.Bodies.{FoundedBlock}
+use Rattle.lower_parts.specs.Bodies.{FoundedBlock}
 use Rattle.derivation_correctness.specs.cell_lower.LaidProgram.{AskedInstance, IsAsked, IsLaidOut}
 use Rattle.derivation_correctness.specs.cell_lower.Shape.{Header}
 use Rattle.derivation_correctness.specs.cell_lower.Limits.{registers, registers_of}
@@ -42,11 +42,11 @@ use Rattle.derivation_correctness.proofs.source_report.FipCalls as F
 use Rattle.derivation_correctness.proofs.source_report.Ready.{typed_formed}
 use Rattle.source_safety.proofs.Formed.{typed_is_formed}
 use Rattle.derivation_correctness.proofs.source_report.TypedOrder.{typed_in_order}
-use Rattle.compiler_correctness.proofs.SoundTypes.{typed_bool, typed_sound}
+use Rattle.compiler_correctness.proofs.SoundTypes.{typed_bool}
 use Rattle.derivation_correctness.proofs.Few.{few_registers}
 use Rattle.derivation_correctness.proofs.Whole as D
 use Rattle.compiler_correctness.specs.Headed.{IsHeaded}
-use Rattle.compiler_correctness.proofs.Asking.{block_founded, body_needs, scalars_right, sizes_in_range}
+use Rattle.compiler_correctness.proofs.Asking.{block_founded, body_needs}
 use Rattle.compiler_correctness.proofs.Building.{block_builds, formed_at}
 use Rattle.compiler_correctness.proofs.SoundnessFunctions.{function_there, sound_tables}
 use Rattle.compiler_correctness.proofs.Worlds.{derived_plain}
@@ -176,16 +176,12 @@ module _ (source : List ℕ) (p : Program) (h : IsAccepted source p) where
       record {
         ruled = has;
         binders = formed.binders;
-        sizes = sizes_in_range d.credits sized.header;
         founded = subst (λ tb. FoundedBlock tb d.body) (sym so.types) (block_founded p (parameter_scope d) true d.body d.results (length d.params) ordered.next regular.results formed.body sized.body filled.3 ordered.body);
         needs = body_needs p st so g d there has;
       }
 
   pub is_asked : IsAsked p (all_needs p p.instances)
-  is_asked = record {
-    scalars = λ st so. scalars_right p st (typed_sound source p typed) so;
-    each = λ st so g d there has. asked_at st so g d there has;
-  }
+  is_asked = record { each = λ st so g d there has. asked_at st so g d there has }
 
   -- so its code is sound
   pub laid_out_is_sound : (c : PlainCode) → IsHeaded p c → (IsAsked p (all_needs p p.instances) → IsLaidOut p c) → IsSound c

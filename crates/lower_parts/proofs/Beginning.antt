@@ -12,13 +12,12 @@ use Rattle.lower_frame.specs.lowering_relation.Known.{Known, holding}
 use Rattle.lower_frame.specs.lowering_relation.Values.{Setting, is_scalar}
 use Rattle.lower_frame.specs.lowering_relation.LoweredFunctions.{with_credit}
 use Rattle.lower_frame.specs.lowering_relation.Spots as S
-use Rattle.lower_frame.specs.lowering_relation.Rows.{row_of}
+use Rattle.lower_frame.specs.lowering_relation.Rows.{row_of, patterns_in}
 use Rattle.lower_frame.specs.lowering_relation.Growing.{Grows}
 use Rattle.lower_frame.specs.lowering_relation.Opening.{Roomy}
 use Rattle.lower_frame.specs.lowering_relation.Entering.{with_cell}
 use Rattle.lower_frame.specs.lowering_relation.Losing.{Loses, Resumes}
 use Rattle.lower_frame.proofs.lowering_relation.Arriving.{resumes_lost}
-use Rattle.lower_frame.proofs.lowering_relation.Choices.{patterns_in}
 use Rattle.lower_frame.proofs.lowering_relation.LoweredLists.{fewer_on, barer_on}
 use Rattle.lower_parts.specs.declared.choice.Choice.{Choice}
 use Rattle.lower_frame.specs.declared.spots.Spot.{Spot}

@@ -17,10 +17,9 @@ use Rattle.lower_frame.specs.lowering_relation.Values.{Setting, is_scalar}
 use Rattle.lower_frame.specs.lowering_relation.LoweredBodies.{Target, Return, Into}
 use Rattle.lower_frame.specs.lowering_relation.Written.{Written, size, settled, Extends, HasFrom, place_of}
 use Rattle.lower_frame.specs.lowering_relation.WellMatched.{WellMatchedClauses}
-use Rattle.lower_frame.specs.lowering_relation.Rows.{row_of}
+use Rattle.lower_frame.specs.lowering_relation.Rows.{row_of, patterns_in}
 use Rattle.lower_frame.specs.lowering_relation.Spots as S
 use Rattle.lower_frame.specs.lowering_relation.Landing.{IsScene}
-use Rattle.lower_frame.proofs.lowering_relation.Choices.{patterns_in}
 use Rattle.lower_frame.proofs.lowering_relation.Placing.{extends_on, back, has_all}
 use Rattle.lower_frame.specs.lowering_relation.Describing.{held_at, kinds_of}
 use Rattle.lower_frame.specs.lowering_relation.Labels.{Reports}

@@ -11,9 +11,8 @@ use Rattle.lower_frame.specs.lowering_relation.Known.{Known}
 use Rattle.lower_frame.specs.lowering_relation.Values.{Setting}
 use Rattle.lower_frame.specs.lowering_relation.LoweredBodies as B
 use Rattle.lower_frame.specs.lowering_relation.Written.{Written, size}
-use Rattle.lower_frame.specs.lowering_relation.Rows.{row_of, rows_of}
+use Rattle.lower_frame.specs.lowering_relation.Rows.{row_of, rows_of, patterns_in}
 use Rattle.lower_frame.specs.lowering_relation.Spots as S
-use Rattle.lower_frame.proofs.lowering_relation.Choices.{patterns_in}
 use Rattle.lower_frame.proofs.lowering_relation.Placing.{one_longer}
 use Rattle.code_size.specs.Bounds.{most_for}
 use Rattle.code_size.specs.Places as P

@@ -18,9 +18,8 @@ use Rattle.lower_frame.specs.lowering_relation.Known.{Known}
 use Rattle.lower_frame.specs.lowering_relation.Values.{Setting, is_scalar}
 use Rattle.lower_frame.specs.lowering_relation.LoweredBodies.{Target, Return, Into}
 use Rattle.lower_frame.specs.lowering_relation.Written.{Written, size, Extends}
-use Rattle.lower_frame.specs.lowering_relation.Rows.{row_of}
+use Rattle.lower_frame.specs.lowering_relation.Rows.{row_of, patterns_in}
 use Rattle.lower_frame.specs.lowering_relation.Spots as S
-use Rattle.lower_frame.proofs.lowering_relation.Choices.{patterns_in}
 use Rattle.lower_frame.proofs.lowering_relation.Placing.{same_extends, extends_on, front}
 use Rattle.lower_frame.specs.lowering_relation.Describing.{held_at, kinds_of}
 use Rattle.lower_frame.specs.lowering_relation.Labels.{reported, Takes, Reports}

@@ -23,7 +23,7 @@ use Rattle.lower_frame.specs.lowering_relation.Written.{Written, size, settled, 
 use Rattle.lower_frame.specs.lowering_relation.Spots as S
 use Rattle.lower_frame.specs.lowering_relation.Landing.{Scene, Side}
 use Rattle.lower_frame.specs.lowering_relation.Entering.{entering_root}
-use Rattle.lower_frame.proofs.lowering_relation.Choices.{patterns_in}
+use Rattle.lower_frame.specs.lowering_relation.Rows.{patterns_in}
 use Rattle.lower_frame.proofs.lowering_relation.Placing.{same_extends, extends_on, added_extends, one_longer, front, back, stands, has_all}
 use Rattle.lower_frame.specs.lowering_relation.Describing.{held_at, kinds_of}
 use Rattle.lower_frame.specs.lowering_relation.Labels.{reported, Takes, Reports}

@@ -20,14 +20,14 @@ use Rattle.lower_frame.specs.lowering_relation.LoweredBodies as B
 use Rattle.lower_frame.proofs.lowering_relation.LoweredLists.{fewer_on, barer_on}
 use Rattle.lower_frame.specs.lowering_relation.Written.{Written, size, Extends, HasFrom, IsAt}
 use Rattle.lower_frame.specs.lowering_relation.Spots as S
-use Rattle.lower_frame.specs.lowering_relation.Rows.{row_of}
+use Rattle.lower_frame.specs.lowering_relation.Rows.{row_of, patterns_in}
 use Rattle.lower_frame.specs.lowering_relation.Landing.{Scene, IsScene, Good, AllGood, Lands, LeadsTo}
 use Rattle.lower_frame.specs.lowering_relation.Entering.{entering_root}
 use Rattle.lower_frame.specs.lowering_relation.Losing.{Loses, Resumes}
 use Rattle.lower_frame.specs.lowering_relation.WellMatched.{WellMatchedClauses}
 use Rattle.lower_frame.proofs.lowering_relation.Placing.{same_extends, extends_on, added_extends, front, back, stands, up_to, given_up}
 use Rattle.lower_frame.proofs.lowering_relation.Running.{reaches_same}
-use Rattle.lower_frame.proofs.lowering_relation.Choices.{patterns_in, is_choice}
+use Rattle.lower_frame.proofs.lowering_relation.Choices.{is_choice}
 use Rattle.lower_frame.proofs.lowering_relation.Arriving.{opens_entry, arrives_entry}
 use Rattle.lower_parts.specs.declared.match_state.Matching.{Matching}
 use Rattle.lower_parts.specs.declared.match_state.Progress.{Progress}

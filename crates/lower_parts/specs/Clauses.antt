@@ -20,7 +20,7 @@ use Rattle.lower_frame.specs.lowering_relation.Landing.{Side}
 use Rattle.lower_frame.specs.lowering_relation.Entering.{entering_root}
 use Rattle.lower_frame.specs.lowering_relation.Losing.{Loses, Resumes}
 use Rattle.lower_frame.specs.lowering_relation.WellMatched.{WellMatched, WellMatchedBlock, WellMatchedClauses}
-use Rattle.lowering_relation.proofs.Choices.{patterns_in}
+use Rattle.lower_frame.specs.lowering_relation.Rows.{patterns_in}
 use Rattle.lower_parts.specs.declared.choice.Choice.{Choice}
 use Rattle.lower_parts.specs.declared.match_state.Matching.{Matching}
 use Rattle.lower_parts.specs.declared.match_state.Progress.{Progress}

@@ -14,7 +14,7 @@ use Rattle.lower_frame.specs.lowering_relation.Choosing.{FewerCredits}
 use Rattle.lower_frame.specs.lowering_relation.Written.{Written, size, Extends, IsAt, added}
 use Rattle.lower_frame.specs.lowering_relation.Landing.{Side}
 use Rattle.lower_frame.specs.lowering_relation.Entering.{entering_root}
-use Rattle.lowering_relation.proofs.Choices.{patterns_in}
+use Rattle.lower_frame.specs.lowering_relation.Rows.{patterns_in}
 use Rattle.lower_frame.specs.lowering_relation.Joins.{Met}
 use Rattle.lower_frame.specs.lowering_relation.Matches.{wide}
 use Rattle.lower_frame.specs.Credits.{Accounted}

@@ -14,7 +14,7 @@ use Rattle.match_knowledge.specs.Known.{Open}
 use Rattle.lowering_relation.specs.Known.{Known}
 use Rattle.lowering_relation.specs.Choosing.{Place, place, Entry, Arrives, ArrivesIf, Chooses, IsChoice}
 use Rattle.lowering_relation.specs.Spots.{Spot, At, Spots, NoSpots, MoreSpots, register}
-use Rattle.lowering_relation.specs.Rows.{row_of, rows_of}
+use Rattle.lowering_relation.specs.Rows.{row_of, rows_of, patterns_in}
 use Rattle.lowering_relation.specs.Reading.{Holds, AllHold}
 use Rattle.lowering_relation.specs.Landing.{Scene, Lands, Good}
 
@@ -90,10 +90,6 @@ mutual
   all_unfit_match (MorePatterns p ps) (More v vs) e = both_unfit (fits (row_of p) v) (fit_all (rows_of ps) vs) (matching p v) (matching_all ps vs) e (λ f. unfits_match p v f) (λ g. all_unfit_match ps vs g)
 
 -- the clauses one after another
-
-abbrev pub patterns_in : Clauses → List Pattern
-patterns_in NoClauses = []
-patterns_in (MoreClauses q b cs) = q ∷ patterns_in cs
 
 arrives_if : (code : List Instr) (p : Place) (k : Known) (o : Option (List Binding)) (e : Entry) (other : Type 0) (bs : List Binding) → o ≡ Some bs → Arrives code p k bs e → ArrivesIf code p k o e other
 arrives_if code p k None e other bs h a = absurd (cc)

@@ -1,6 +1,7 @@
--- It serves the proofs on lowered code: patterns without names.
+-- It serves the proofs on lowered code: patterns without names, and those of the clauses of a match.
+use Rattle.std.specs.Prelude.{List, [], ◌∷◌}
 use Rattle.credit_check.specs.fip_trees.Tree.{Pattern, BinderPattern, LiteralPattern, ConstructorPattern, Patterns, NoPatterns}
-use Rattle.credit_check.specs.fip_trees.Tree.{MorePatterns}
+use Rattle.credit_check.specs.fip_trees.Tree.{MorePatterns, Clauses, NoClauses, MoreClauses}
 use Rattle.match_knowledge.specs.declared.heads.Head.TheVariants.{Number, Tag}
 use Rattle.match_knowledge.specs.Patterns as M
 
@@ -13,3 +14,8 @@ abbrev mutual
   pub rows_of : Patterns → M.Patterns
   rows_of NoPatterns = M.NoPatterns
   rows_of (MorePatterns p ps) = M.MorePatterns (row_of p) (rows_of ps)
+
+-- the patterns of clauses, one after another
+abbrev pub patterns_in : Clauses → List Pattern
+patterns_in NoClauses = []
+patterns_in (MoreClauses q b cs) = q ∷ patterns_in cs

@@ -1,5 +1,6 @@
-use Rattle.std.proofs.Common.{rules, ◌≡◌, sym, ◌∙◌, Some, slice_get}
+use Rattle.std.proofs.Common.{rules, ◌≡◌, ◌≤◌, sym, subst, ◌∙◌, Some, slice_get}
 use Rattle.std.specs.Prelude.{option_map}
+use Rattle.fip_language.specs.declared.limits.TheConstants.{MOST_REGISTERS}
 use Rattle.fip_trees.specs.declared.groups.Member.{Member}
 use Rattle.fip_trees.specs.TreeView.{instance_of}
 use Rattle.cell_lower.specs.Limits.{is_ruled}
@@ -9,6 +10,11 @@ use Rattle.cell_lower.proofs.Smalls.{small_added}
 use Rattle.cell_lower.proofs.Standing.{laid_added}
 use Rattle.lower_parts.proofs.lower_frame.Spelt.{function_pushed}
 use Rattle.cell_lower.proofs.functions.add_function.Goals as goal
+
+pub function_of-requires : goal.function_of-requires
+function_of-requires c =
+    let reported : option_map (λ (m : Member). m.registers) (slice_get c.args.groups.now c.args.number) ≡ Some c.in_ok-registers.registers = search rules in
+    record { few = subst (λ n. n ≤ MOST_REGISTERS) (registers-some (slice_get c.args.groups.now c.args.number) c.in_ok-registers.registers reported) (c.requires.few (sym c.is_ruled.ensures.ruled ∙ c.if-is_ruled.true)) }
 
 pub returns-in_ok-push-clause-small : goal.returns-in_ok-push-clause-small
 returns-in_ok-push-clause-small c =

@@ -1,8 +1,11 @@
-use Rattle.std.proofs.Common.{rules, map, ◌+◌, arith}
+use Rattle.std.proofs.Common.{rules, ◌≤◌, map, ◌+◌, arith, sym, subst}
 use Rattle.cell_lower.specs.Lowered.{function_instrs}
 use Rattle.cell_lower.specs.Shape.{header, headers}
 use Rattle.lower_parts.specs.Writing.{setting}
-use Rattle.fip_trees.specs.TreeView.{instances}
+use Rattle.fip_language.specs.declared.limits.TheConstants.{MOST_REGISTERS}
+use Rattle.fip_trees.specs.TreeView.{instance_of, instances}
+use Rattle.cell_lower.specs.Limits.{registers}
+use Rattle.lower_parts.proofs.Calling.{instance_there}
 use Rattle.lower_parts.proofs.Folding.{item}
 use Rattle.cell_lower.proofs.Programs.{codes_next, headers_next}
 use Rattle.cell_lower.specs.LaidProgram.{laid_at}
@@ -26,3 +29,9 @@ returns-clause-small c = each_end (small_at (setting c.args.context.now) c.args.
 
 pub returns-clause-laid : goal.returns-clause-laid
 returns-clause-laid c = each_end (laid_at (setting c.args.context.now) c.args.needs.now) c.args.instances.now c.loop-instance.instance-index c.loop-instance.number c.loop-instance.functions.items c.loop-instance-test.false c.loop-instance.invariant.laid
+
+pub add_function-requires : goal.add_function-requires
+add_function-requires c =
+    let at = c.loop-instance.instance-index in
+    let there = instance_there c.args.instances.now at c.instance-item.result (item c.args.instances.now at c.instance-item.result c.loop-instance-test.true c.instance-item.is) in
+    record { few = λ ruled. subst (λ n. registers c.args.groups.now n ≤ MOST_REGISTERS) (sym c.loop-instance.invariant.number) (c.requires.few at (instance_of c.instance-item.result) there ruled) }

@@ -5,4 +5,4 @@ use Rattle.cell_lower.proofs.Programs.{numbers_end}
 use Rattle.cell_lower.proofs.functions.numbers_of.Goals as goal
 
 pub returns : goal.returns
-returns c = record { numbered = λ g. numbers_end c.loop-instance.numbers.items c.deref-instance-items.result.now c.loop-instance.instance-index c.loop-instance.next c.loop-instance-test.false c.loop-instance.invariant g ∙ ap (λ x. function_of (instances x) g) c.deref-instance-items.ensures.value }
+returns c = record { numbered = λ g. numbers_end c.loop-instance.numbers.items c.deref-instance-items.result.now c.loop-instance.instance-index c.loop-instance.next c.loop-instance-test.false c.loop-instance.invariant.numbers g ∙ ap (λ x. function_of (instances x) g) c.deref-instance-items.ensures.value }

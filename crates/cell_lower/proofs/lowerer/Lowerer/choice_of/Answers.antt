@@ -2,7 +2,7 @@ use Rattle.std.proofs.Common.{refl, sym, ap, subst, ◌∙◌, ◌+◌, ◌++◌
 use Rattle.fip_trees.specs.TreeView.{Case, clause, clauses}
 use Rattle.fip_trees.proofs.TreeViews.{clause_is}
 use Rattle.lower_parts.proofs.lowering_relation.Placing.{extends_on}
-use Rattle.lower_parts.proofs.lowering_relation.Choices.{patterns_in}
+use Rattle.lower_parts.specs.lowering_relation.Rows.{patterns_in}
 use Rattle.lower_parts.specs.Clauses.{AddsPattern}
 use Rattle.lower_parts.proofs.Folding.{item}
 use Rattle.lower_parts.proofs.lower_frame.Growing.{reached_on, room_on}

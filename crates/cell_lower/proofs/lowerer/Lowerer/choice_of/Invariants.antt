@@ -1,7 +1,7 @@
 use Rattle.std.proofs.Common.{◌≡◌, drop, ◌+◌, ◌++◌, ◌∷◌, ◌&&◌, not, length}
 use Rattle.fip_trees.specs.TreeView as V
 use Rattle.lower_parts.specs.lowering_relation.Written.{Extends, size}
-use Rattle.lower_parts.proofs.lowering_relation.Choices.{patterns_in}
+use Rattle.lower_parts.specs.lowering_relation.Rows.{patterns_in}
 use Rattle.lower_parts.specs.lower_frame.Registers.{HasRoom}
 use Rattle.lower_parts.specs.lower_frame.Labels.{labels}
 use Rattle.lower_parts.specs.lower_frame.Positions.{reaching}

@@ -47,7 +47,7 @@ SUBJECTS = (
      "fip_language/RuleText fip_language/RuleNumber fip_language/RuleOrder fip_base fip_trees/Least source_report"),
     (SOURCES, "Declarations (E10 to E15, E63)", "data_types"),
     (SOURCES, "Static parameters, instances and the typed program (E20 to E23)",
-     "reached_instances static_params fip_trees"),
+     "closed_types reached_instances static_params fip_trees"),
     (SOURCES, "Types (E30 to E34)", "type_check type_safety"),
     (SOURCES, "Matches: shapes, coverage, the missing pattern (E40 to E43)",
      "match_knowledge match_cover source_report/TreeMatches source_report/MatchRules"),

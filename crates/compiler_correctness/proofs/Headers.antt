@@ -14,10 +14,10 @@ use Rattle.lowering_soundness.proofs.fip_language.Words.{every_among}
 use Rattle.lowering_soundness.specs.fip_trees.declared.groups.Member.{Member}
 use Rattle.lowering_soundness.specs.fip_trees.Tree as T
 use Rattle.lowering_soundness.specs.fip_trees.Tree.{Program}
-use Rattle.source_safety.specs.reached_instances.declared.closed.Head.TheVariants as H
-use Rattle.source_safety.specs.reached_instances.Closed as Z
-use Rattle.source_safety.specs.reached_instances.Closed.{Closed, Applied}
-use Rattle.source_safety.specs.reached_instances.Source.{Source, Instance}
+use Rattle.source_safety.specs.reached_instances.closed_types.declared.closed.Head.TheVariants as H
+use Rattle.source_safety.specs.reached_instances.closed_types.Closed as Z
+use Rattle.source_safety.specs.reached_instances.closed_types.Closed.{Closed, Applied}
+use Rattle.source_safety.specs.reached_instances.closed_types.Source.{Source, Instance}
 use Rattle.derivation_correctness.specs.static_params.FlatProgram.{Numbers, instance_if, instances_of, flat_program}
 use Rattle.derivation_correctness.specs.static_params.FlatSource.{flat_source}
 use Rattle.derivation_correctness.proofs.static_params.GoodTypes.{all_of_have}

@@ -10,10 +10,10 @@ use Rattle.lowering_soundness.specs.fip_language.Values.{Values}
 use Rattle.lowering_soundness.proofs.fip_language.Search.{slice_get_there}
 use Rattle.lowering_soundness.proofs.fip_language.Words.{map_at}
 use Rattle.lowering_soundness.specs.fip_trees.Tree.{Instance, Program}
-use Rattle.source_safety.specs.reached_instances.declared.closed.Head.TheVariants as H
-use Rattle.source_safety.specs.reached_instances.Closed as Z
-use Rattle.source_safety.specs.reached_instances.Closed.{Closed, Applied}
-use Rattle.source_safety.specs.reached_instances.Source.{Instance as Instance'}
+use Rattle.source_safety.specs.reached_instances.closed_types.declared.closed.Head.TheVariants as H
+use Rattle.source_safety.specs.reached_instances.closed_types.Closed as Z
+use Rattle.source_safety.specs.reached_instances.closed_types.Closed.{Closed, Applied}
+use Rattle.source_safety.specs.reached_instances.closed_types.Source.{Instance as Instance'}
 use Rattle.derivation_correctness.specs.static_params.FlatProgram.{flat_instance, instance_if, instances_of, flat_program}
 use Rattle.derivation_correctness.specs.static_params.FlatSource.{flat_source}
 use Rattle.derivation_correctness.proofs.static_params.GoodTypes.{IsGoodFunction}

@@ -14,12 +14,12 @@ use Rattle.source_safety.specs.fip_grammar.Grammar.{Result', FunctionParts, Decl
 use Rattle.lowering_soundness.specs.fip_trees.declared.program.Binder.{Binder}
 use Rattle.lowering_soundness.specs.fip_trees.Tree as T
 use Rattle.lowering_soundness.specs.fip_trees.Tree.{Program}
-use Rattle.source_safety.specs.reached_instances.Binders.{binders_in_pattern, binders_in_patterns, binders_in_expression, binders_in_block, binders_in_clauses}
-use Rattle.source_safety.specs.reached_instances.declared.closed.Head.TheVariants as H
-use Rattle.source_safety.specs.reached_instances.Closed as Z
-use Rattle.source_safety.specs.reached_instances.Closed.{Closed, Applied}
-use Rattle.source_safety.specs.reached_instances.Source.{Source, Instance}
-use Rattle.source_safety.specs.reached_instances.Uses.{result_types}
+use Rattle.source_safety.specs.reached_instances.closed_types.Binders.{binders_in_pattern, binders_in_patterns, binders_in_expression, binders_in_block, binders_in_clauses}
+use Rattle.source_safety.specs.reached_instances.closed_types.declared.closed.Head.TheVariants as H
+use Rattle.source_safety.specs.reached_instances.closed_types.Closed as Z
+use Rattle.source_safety.specs.reached_instances.closed_types.Closed.{Closed, Applied}
+use Rattle.source_safety.specs.reached_instances.closed_types.Source.{Source, Instance}
+use Rattle.source_safety.specs.reached_instances.closed_types.Uses.{result_types}
 use Rattle.derivation_correctness.specs.static_params.FlatProgram.{Numbers, flat_binder, flat_pattern, flat_patterns, flat_expression, flat_block, flat_clauses, flat_parameter, flat_type, credit_size, flat_instance, instance_if, instances_of, flat_program}
 use Rattle.derivation_correctness.specs.static_params.FlatSource.{flat_source}
 use Rattle.derivation_correctness.proofs.static_params.GoodTypes.{all_of_have}

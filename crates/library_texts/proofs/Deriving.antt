@@ -19,12 +19,12 @@ use Rattle.source_report.specs.fip_grammar.Limits.{IsSpelt}
 use Rattle.source_report.proofs.fip_grammar.Exact.{spelled_is_accepted}
 use Rattle.source_report.proofs.fip_grammar.Unique.{cut_once}
 use Rattle.source_report.specs.fip_trees.Tree.{Program}
-use Rattle.source_report.specs.reached_instances.declared.closed.Head.TheVariants as H
-use Rattle.source_report.specs.reached_instances.Closed.{Closed, Applied, NoClosed, MoreClosed, same_closed}
-use Rattle.source_report.specs.reached_instances.Instances.{roots, calls_from, passed_to}
-use Rattle.source_report.specs.reached_instances.Numbering.{with_all, firsts}
-use Rattle.source_report.specs.reached_instances.Source.{Source}
-use Rattle.source_report.specs.reached_instances.TypeInstances.{type_roots, parts_of}
+use Rattle.source_report.specs.reached_instances.closed_types.declared.closed.Head.TheVariants as H
+use Rattle.source_report.specs.reached_instances.closed_types.Closed.{Closed, Applied, NoClosed, MoreClosed, same_closed}
+use Rattle.source_report.specs.reached_instances.closed_types.Instances.{roots, calls_from, passed_to}
+use Rattle.source_report.specs.reached_instances.closed_types.Numbering.{with_all, firsts}
+use Rattle.source_report.specs.reached_instances.closed_types.Source.{Source}
+use Rattle.source_report.specs.reached_instances.closed_types.TypeInstances.{type_roots, parts_of}
 use Rattle.source_report.specs.static_params.Answers.{AreFew}
 use Rattle.source_report.specs.static_params.FlatProgram.{Numbers, flat_program}
 use Rattle.source_report.specs.static_params.FlatSource.{flat_source}

@@ -4,7 +4,7 @@ use Rattle.library_sources.specs.declared.finger.TheConstants.{TEXT}
 use Rattle.source_report.specs.data_types.Declarations.{declarations}
 use Rattle.source_report.specs.data_types.Types.{Node, End, More, Leaf, IsValued}
 use Rattle.source_report.specs.Report.{IsTyped, IsAccepted}
-use Rattle.source_report.specs.reached_instances.Closed.{Closed}
+use Rattle.source_report.specs.reached_instances.closed_types.Closed.{Closed}
 use Rattle.source_report.specs.static_params.FlatSource.{flat_source}
 use Rattle.library_programs.specs.FingerProgram.{finger_program}
 use Rattle.library_texts.specs.ComesTo.{ComesTo}

@@ -4,7 +4,7 @@ use Rattle.library_sources.specs.declared.rbtree.TheConstants.{TEXT}
 use Rattle.source_report.specs.data_types.Declarations.{declarations}
 use Rattle.source_report.specs.data_types.Types.{Node, End, IsValued}
 use Rattle.source_report.specs.Report.{IsTyped, IsAccepted}
-use Rattle.source_report.specs.reached_instances.Closed.{Closed, Int}
+use Rattle.source_report.specs.reached_instances.closed_types.Closed.{Closed, Int}
 use Rattle.source_report.specs.static_params.FlatSource.{flat_source}
 use Rattle.library_programs.specs.RedBlackProgram.{rbtree_program}
 use Rattle.library_texts.specs.ComesTo.{ComesTo}

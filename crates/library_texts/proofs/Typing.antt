@@ -16,8 +16,8 @@ use Rattle.source_report.specs.data_types.Answers.{HasNoValue, Violates}
 use Rattle.source_report.specs.data_types.Declarations.{declarations}
 use Rattle.source_report.specs.data_types.Faults.{written_violations}
 use Rattle.source_report.specs.data_types.Types.{IsValued}
-use Rattle.source_report.specs.reached_instances.Closed.{Closed}
-use Rattle.source_report.specs.reached_instances.Instances.{roots, all_faults}
+use Rattle.source_report.specs.reached_instances.closed_types.Closed.{Closed}
+use Rattle.source_report.specs.reached_instances.closed_types.Instances.{roots, all_faults}
 use Rattle.source_report.specs.static_params.FlatProgram.{flat_program}
 use Rattle.source_report.specs.static_params.FlatSource.{flat_source}
 use Rattle.source_report.specs.type_check.Faults.{type_faults}

@@ -25,14 +25,14 @@ use Rattle.fip_trees.specs.TreeView.{program}
 use Rattle.data_types.specs.Answers as Declaring
 use Rattle.data_types.specs.DeclaredProgram.{AreDeclared}
 use Rattle.static_params.specs.Answers as Statics
-use Rattle.source_report.specs.reached_instances.Closed.{Closed}
+use Rattle.source_report.specs.reached_instances.closed_types.Closed.{Closed}
 use Rattle.static_params.specs.FlatProgram.{Numbers, flat_program}
 use Rattle.static_params.specs.FlatSource.{flat_source}
-use Rattle.source_report.specs.reached_instances.Instances.{roots, calls_from, all_faults, passed_to, ArePassed}
-use Rattle.source_report.specs.reached_instances.Numbering.{AreMore}
-use Rattle.source_report.specs.reached_instances.Source.{Source}
+use Rattle.source_report.specs.reached_instances.closed_types.Instances.{roots, calls_from, all_faults, passed_to, ArePassed}
+use Rattle.source_report.specs.reached_instances.closed_types.Numbering.{AreMore}
+use Rattle.source_report.specs.reached_instances.closed_types.Source.{Source}
 use Rattle.source_report.specs.reached_instances.SourceView as s
-use Rattle.source_report.specs.reached_instances.TypeInstances.{type_roots, parts_of, AreTypes}
+use Rattle.source_report.specs.reached_instances.closed_types.TypeInstances.{type_roots, parts_of, AreTypes}
 use Rattle.static_params.proofs.CoreSources.{source_is}
 use Rattle.type_check.proofs.Exact.{typed_exactly}
 use Rattle.type_check.specs.Answers as Types

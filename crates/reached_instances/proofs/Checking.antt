@@ -1,15 +1,15 @@
 -- Whether functions that are passed fit, where it is known what is given beside them, and where it isn't.
 use Rattle.std.proofs.Common.{◌≡◌, ◌+◌, ◌<◌, ℕ, Bool, false, Option, Some, None, List, [], length, Vec, Global, ap, sym, subst, ◌∙◌}
 use Rattle.fip_base.specs.fip_language.Core.{Writtens}
-use Rattle.reached_instances.specs.declared.closed.Head.{Head}
-use Rattle.reached_instances.specs.declared.closed.Head.TheVariants as H
+use Rattle.closed_types.specs.declared.closed.Head.{Head}
+use Rattle.closed_types.specs.declared.closed.Head.TheVariants as H
 use Rattle.reached_instances.specs.declared.source.Here.{Here}
-use Rattle.reached_instances.specs.Closed.{Closed, Closeds, Applied, arguments_of, head_of}
-use Rattle.reached_instances.specs.SharedTrees.{Branch, tree_at, trees, trees_at}
-use Rattle.reached_instances.specs.Source.{Instance, Source, statics_at}
+use Rattle.closed_types.specs.Closed.{Closed, Closeds, Applied, arguments_of, head_of}
+use Rattle.closed_types.specs.SharedTrees.{Branch, tree_at, trees, trees_at}
+use Rattle.closed_types.specs.Source.{Instance, Source, statics_at}
 use Rattle.reached_instances.specs.SourceView.{IsAsked, IsFunctionAt, IsHere, instance}
-use Rattle.reached_instances.specs.Uses.{all_fit, fit_if_known, misfits, misfits_if_known, types_given}
-use Rattle.reached_instances.specs.UsesView.{trees_of}
+use Rattle.closed_types.specs.Uses.{all_fit, fit_if_known, misfits, misfits_if_known, types_given}
+use Rattle.closed_types.specs.UsesView.{trees_of}
 
 function_or : Option Head → ℕ
 function_or None = 0

@@ -14,15 +14,15 @@ use Rattle.fip_trees.specs.Names.{meaning}
 use Rattle.fip_trees.proofs.Leasts.{after-append}
 use Rattle.fip_trees.specs.declared.least.Violation.{Violation}
 use Rattle.reached_instances.specs.declared.source.Here.{Here}
-use Rattle.reached_instances.specs.Closed.{Closed, Closeds, NoClosed, MoreClosed}
-use Rattle.reached_instances.specs.Source.{Source, Instance, given_type}
+use Rattle.closed_types.specs.Closed.{Closed, Closeds, NoClosed, MoreClosed}
+use Rattle.closed_types.specs.Source.{Source, Instance, given_type}
 use Rattle.reached_instances.specs.SourceView.{instance, IsReady}
 use Rattle.reached_instances.specs.declared.source.Source as D
-use Rattle.reached_instances.specs.Uses.{both, closed_type, closed_types, count, named_type, type_faults, types_faults, type_name_faults}
-use Rattle.reached_instances.specs.SharedTrees.{Branch, tree_at, trees, trees_at, all_at, Grows, AreWithin, NoneOrWithin}
-use Rattle.reached_instances.specs.UsesView.{IsPlaceOf, ArePlacesOf, trees_of, with_place}
-use Rattle.reached_instances.proofs.Growing.{within_more, trees_kept}
-use Rattle.reached_instances.proofs.Lists.{drop_item}
+use Rattle.closed_types.specs.Uses.{both, closed_type, closed_types, count, named_type, type_faults, types_faults, type_name_faults}
+use Rattle.closed_types.specs.SharedTrees.{Branch, tree_at, trees, trees_at, all_at, Grows, AreWithin, NoneOrWithin}
+use Rattle.closed_types.specs.UsesView.{IsPlaceOf, ArePlacesOf, trees_of, with_place}
+use Rattle.closed_types.proofs.Growing.{within_more, trees_kept}
+use Rattle.closed_types.proofs.Lists.{drop_item}
 use Rattle.fip_base.proofs.fip_language.Facts.{and_false, and_true}
 
 pub instance_kept : (here : Here) (bs cs : List Branch) → Grows bs cs → AreWithin bs here.given.items → instance (trees cs) here ≡ instance (trees bs) here

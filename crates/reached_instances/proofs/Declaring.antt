@@ -5,14 +5,14 @@ use Rattle.fip_base.specs.CoreView as V
 use Rattle.fip_base.specs.declared.core_form.Written.{Written}
 use Rattle.fip_base.specs.declared.core_form.SignatureParameter as DS
 use Rattle.fip_base.specs.declared.core_form.Parameter as DP
-use Rattle.reached_instances.specs.Closed.{Closed, same_closed}
-use Rattle.reached_instances.specs.Source.{Source, Instance, is_scalar}
-use Rattle.reached_instances.specs.SharedTrees.{Branch, Grows, AreWithin, all_at, tree_at, trees}
-use Rattle.reached_instances.specs.Uses.{declared_type, same_mark, same_parameters}
-use Rattle.reached_instances.specs.UsesView.{is_same_parameter}
+use Rattle.closed_types.specs.Closed.{Closed, same_closed}
+use Rattle.closed_types.specs.Source.{Source, Instance, is_scalar}
+use Rattle.closed_types.specs.SharedTrees.{Branch, Grows, AreWithin, all_at, tree_at, trees}
+use Rattle.closed_types.specs.Uses.{declared_type, same_mark, same_parameters}
+use Rattle.closed_types.specs.UsesView.{is_same_parameter}
 use Rattle.reached_instances.proofs.Closing.{at_append, kept_all}
-use Rattle.reached_instances.proofs.Growing.{within_more}
-use Rattle.reached_instances.proofs.Lists.{drop_item}
+use Rattle.closed_types.proofs.Growing.{within_more}
+use Rattle.closed_types.proofs.Lists.{drop_item}
 pub use Rattle.fip_base.proofs.fip_language.Facts.{map_length}
 
 pub record AreDeclared (s : Source) (h : Instance) (list : List Written) (bs : List Branch) (is : List ℕ) (k : ℕ) : Type 0 where

@@ -4,11 +4,11 @@ use Rattle.fip_trees.specs.declared.decls.FieldType.{FieldType}
 use Rattle.fip_trees.specs.declared.decls.FieldType.TheOpen as F
 use Rattle.fip_trees.specs.declared.decls.FieldType.TheVariants as FV
 use Rattle.fip_trees.specs.declared.decls.FieldType.TheFolds.{fold-roll-FieldType}
-use Rattle.reached_instances.specs.Closed.{Closed, Closeds, Int, MoreClosed, row}
-use Rattle.reached_instances.specs.Source.{Ty, Plain, Parameter, Of}
-use Rattle.reached_instances.specs.SharedTrees.{AreWithin, Branch, all_at, tree_at, trees_at}
-use Rattle.reached_instances.specs.SourceView.{ty, ty_step, tys_of}
-use Rattle.reached_instances.specs.TypeInstances.{field_type, field_types, pick, unless_int, unless_ints}
+use Rattle.closed_types.specs.Closed.{Closed, Closeds, Int, MoreClosed, row}
+use Rattle.closed_types.specs.Source.{Ty, Plain, Parameter, Of}
+use Rattle.closed_types.specs.SharedTrees.{AreWithin, Branch, all_at, tree_at, trees_at}
+use Rattle.closed_types.specs.DeclaredView.{ty, ty_step, tys_of}
+use Rattle.closed_types.specs.TypeInstances.{field_type, field_types, pick, unless_int, unless_ints}
 use Rattle.fip_base.specs.fip_language.Mentions.{all_of}
 
 -- ---- the view of a field's type

@@ -2,23 +2,23 @@
 use Rattle.std.proofs.Common.{◌≡◌, ℕ, suc, ◌+◌, ◌<◌, ◌⊎◌, inl, inr, Bool, true, false, ◌&&◌, List, [], ◌∷◌, length, map, get_or, Option, refl, ap, sym, subst, ◌∙◌, nat_eq}
 use Rattle.std.specs.Prelude.{bytes_eq}
 use Rattle.fip_base.specs.fip_language.Core.{Written, Result, Static, SignatureParameter, Parameter}
-use Rattle.reached_instances.specs.declared.closed.Head.TheVariants as H
-use Rattle.reached_instances.specs.declared.closed.Passing.{Passing}
+use Rattle.closed_types.specs.declared.closed.Head.TheVariants as H
+use Rattle.closed_types.specs.declared.closed.Passing.{Passing}
 use Rattle.reached_instances.specs.declared.source.Here.{Here}
 use Rattle.reached_instances.specs.declared.source.Source as D
-use Rattle.reached_instances.specs.Closed.{Closed, Closeds, Int, Applied, same_closed}
-use Rattle.reached_instances.specs.Source.{Source, Instance}
+use Rattle.closed_types.specs.Closed.{Closed, Closeds, Int, Applied, same_closed}
+use Rattle.closed_types.specs.Source.{Source, Instance}
 use Rattle.reached_instances.specs.SourceView.{source, instance, IsAsked, IsReady}
-use Rattle.reached_instances.specs.SharedTrees.{AreShared, Branch, Kept, IsNoted, Grows, AreWithin, all_at, tree_at, trees}
+use Rattle.closed_types.specs.SharedTrees.{AreShared, Branch, Kept, IsNoted, Grows, AreWithin, all_at, tree_at, trees}
 use Rattle.reached_instances.specs.KnownFits.{AreKnown, IsKnown, IsRight, fits_there, fits_parameter}
-use Rattle.reached_instances.specs.Uses.{declared_type, fits, same_parameters, same_results}
-use Rattle.reached_instances.specs.UsesView.{AsksFor, is_same_parameter}
+use Rattle.closed_types.specs.Uses.{declared_type, fits, same_parameters, same_results}
+use Rattle.closed_types.specs.UsesView.{AsksFor, is_same_parameter}
 use Rattle.std.proofs.lemmas.Bool.{eqb-true, eqb-false}
-use Rattle.reached_instances.specs.Numbering.{Differ}
-use Rattle.reached_instances.proofs.ClosedTrees.{closed_exact}
-use Rattle.reached_instances.proofs.SharedTrees.{same_place}
-use Rattle.reached_instances.proofs.Growing.{more_within, within_more, trees_kept, as_trees}
-use Rattle.reached_instances.proofs.Using.{tree_kept}
+use Rattle.closed_types.specs.Numbering.{Differ}
+use Rattle.closed_types.proofs.ClosedTrees.{closed_exact}
+use Rattle.closed_types.proofs.SharedTrees.{same_place}
+use Rattle.closed_types.proofs.Growing.{more_within, within_more, trees_kept, as_trees}
+use Rattle.closed_types.proofs.Using.{tree_kept}
 use Rattle.std.proofs.lemmas.Bool.{ne_eqb}
 
 -- ---- what is known stays known

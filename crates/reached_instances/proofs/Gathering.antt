@@ -2,12 +2,12 @@
 use Rattle.std.proofs.Common.{◌≡◌, ℕ, ◌+◌, ◌<◌, ◌≤◌, true, List, [], ◌∷◌, ◌++◌, length, drop, get_or, Option, Some, None, option_map, Vec, Global, refl, ap, sym, subst, ◌∙◌, arith, drop_of_length-le}
 use Rattle.fip_base.specs.fip_language.Core.{Static, TypeParameter, FunctionParameter}
 use Rattle.fip_base.proofs.fip_language.Plain.{every_append}
-use Rattle.reached_instances.specs.Closed.{Closed, Int, NoClosed}
-use Rattle.reached_instances.specs.SharedTrees.{Branch, AreWithin, NoneOrWithin, all_at, tree_at}
-use Rattle.reached_instances.specs.Uses.{all_given, both, types_given}
-use Rattle.reached_instances.specs.UsesView.{AreAllWithin, all_trees, trees_of, type_or_int}
+use Rattle.closed_types.specs.Closed.{Closed, Int, NoClosed}
+use Rattle.closed_types.specs.SharedTrees.{Branch, AreWithin, NoneOrWithin, all_at, tree_at}
+use Rattle.closed_types.specs.Uses.{all_given, both, types_given}
+use Rattle.closed_types.specs.UsesView.{AreAllWithin, all_trees, trees_of, type_or_int}
 use Rattle.reached_instances.proofs.Closing.{joined, joined_some, joined_none, onto_row, at_append}
-use Rattle.reached_instances.proofs.Lists.{drop_item}
+use Rattle.closed_types.proofs.Lists.{drop_item}
 
 -- ---- all of them
 

@@ -6,18 +6,13 @@ use Rattle.fip_base.specs.declared.core_form.Static.{Static}
 use Rattle.fip_base.specs.declared.core_form.Static.TheVariants as S
 use Rattle.fip_base.specs.declared.core_form.SignatureParameter.{SignatureParameter}
 use Rattle.fip_base.specs.declared.core_form.ResultType.{ResultType}
-use Rattle.reached_instances.specs.Closed.{Closed, Closeds, closed_at}
-use Rattle.reached_instances.specs.SharedTrees.{Branch, AreWithin, NoneOrWithin, tree_at, trees_at}
-use Rattle.reached_instances.specs.Source.{Source, declared_at, if_type, if_function, type_at, function_at, statics_or_none, static_places}
+use Rattle.closed_types.specs.Closed.{Closed, Closeds, closed_at}
+use Rattle.closed_types.specs.SharedTrees.{Branch, AreWithin, NoneOrWithin, tree_at, trees_at}
+use Rattle.closed_types.specs.Source.{if_type, if_function, type_at, function_at, statics_or_none, static_places}
 use Rattle.reached_instances.specs.SourceView.{function_source, AreNamed}
 use Rattle.reached_instances.specs.declared.source.FunctionSource.{FunctionSource}
 use Rattle.fip_trees.specs.Names.{meaning}
-pub use Rattle.fip_base.proofs.fip_language.Facts.{get_map_past as at_past}
-
-pub at_there : {A B : Type 0} (f : A → B) (xs : List A) (k : ℕ) (x : A) → k < length xs → x ≡ get_or xs k x → slice_get (map f xs) k ≡ Some (f x)
-at_there f [] k x l h = absurd (omega (arith, l))
-at_there f (y ∷ xs) zero x l h = ap (λ z. Some (f z)) (sym h)
-at_there f (y ∷ xs) (suc k) x l h = at_there f xs k x (omega (arith, l)) h
+use Rattle.closed_types.proofs.Declarations.{at_there, at_past}
 
 pub tree_given : (ts : List Closed) (is : List ℕ) (k : ℕ) → closed_at (trees_at ts is) k ≡ option_map (tree_at ts) (slice_get is k)
 tree_given ts [] k = refl
@@ -92,8 +87,3 @@ within_given bs is k o e w = subst (NoneOrWithin bs) (sym e) (by is k w)
     by [] k w = tt
     by (i ∷ is) zero w = w.0
     by (i ∷ is) (suc k) w = by is k w.1
-
--- a data type by its number
-pub declared_by : (s : Source) (n : ℕ) → (n ≡ 0 → ⊥) → declared_at s n ≡ slice_get s.types (n - 1)
-declared_by s zero h = absurd (h refl)
-declared_by s (suc n) h = ap (slice_get s.types) (let e : n ≡ suc n - 1 = omega arith in e)

@@ -4,14 +4,15 @@ use Rattle.std.proofs.lemmas.List.{reverse-append}
 use Rattle.fip_base.specs.CoreView.{block, function, parameter, written}
 use Rattle.reached_instances.specs.declared.source.Source as D
 use Rattle.reached_instances.specs.declared.source.FunctionSource.{FunctionSource}
-use Rattle.reached_instances.specs.Binders.{binders_in, binders_in_block}
-use Rattle.reached_instances.specs.Instances.{calls}
-use Rattle.reached_instances.specs.MentionsView.{Heard, heard, hears_block, nothing, use_of}
-use Rattle.reached_instances.specs.SourceView.{IsLookedUp, declared_with, function_source, source}
-use Rattle.reached_instances.specs.TypeInstances.{annotations_in_block, numbers_named, written_in_header}
+use Rattle.closed_types.specs.Binders.{binders_in, binders_in_block}
+use Rattle.closed_types.specs.Instances.{calls}
+use Rattle.closed_types.specs.MentionsView.{Heard, heard, hears_block, nothing, use_of}
+use Rattle.reached_instances.specs.SourceView.{IsLookedUp, function_source, source}
+use Rattle.closed_types.specs.DeclaredView.{declared_with}
+use Rattle.closed_types.specs.TypeInstances.{annotations_in_block, numbers_named, written_in_header}
 use Rattle.reached_instances.proofs.Declaring.{map_length}
-use Rattle.reached_instances.proofs.GivenStatics.{at_there}
-use Rattle.reached_instances.proofs.Heard.{block_annotations, block_binders, block_named, block_sites}
+use Rattle.closed_types.proofs.Declarations.{at_there}
+use Rattle.closed_types.proofs.Heard.{block_annotations, block_binders, block_named, block_sites}
 use Rattle.reached_instances.proofs.Putting.{every_there}
 
 twice : {A : Type 0} (xs : List A) → reverse (reverse xs) ≡ xs

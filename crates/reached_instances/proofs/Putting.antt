@@ -5,18 +5,18 @@ use Rattle.std.proofs.lemmas.Bool.{ne_eqb}
 use Rattle.fip_base.specs.fip_language.Every.{Every}
 use Rattle.fip_base.specs.fip_language.Mentions.{all_of}
 use Rattle.fip_base.proofs.fip_language.Plain.{every_append}
-use Rattle.reached_instances.specs.Closed.{Closed, Int}
-use Rattle.reached_instances.specs.PutView.{Put, with_unless_int}
-use Rattle.reached_instances.specs.SharedTrees.{AreWithin, Branch, Grows, Kept, all_at, tree_at, tree_of, trees, with_branches}
-use Rattle.reached_instances.specs.TypeInstances.{unless_int}
+use Rattle.closed_types.specs.Closed.{Closed, Int}
+use Rattle.closed_types.specs.PutView.{Put, with_unless_int}
+use Rattle.closed_types.specs.SharedTrees.{AreWithin, Branch, Grows, Kept, all_at, tree_at, tree_of, trees, with_branches}
+use Rattle.closed_types.specs.TypeInstances.{unless_int}
 use Rattle.reached_instances.proofs.Closing.{at_append, kept_all}
-use Rattle.reached_instances.proofs.Growing.{grows_same, grows_more, within_more}
-use Rattle.reached_instances.proofs.Lists.{drop_item}
-use Rattle.reached_instances.proofs.SharedAt.{int_first}
-use Rattle.reached_instances.proofs.SharedTrees.{so_many}
+use Rattle.closed_types.proofs.Growing.{grows_same, grows_more, within_more}
+use Rattle.closed_types.proofs.Lists.{drop_item}
+use Rattle.closed_types.proofs.SharedAt.{int_first}
+use Rattle.closed_types.proofs.SharedTrees.{so_many}
 pub use Rattle.fip_base.proofs.fip_language.Facts.{map_map, take_past}
-use Rattle.reached_instances.proofs.Growing.{length_append as length_after}
-use Rattle.reached_instances.proofs.Heard.{all_of_append}
+use Rattle.closed_types.proofs.Growing.{length_append as length_after}
+use Rattle.closed_types.proofs.Heard.{all_of_append}
 
 -- ---- what is put
 

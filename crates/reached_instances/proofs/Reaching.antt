@@ -1,19 +1,19 @@
 -- What instances call, one after another.
 use Rattle.std.proofs.Common.{◌≡◌, ℕ, suc, ◌+◌, ◌<◌, ◌≤◌, List, [], ◌∷◌, ◌++◌, length, map, drop, get_or, Option, Some, None, option_map, refl, ap, sym, subst, ◌∙◌, arith, append_assoc, append-nil, drop_of_length-le}
 use Rattle.fip_base.specs.fip_language.Core.{Function}
-use Rattle.reached_instances.specs.declared.mentions.CallSite.{CallSite}
-use Rattle.reached_instances.specs.declared.closed.Head.TheVariants as H
-use Rattle.reached_instances.specs.Closed.{Closed, Closeds, Int, Applied}
-use Rattle.reached_instances.specs.Source.{Source, Instance}
-use Rattle.reached_instances.specs.Instances.{all_reached, calls_from, faults_of, if_there, root_if, roots_from}
-use Rattle.reached_instances.specs.MentionsView.{use_of}
-use Rattle.reached_instances.specs.PutView.{Put}
-use Rattle.reached_instances.specs.SharedTrees.{Branch, Grows, AreWithin, Kept, all_at, tree_at, trees}
-use Rattle.reached_instances.specs.Uses.{closed_function}
-use Rattle.reached_instances.specs.UsesView.{IsPlaceOf, with_place}
+use Rattle.closed_types.specs.declared.mentions.CallSite.{CallSite}
+use Rattle.closed_types.specs.declared.closed.Head.TheVariants as H
+use Rattle.closed_types.specs.Closed.{Closed, Closeds, Int, Applied}
+use Rattle.closed_types.specs.Source.{Source, Instance}
+use Rattle.closed_types.specs.Instances.{all_reached, calls_from, faults_of, if_there, root_if, roots_from}
+use Rattle.closed_types.specs.MentionsView.{use_of}
+use Rattle.closed_types.specs.PutView.{Put}
+use Rattle.closed_types.specs.SharedTrees.{Branch, Grows, AreWithin, Kept, all_at, tree_at, trees}
+use Rattle.closed_types.specs.Uses.{closed_function}
+use Rattle.closed_types.specs.UsesView.{IsPlaceOf, with_place}
 use Rattle.reached_instances.proofs.Closing.{at_append, kept_all, with_within}
-use Rattle.reached_instances.proofs.Growing.{within_more}
-use Rattle.reached_instances.proofs.Lists.{drop_item}
+use Rattle.closed_types.proofs.Growing.{within_more}
+use Rattle.closed_types.proofs.Lists.{drop_item}
 
 -- ---- the uses of a body
 

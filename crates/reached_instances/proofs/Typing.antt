@@ -3,23 +3,23 @@ use Rattle.std.proofs.Common.{◌≡◌, ℕ, ◌<◌, List, [], ◌∷◌, ◌+
 use Rattle.fip_base.specs.fip_language.Core.{Written}
 use Rattle.fip_base.specs.fip_language.Mentions.{all_of}
 use Rattle.fip_base.specs.CoreView.{written}
-use Rattle.reached_instances.specs.declared.closed.Head.TheVariants as H
-use Rattle.reached_instances.specs.declared.closed.Head.{Head}
+use Rattle.closed_types.specs.declared.closed.Head.TheVariants as H
+use Rattle.closed_types.specs.declared.closed.Head.{Head}
 use Rattle.reached_instances.specs.declared.source.Source as D
 use Rattle.reached_instances.specs.declared.source.Here.{Here}
 use Rattle.reached_instances.specs.declared.source.FunctionSource.{FunctionSource}
-use Rattle.reached_instances.specs.Closed.{Closed, Closeds, Int, Applied, NoClosed, MoreClosed, arguments_of, head_of}
-use Rattle.reached_instances.specs.Instances.{functions_among, passed_to}
+use Rattle.closed_types.specs.Closed.{Closed, Closeds, Int, Applied, NoClosed, MoreClosed, arguments_of, head_of}
+use Rattle.closed_types.specs.Instances.{functions_among, passed_to}
 use Rattle.reached_instances.specs.KnownFits.{AreRoots}
-use Rattle.reached_instances.specs.PutView.{Put}
-use Rattle.reached_instances.specs.SharedTrees.{Grows, Kept, tree_at, trees, trees_at}
-use Rattle.reached_instances.specs.Source.{Source, Instance, declared_at}
+use Rattle.closed_types.specs.PutView.{Put}
+use Rattle.closed_types.specs.SharedTrees.{Grows, Kept, tree_at, trees, trees_at}
+use Rattle.closed_types.specs.Source.{Source, Instance, declared_at}
 use Rattle.reached_instances.specs.SourceView.{IsReady, function_source, instance, source}
-use Rattle.reached_instances.specs.TypeInstances.{annotations_in_block, fields_of, numbers_named, parts_of, unless_ints, types_among, types_given, types_in, types_of_instance, types_written, written_in_header}
+use Rattle.closed_types.specs.TypeInstances.{annotations_in_block, fields_of, numbers_named, parts_of, unless_ints, types_among, types_given, types_in, types_of_instance, types_written, written_in_header}
 use Rattle.reached_instances.proofs.Closing.{instance_kept}
 use Rattle.reached_instances.proofs.Fitting.{right_kept}
-use Rattle.reached_instances.proofs.GivenStatics.{at_there}
-use Rattle.reached_instances.proofs.Growing.{within_more}
+use Rattle.closed_types.proofs.Declarations.{at_there}
+use Rattle.closed_types.proofs.Growing.{within_more}
 use Rattle.reached_instances.proofs.Mentioned.{annotations_there, header_there, named_there}
 use Rattle.reached_instances.proofs.Putting.{put_as, put_more}
 

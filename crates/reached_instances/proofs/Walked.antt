@@ -3,19 +3,19 @@ use Rattle.std.proofs.Common.{◌≡◌, ℕ, zero, suc, ◌+◌, ◌<◌, ◌�
 use Rattle.std.specs.List.{list_any}
 use Rattle.std.proofs.lemmas.Bool.{eqb-true, eqb-false}
 use Rattle.std.proofs.lemmas.List.{get_or_append_left}
-use Rattle.reached_instances.specs.Closed.{Closed, Int, same_closed}
+use Rattle.closed_types.specs.Closed.{Closed, Int, same_closed}
 use Rattle.fip_base.specs.fip_language.Every.{Every}
 use Rattle.fip_base.proofs.fip_language.Plain.{every_append}
-use Rattle.reached_instances.specs.Numbering.{with_all, firsts, AreNumbered, AreMore, numbered_of}
-use Rattle.reached_instances.specs.SharedTrees.{Branch, trees, all_at, Grows, AreWithin, AreShared}
-use Rattle.reached_instances.specs.Numbering.{with_new, Differ}
+use Rattle.closed_types.specs.Numbering.{with_all, firsts, AreNumbered, AreMore, numbered_of}
+use Rattle.closed_types.specs.SharedTrees.{Branch, trees, all_at, Grows, AreWithin, AreShared}
+use Rattle.closed_types.specs.Numbering.{with_new, Differ}
 use Rattle.fip_trees.specs.Least.{after}
 use Rattle.fip_trees.specs.declared.least.Violation.{Violation}
-use Rattle.reached_instances.proofs.ClosedTrees.{closed_exact}
-use Rattle.reached_instances.proofs.Numbered.{adds, IsWalk, walk_starts, walk_goes, walk_ends, walk_many}
-use Rattle.reached_instances.proofs.Gathered.{Gathers, gathers_goes, gathers_ends}
-use Rattle.reached_instances.proofs.SharedTrees.{same_place}
-use Rattle.reached_instances.proofs.Growing.{as_trees, within_more}
+use Rattle.closed_types.proofs.ClosedTrees.{closed_exact}
+use Rattle.closed_types.proofs.Numbered.{adds, IsWalk, walk_starts, walk_goes, walk_ends, walk_many}
+use Rattle.closed_types.proofs.Gathered.{Gathers, gathers_goes, gathers_ends}
+use Rattle.closed_types.proofs.SharedTrees.{same_place}
+use Rattle.closed_types.proofs.Growing.{as_trees, within_more}
 use Rattle.reached_instances.proofs.Fitting.{same_place_by as same_by}
 pub use Rattle.reached_instances.proofs.Closing.{at_append}
 

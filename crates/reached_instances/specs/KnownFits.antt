@@ -1,14 +1,14 @@
 -- For the contracts of the code alone: which functions are known to fit a signature, each with whether it does.
 use Rattle.std.specs.Prelude.{◌≡◌, ℕ, ◌+◌, ◌<◌, Bool, true, List, Option, Some, None, slice_get, length}
 use Rattle.fip_base.specs.fip_language.Core.{Static}
-use Rattle.reached_instances.specs.declared.closed.Head.TheVariants as H
-use Rattle.reached_instances.specs.declared.closed.Passing.{Passing}
+use Rattle.closed_types.specs.declared.closed.Head.TheVariants as H
+use Rattle.closed_types.specs.declared.closed.Passing.{Passing}
 use Rattle.reached_instances.specs.declared.source.Source as D
-use Rattle.reached_instances.specs.Closed.{Closed, Int, Applied}
-use Rattle.reached_instances.specs.Source.{Source, Instance, statics_at}
+use Rattle.closed_types.specs.Closed.{Closed, Int, Applied}
+use Rattle.closed_types.specs.Source.{Source, Instance, statics_at}
 use Rattle.reached_instances.specs.SourceView.{source, IsLookedUp}
-use Rattle.reached_instances.specs.SharedTrees.{Kept, IsNoted, Branch, tree_at, trees, AreWithin}
-use Rattle.reached_instances.specs.Uses.{static_fits}
+use Rattle.closed_types.specs.SharedTrees.{Kept, IsNoted, Branch, tree_at, trees, AreWithin}
+use Rattle.closed_types.specs.Uses.{static_fits}
 
 abbrev pub fits_parameter : Source → Instance → Option Static → Closed → Bool
 fits_parameter s there None c = true

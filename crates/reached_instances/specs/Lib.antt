@@ -1,14 +1,3 @@
-pub mod Closed
-pub mod Source
-pub mod Uses
-pub mod Numbering
-pub mod Instances
-pub mod TypeInstances
-pub mod Binders
-pub mod SharedTrees
-pub mod BranchView
-pub mod MentionsView
 pub mod SourceView
-pub mod UsesView
 pub mod KnownFits
-pub mod PutView
+pub use Rattle.closed_types.specs as closed_types

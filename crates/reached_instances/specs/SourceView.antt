@@ -1,51 +1,25 @@
 -- What the values of the code stand for.
-use Rattle.std.specs.Prelude.{◌≡◌, ℕ, ◌+◌, ◌<◌, length, List, [], ◌∷◌, map, Option, Some, None}
+use Rattle.std.specs.Prelude.{◌≡◌, ℕ, ◌+◌, ◌<◌, length, List, [], map, Option, Some, None}
 use Rattle.fip_base.specs.fip_language.Core.{Function}
 use Rattle.fip_base.specs.fip_language.Every.{Every}
 use Rattle.fip_base.specs.CoreView.{block, function, static, written}
 use Rattle.fip_base.specs.declared.core_form.Core.{Core}
-use Rattle.fip_trees.specs.declared.decls.FieldType.{FieldType}
-use Rattle.fip_trees.specs.declared.decls.FieldType.TheOpen as T
-use Rattle.fip_trees.specs.declared.decls.FieldType.TheFolds.{fold-FieldType}
-use Rattle.fip_trees.specs.declared.decls.DeclaredConstructor.{DeclaredConstructor}
-use Rattle.fip_trees.specs.declared.decls.DeclaredType.{DeclaredType}
 use Rattle.fip_trees.specs.declared.decls.Decls.{Decls}
 use Rattle.reached_instances.specs.declared.source.Source as D
 use Rattle.reached_instances.specs.declared.source.FunctionSource.{FunctionSource}
 use Rattle.reached_instances.specs.declared.source.Here.{Here}
-use Rattle.reached_instances.specs.declared.closed.Head.TheVariants as H
-use Rattle.reached_instances.specs.Closed.{Closed, Closeds, Applied}
-use Rattle.reached_instances.specs.Source.{Ty, Plain, Parameter, Of, Tys, NoTys, MoreTys, Constructor, Declared, Source}
-use Rattle.reached_instances.specs.Source.{Instance}
-use Rattle.reached_instances.specs.Source.{is_bare, static_places}
-use Rattle.reached_instances.specs.TypeInstances.{written_in_header}
-use Rattle.reached_instances.specs.SharedTrees.{Branch, tree_at, trees, trees_at, AreWithin}
-use Rattle.reached_instances.specs.MentionsView.{heard, hears_block, nothing}
-
-abbrev pub tys_of : List Ty → Tys
-tys_of [] = NoTys
-tys_of (t ∷ ts) = MoreTys t (tys_of ts)
-
-abbrev pub ty_step : T.FieldType-F Ty → Ty
-ty_step T.Int = Plain
-ty_step (T.Parameter k) = Parameter k
-ty_step (T.Applied n ts) = Of n (tys_of ts.items)
-
-abbrev pub ty : FieldType → Ty
-ty = fold-FieldType Ty ty_step
-
-abbrev pub constructor : DeclaredConstructor → Constructor
-constructor k = record { name = k.name.now; fields = tys_of (map ty k.fields.items) }
-
-abbrev pub declared : DeclaredType → Declared
-declared d = record { arity = d.arity; constructors = map constructor d.constructors.items }
+use Rattle.closed_types.specs.declared.closed.Head.TheVariants as H
+use Rattle.closed_types.specs.Closed.{Closed, Closeds, Applied}
+use Rattle.closed_types.specs.Source.{Source}
+use Rattle.closed_types.specs.Source.{Instance}
+use Rattle.closed_types.specs.Source.{is_bare, static_places}
+use Rattle.closed_types.specs.TypeInstances.{written_in_header}
+use Rattle.closed_types.specs.SharedTrees.{Branch, tree_at, trees, trees_at, AreWithin}
+use Rattle.closed_types.specs.MentionsView.{heard, hears_block, nothing}
+pub use Rattle.closed_types.specs.DeclaredView.{tys_of, ty, constructor, declared, declared_with}
 
 abbrev pub function_source : FunctionSource → Function
 function_source f = function f.function.now
-
--- these declarations, with these functions
-abbrev pub declared_with : Decls → List Function → Source
-declared_with decls fs = record { names = decls.names; types = map declared decls.types.items; functions = fs }
 
 -- a program with these declarations
 abbrev pub source_of : Core → Decls → Source

@@ -2,12 +2,13 @@
 // a function is reached from the roots, and its types; and the rules on what is given for static parameters.
 #![tactic(auto)]
 
-pub mod closed;
 mod fits;
 pub mod instances;
-pub mod mentions;
 pub mod numbering;
 pub mod source;
 pub mod type_instances;
 mod types;
 mod uses;
+
+pub use closed_types::closed;
+pub use closed_types::mentions;

@@ -5,12 +5,12 @@ ghost use Rattle.std.specs.Prelude.{IfOk, IfSome, OnOk, false, true};
 ghost use Rattle.std.specs.List.{position};
 ghost use Rattle.fip_trees.specs.Least.{after};
 ghost use Rattle.fip_trees.specs.declared.least.Violation.{Violation};
-ghost use Rattle.reached_instances.specs.Closed.{Closed, same_closed};
-ghost use Rattle.reached_instances.specs.Numbering.{AreMore, AreNumbered, numbered_of, with_all};
-ghost use Rattle.reached_instances.specs.SharedTrees.{AreShared, AreWithin, Grows, Kept, Started, all_at, tree_at};
-ghost use Rattle.reached_instances.specs.SharedTrees.{trees};
+ghost use Rattle.closed_types.specs.Closed.{Closed, same_closed};
+ghost use Rattle.closed_types.specs.Numbering.{AreMore, AreNumbered, numbered_of, with_all};
+ghost use Rattle.closed_types.specs.SharedTrees.{AreShared, AreWithin, Grows, Kept, Started, all_at, tree_at};
+ghost use Rattle.closed_types.specs.SharedTrees.{trees};
 
-use crate::closed::Shared;
+use closed_types::closed::Shared;
 use fip_base::plain::NoMemory;
 use fip_trees::least::Least;
 use indexmap::IndexSet;

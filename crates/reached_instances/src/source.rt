@@ -5,17 +5,17 @@ ghost use Rattle.fip_base.specs.fip_language.Every.{Every};
 ghost use Rattle.fip_base.specs.fip_language.Mentions.{all_of};
 ghost use Rattle.fip_base.specs.CoreView as V;
 ghost use Rattle.fip_trees.specs.Names.{meaning};
-ghost use Rattle.reached_instances.specs.Closed.{Closed, closed_at};
-ghost use Rattle.reached_instances.specs.SharedTrees.{AreWithin, Branch, NoneOrWithin, tree_at, trees, trees_at};
-ghost use Rattle.reached_instances.specs.Source.{declared_at, function_at, none_of, given_function, given_type};
-ghost use Rattle.reached_instances.specs.Source.{if_function, if_type, is_bare, is_scalar};
-ghost use Rattle.reached_instances.specs.Source.{static_name, static_places, statics_at, type_at};
+ghost use Rattle.closed_types.specs.Closed.{Closed, closed_at};
+ghost use Rattle.closed_types.specs.SharedTrees.{AreWithin, Branch, NoneOrWithin, tree_at, trees, trees_at};
+ghost use Rattle.closed_types.specs.Source.{declared_at, function_at, none_of, given_function, given_type};
+ghost use Rattle.closed_types.specs.Source.{if_function, if_type, is_bare, is_scalar};
+ghost use Rattle.closed_types.specs.Source.{static_name, static_places, statics_at, type_at};
 ghost use Rattle.reached_instances.specs.SourceView as S;
-ghost use Rattle.reached_instances.specs.TypeInstances.{written_in_header, written_in_static};
-ghost use Rattle.reached_instances.specs.Uses.{result_types};
+ghost use Rattle.closed_types.specs.TypeInstances.{written_in_header, written_in_static};
+ghost use Rattle.closed_types.specs.Uses.{result_types};
 
-use crate::closed::{Head, Shared};
-use crate::mentions::{Mentions, data_type_of, mentions_of};
+use closed_types::closed::{Head, Shared};
+use closed_types::mentions::{Mentions, data_type_of, mentions_of};
 use fip_base::core_form::{
     Core, Function, Parameter, ResultType, SignatureParameter, Static, Written,
 };

@@ -2,17 +2,17 @@
 ghost use Rattle.std.specs.Prelude.{◌≡◌, ◌+◌, ◌<◌, [], get_or, length, map, slice_get, IfOk, OnOk};
 ghost use Rattle.fip_base.specs.fip_language.Mentions.{all_of};
 ghost use Rattle.fip_base.specs.CoreView as V;
-ghost use Rattle.reached_instances.specs.declared.closed.Head.TheVariants as H;
-ghost use Rattle.reached_instances.specs.Closed.{Applied, MoreClosed, NoClosed};
+ghost use Rattle.closed_types.specs.declared.closed.Head.TheVariants as H;
+ghost use Rattle.closed_types.specs.Closed.{Applied, MoreClosed, NoClosed};
 ghost use Rattle.reached_instances.specs.KnownFits.{AreRoots};
-ghost use Rattle.reached_instances.specs.PutView.{Put, with_unless_int};
-ghost use Rattle.reached_instances.specs.SharedTrees.{AreWithin, Grows, all_at, tree_at, trees, trees_at};
-ghost use Rattle.reached_instances.specs.Source.{declared_at};
+ghost use Rattle.closed_types.specs.PutView.{Put, with_unless_int};
+ghost use Rattle.closed_types.specs.SharedTrees.{AreWithin, Grows, all_at, tree_at, trees, trees_at};
+ghost use Rattle.closed_types.specs.Source.{declared_at};
 ghost use Rattle.reached_instances.specs.SourceView as S;
-ghost use Rattle.reached_instances.specs.TypeInstances as T;
-ghost use Rattle.reached_instances.specs.Uses.{declared_type};
+ghost use Rattle.closed_types.specs.TypeInstances as T;
+ghost use Rattle.closed_types.specs.Uses.{declared_type};
 
-use crate::closed::{Head, Shared};
+use closed_types::closed::{Head, Shared};
 use crate::numbering::{Places, Reaching};
 use crate::source::{Here, Source};
 use fip_base::core_form::Written;

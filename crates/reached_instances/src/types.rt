@@ -3,14 +3,14 @@ ghost use Rattle.std.specs.Prelude.{◌≡◌, ◌==◌, ◌&&◌, None, Some, i
 ghost use Rattle.fip_base.specs.CoreView as V;
 ghost use Rattle.fip_trees.specs.Least.{after};
 ghost use Rattle.fip_trees.specs.Names.{meaning};
-ghost use Rattle.reached_instances.specs.SharedTrees.{Grows, trees};
-ghost use Rattle.reached_instances.specs.Source.{given_type};
+ghost use Rattle.closed_types.specs.SharedTrees.{Grows, trees};
+ghost use Rattle.closed_types.specs.Source.{given_type};
 ghost use Rattle.reached_instances.specs.SourceView as S;
-ghost use Rattle.reached_instances.specs.Uses.{applied_to, broken, closed_type, closed_types, named_type};
-ghost use Rattle.reached_instances.specs.Uses.{type_faults, type_name_faults, types_faults, when};
-ghost use Rattle.reached_instances.specs.UsesView.{ArePlacesOf, AreWithinIfSome, IsPlaceOf, trees_of, with_place};
+ghost use Rattle.closed_types.specs.Uses.{applied_to, broken, closed_type, closed_types, named_type};
+ghost use Rattle.closed_types.specs.Uses.{type_faults, type_name_faults, types_faults, when};
+ghost use Rattle.closed_types.specs.UsesView.{ArePlacesOf, AreWithinIfSome, IsPlaceOf, trees_of, with_place};
 
-use crate::closed::{Head, Shared};
+use closed_types::closed::{Head, Shared};
 use crate::source::{Here, Source};
 use fip_base::core_form::Written;
 use fip_base::plain::{NoMemory, Place};

@@ -14,7 +14,7 @@ use Rattle.source_report.specs.data_types.Answers as Declaring
 use Rattle.source_report.specs.static_params.Answers as Statics
 use Rattle.source_report.specs.static_params.FlatProgram.{Numbers, flat_program}
 use Rattle.source_report.specs.static_params.FlatSource.{flat_source}
-use Rattle.source_report.specs.reached_instances.Instances.{all_faults}
+use Rattle.source_report.specs.reached_instances.closed_types.Instances.{all_faults}
 use Rattle.source_report.specs.type_check.Faults.{type_faults, filled}
 use Rattle.source_report.specs.ownership_agreement.fip_rules.Checks as Owning
 use Rattle.source_report.specs.credit_check.Credits as Credits

@@ -5,19 +5,19 @@ use Rattle.source_report.specs.fip_language.Every.{Among}
 use Rattle.source_report.specs.fip_language.Mentions.{all_of}
 use Rattle.source_report.specs.fip_language.declared.limits.TheConstants.{MOST_INSTANCES}
 use Rattle.source_report.specs.fip_trees.declared.least.Violation.{Violation}
-use Rattle.source_report.specs.reached_instances.Closed.{Closed, Closeds, Int, Applied, NoClosed, MoreClosed, same_closed}
-use Rattle.source_report.specs.reached_instances.declared.closed.Head.TheVariants as H
-use Rattle.source_report.specs.reached_instances.Instances.{roots, calls_from, passed_to, functions_among, ArePassed}
-use Rattle.source_report.specs.reached_instances.Numbering.{with_all, firsts, AreNumbered, AreMore}
-use Rattle.source_report.specs.reached_instances.Source.{Source}
-use Rattle.source_report.specs.reached_instances.TypeInstances.{type_roots, parts_of}
+use Rattle.source_report.specs.reached_instances.closed_types.Closed.{Closed, Closeds, Int, Applied, NoClosed, MoreClosed, same_closed}
+use Rattle.source_report.specs.reached_instances.closed_types.declared.closed.Head.TheVariants as H
+use Rattle.source_report.specs.reached_instances.closed_types.Instances.{roots, calls_from, passed_to, functions_among, ArePassed}
+use Rattle.source_report.specs.reached_instances.closed_types.Numbering.{with_all, firsts, AreNumbered, AreMore}
+use Rattle.source_report.specs.reached_instances.closed_types.Source.{Source}
+use Rattle.source_report.specs.reached_instances.closed_types.TypeInstances.{type_roots, parts_of}
 use Rattle.source_report.specs.static_params.Answers.{AreFewInstances, IsManyFunctions, IsManyTypes, AreFew, start}
 use Rattle.source_report.specs.static_params.FlatProgram.{Numbers}
-use Rattle.source_report.specs.reached_instances.Uses.{broken}
+use Rattle.source_report.specs.reached_instances.closed_types.Uses.{broken}
 use Rattle.source_report.specs.fip_language.declared.rule.Rule.TheVariants.{E21}
 use Rattle.std.specs.Prelude.{codes}
-use Rattle.source_report.proofs.reached_instances.ClosedTrees.{closed_exact}
-use Rattle.source_report.proofs.reached_instances.Numbered.{IsWalk, walk_starts, walk_goes, walk_ends, walk_many, reached_in, no_longer, among_left, among_right, among_either, among_of}
+use Rattle.source_report.proofs.reached_instances.closed_types.ClosedTrees.{closed_exact}
+use Rattle.source_report.proofs.reached_instances.closed_types.Numbered.{IsWalk, walk_starts, walk_goes, walk_ends, walk_many, reached_in, no_longer, among_left, among_right, among_either, among_of}
 use Rattle.source_report.proofs.fip_language.Facts.{le_or_less, get_within}
 
 -- they are numbered, and at most so many

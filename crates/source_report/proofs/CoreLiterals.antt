@@ -7,10 +7,10 @@ use Rattle.cell_lower.specs.fip_language.CoreForm.{Scope, Binding, Whole, Part, 
 use Rattle.cell_lower.specs.fip_language.Every.{Every, Among}
 use Rattle.cell_lower.specs.fip_language.Surface as S
 use Rattle.cell_lower.specs.fip_trees.Tree as T
-use Rattle.static_params.specs.reached_instances.declared.closed.Head.TheVariants as H
-use Rattle.static_params.specs.reached_instances.Closed as Z
-use Rattle.static_params.specs.reached_instances.Closed.{Closed, Applied}
-use Rattle.static_params.specs.reached_instances.Source.{Source, Instance}
+use Rattle.static_params.specs.reached_instances.closed_types.declared.closed.Head.TheVariants as H
+use Rattle.static_params.specs.reached_instances.closed_types.Closed as Z
+use Rattle.static_params.specs.reached_instances.closed_types.Closed.{Closed, Applied}
+use Rattle.static_params.specs.reached_instances.closed_types.Source.{Source, Instance}
 use Rattle.static_params.specs.FlatProgram.{Numbers, flat_pattern, flat_patterns, flat_expression, flat_block, flat_clauses, instance_if, instances_of, flat_program}
 use Rattle.static_params.specs.FlatSource.{flat_source}
 use Rattle.source_report.specs.Literals as L

@@ -11,13 +11,13 @@ use Rattle.cell_lower.specs.fip_trees.Tree as T
 use Rattle.cell_lower.specs.fip_trees.declared.decls.ConstructorId.{ConstructorId}
 use Rattle.static_params.specs.data_types.Types as D
 use Rattle.static_params.specs.data_types.Declarations.{declarations, data_scope, declared_names, written_names}
-use Rattle.static_params.specs.reached_instances.declared.closed.Head.TheVariants as H
-use Rattle.static_params.specs.reached_instances.Closed as Z
-use Rattle.static_params.specs.reached_instances.Closed.{Closed, Applied}
-use Rattle.static_params.specs.reached_instances.Source.{Instance}
-use Rattle.static_params.specs.reached_instances.Uses.{closed_function, declared_type, result_types}
-use Rattle.static_params.specs.reached_instances.Instances.{AreInstances, ArePassed}
-use Rattle.static_params.specs.reached_instances.TypeInstances.{AreTypes as AreNumberedTypes}
+use Rattle.static_params.specs.reached_instances.closed_types.declared.closed.Head.TheVariants as H
+use Rattle.static_params.specs.reached_instances.closed_types.Closed as Z
+use Rattle.static_params.specs.reached_instances.closed_types.Closed.{Closed, Applied}
+use Rattle.static_params.specs.reached_instances.closed_types.Source.{Instance}
+use Rattle.static_params.specs.reached_instances.closed_types.Uses.{closed_function, declared_type, result_types}
+use Rattle.static_params.specs.reached_instances.closed_types.Instances.{AreInstances, ArePassed}
+use Rattle.static_params.specs.reached_instances.closed_types.TypeInstances.{AreTypes as AreNumberedTypes}
 use Rattle.static_params.specs.FlatProgram.{Numbers, number_in, or_zero, callee_number, flat_type, declared_or_bool, constructor_of, flat_pattern, flat_patterns, flat_expression, flat_block, flat_clauses, flat_parameter, flat_instance, instance_if, instances_of, flat_constructor, declaring_of, flat_program}
 use Rattle.static_params.specs.Answers.{AreFew}
 use Rattle.static_params.specs.FlatSource.{flat_source, constructor, declared}

@@ -4,11 +4,11 @@ use Rattle.std.proofs.Common.{◌≡◌, ◌≤◌, ◌<◌, ◌+◌, ◌⊎◌,
 use Rattle.std.specs.List.{list_any}
 use Rattle.cell_lower.specs.fip_language.Every.{Among}
 use Rattle.cell_lower.specs.fip_language.Mentions.{all_of}
-use Rattle.static_params.specs.reached_instances.Closed.{Closed, same_closed}
-use Rattle.static_params.specs.reached_instances.Numbering.{with_new, with_all, firsts, Reached, AreNumbered, AreMore, Differ}
+use Rattle.static_params.specs.reached_instances.closed_types.Closed.{Closed, same_closed}
+use Rattle.static_params.specs.reached_instances.closed_types.Numbering.{with_new, with_all, firsts, Reached, AreNumbered, AreMore, Differ}
 use Rattle.static_params.proofs.GoodTypes.{among_either, reached_have}
 use Rattle.static_params.proofs.TypeRows.{among_left, among_right, among_of, all_among, same_self}
-use Rattle.static_params.proofs.reached_instances.SharedTrees.{differ_last}
+use Rattle.static_params.proofs.reached_instances.closed_types.SharedTrees.{differ_last}
 
 -- the first goes on to the second
 abbrev IsFront : List Closed → List Closed → Type 0

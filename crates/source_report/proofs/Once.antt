@@ -20,12 +20,12 @@ use Rattle.cell_lower.specs.fip_trees.Tree as T
 use Rattle.cell_lower.specs.fip_trees.Tree.{Program}
 use Rattle.static_params.specs.data_types.Answers as Declaring
 use Rattle.static_params.specs.Answers as Statics
-use Rattle.static_params.specs.reached_instances.Closed.{Closed}
+use Rattle.static_params.specs.reached_instances.closed_types.Closed.{Closed}
 use Rattle.static_params.specs.FlatProgram.{Numbers, flat_program}
-use Rattle.static_params.specs.reached_instances.Instances.{roots, calls_from, all_faults, passed_to}
-use Rattle.static_params.specs.reached_instances.TypeInstances.{type_roots, parts_of}
-use Rattle.static_params.specs.reached_instances.Source.{Source}
-use Rattle.static_params.specs.reached_instances.Numbering.{AreMore}
+use Rattle.static_params.specs.reached_instances.closed_types.Instances.{roots, calls_from, all_faults, passed_to}
+use Rattle.static_params.specs.reached_instances.closed_types.TypeInstances.{type_roots, parts_of}
+use Rattle.static_params.specs.reached_instances.closed_types.Source.{Source}
+use Rattle.static_params.specs.reached_instances.closed_types.Numbering.{AreMore}
 use Rattle.lowering_simulation.specs.type_check.Faults.{type_faults, filled}
 use Rattle.source_report.specs.MatchRules.{shape_faults, CoverFault}
 use Rattle.ownership_agreement.specs.fip_rules.Checks as Owning
@@ -113,9 +113,9 @@ instances_once s is js h k = numbered_once (roots s) (calls_from s) is js h.inst
 pub numbers_once : (s : Source) (m n : Numbers) → Statics.AreFew s m → Statics.AreFew s n → m ≡ n
 numbers_once s m n h k =
     let instances = instances_once s m.instances n.instances h.instances k.instances in
-    let passed = numbered_once m.instances passed_to h.passed k.passed h.given (subst (λ is. Rattle.static_params.specs.reached_instances.Instances.ArePassed is k.passed) (sym instances) k.given) in
+    let passed = numbered_once m.instances passed_to h.passed k.passed h.given (subst (λ is. Rattle.static_params.specs.reached_instances.closed_types.Instances.ArePassed is k.passed) (sym instances) k.given) in
     let types = numbered_once (type_roots s m.instances h.passed) (parts_of s) m.types n.types h.types
-    (subst (λ ps. Rattle.static_params.specs.reached_instances.TypeInstances.AreTypes s m.instances ps n.types) (sym passed) (subst (λ is. Rattle.static_params.specs.reached_instances.TypeInstances.AreTypes s is k.passed n.types) (sym instances) k.types)) in
+    (subst (λ ps. Rattle.static_params.specs.reached_instances.closed_types.TypeInstances.AreTypes s m.instances ps n.types) (sym passed) (subst (λ is. Rattle.static_params.specs.reached_instances.closed_types.TypeInstances.AreTypes s is k.passed n.types) (sym instances) k.types)) in
     λ i. record { instances = instances i; types = types i }
 
 pub flat_once : (source : List ℕ) (p q : Program) → IsFlat source p → IsFlat source q → p ≡ q
@@ -209,7 +209,7 @@ pub statics_broken : (s : Source) (v : Violation) (n : Numbers) → Statics.Name
 statics_broken s v n (inl h) few none = not_more (roots s) (calls_from s) MOST_INSTANCES n.instances few.instances.instances few.instances.few h.0
 statics_broken s v n (inr (inl h)) few none =
     let instances = instances_once s h.instances n.instances h.few few.instances in
-    let given = subst (λ is. Rattle.static_params.specs.reached_instances.Instances.ArePassed is h.many.passed) instances h.many.given in
+    let given = subst (λ is. Rattle.static_params.specs.reached_instances.closed_types.Instances.ArePassed is h.many.passed) instances h.many.given in
     let passed = numbered_once n.instances passed_to h.many.passed few.passed given few.given in
     let many = subst (λ ps. AreMore MOST_INSTANCES (type_roots s n.instances ps) (parts_of s)) passed (subst (λ is. AreMore MOST_INSTANCES (type_roots s is h.many.passed) (parts_of s)) instances h.many.many) in
     not_more (type_roots s n.instances few.passed) (parts_of s) MOST_INSTANCES n.types few.types few.few_types many
@@ -266,7 +266,7 @@ statics_least s v w (inr (inl h)) (inr (inr k)) = absurd (types_many s v k.numbe
     types_many : (s : Source) (v : Violation) (n : Numbers) → Statics.IsManyTypes s v → Statics.AreFew s n → ⊥
     types_many s v n h few =
         let instances = instances_once s h.instances n.instances h.few few.instances in
-        let passed = numbered_once n.instances passed_to h.many.passed few.passed (subst (λ is. Rattle.static_params.specs.reached_instances.Instances.ArePassed is h.many.passed) instances h.many.given) few.given in
+        let passed = numbered_once n.instances passed_to h.many.passed few.passed (subst (λ is. Rattle.static_params.specs.reached_instances.closed_types.Instances.ArePassed is h.many.passed) instances h.many.given) few.given in
         not_more (type_roots s n.instances few.passed) (parts_of s) MOST_INSTANCES n.types few.types few.few_types
         (subst (λ ps. AreMore MOST_INSTANCES (type_roots s n.instances ps) (parts_of s)) passed (subst (λ is. AreMore MOST_INSTANCES (type_roots s is h.many.passed) (parts_of s)) instances h.many.many))
 statics_least s v w (inr (inr h)) (inl k) = absurd (not_more (roots s) (calls_from s) MOST_INSTANCES h.numbers.instances h.few.instances.instances h.few.instances.few k.0)
@@ -275,7 +275,7 @@ statics_least s v w (inr (inr h)) (inr (inl k)) = absurd (types_many s w h.numbe
     types_many : (s : Source) (v : Violation) (n : Numbers) → Statics.IsManyTypes s v → Statics.AreFew s n → ⊥
     types_many s v n h few =
         let instances = instances_once s h.instances n.instances h.few few.instances in
-        let passed = numbered_once n.instances passed_to h.many.passed few.passed (subst (λ is. Rattle.static_params.specs.reached_instances.Instances.ArePassed is h.many.passed) instances h.many.given) few.given in
+        let passed = numbered_once n.instances passed_to h.many.passed few.passed (subst (λ is. Rattle.static_params.specs.reached_instances.closed_types.Instances.ArePassed is h.many.passed) instances h.many.given) few.given in
         not_more (type_roots s n.instances few.passed) (parts_of s) MOST_INSTANCES n.types few.types few.few_types
         (subst (λ ps. AreMore MOST_INSTANCES (type_roots s n.instances ps) (parts_of s)) passed (subst (λ is. AreMore MOST_INSTANCES (type_roots s is h.many.passed) (parts_of s)) instances h.many.many))
 statics_least s v w (inr (inr h)) (inr (inr k)) =

@@ -21,11 +21,11 @@ use Rattle.cell_lower.specs.fip_trees.Tree.{Program, count, count_patterns}
 use Rattle.static_params.specs.data_types.Answers as Declaring
 use Rattle.static_params.specs.data_types.Declarations.{declarations, declared_names, data_scope, constructor_fields}
 use Rattle.static_params.specs.data_types.Faults.{broken, when, size_faults, data_faults, all_data_faults, all_function_faults, name_faults, repeats, type_name_mentions, field_faults}
-use Rattle.static_params.specs.reached_instances.declared.closed.Head.TheVariants as H
-use Rattle.static_params.specs.reached_instances.Closed as Z
-use Rattle.static_params.specs.reached_instances.Closed.{Closed, Closeds, Applied, NoClosed, MoreClosed}
-use Rattle.static_params.specs.reached_instances.Source.{Instance}
-use Rattle.static_params.specs.reached_instances.TypeInstances.{field_types}
+use Rattle.static_params.specs.reached_instances.closed_types.declared.closed.Head.TheVariants as H
+use Rattle.static_params.specs.reached_instances.closed_types.Closed as Z
+use Rattle.static_params.specs.reached_instances.closed_types.Closed.{Closed, Closeds, Applied, NoClosed, MoreClosed}
+use Rattle.static_params.specs.reached_instances.closed_types.Source.{Instance}
+use Rattle.static_params.specs.reached_instances.closed_types.TypeInstances.{field_types}
 use Rattle.static_params.specs.FlatProgram.{Numbers, numbers_of, flat_constructor, credit_size, flat_argument, flat_block, flat_expression, flat_clauses, instance_if, instances_of, flat_program}
 use Rattle.lowering_simulation.proofs.type_check.Exact.{filled_right}
 use Rattle.lowering_simulation.specs.type_check.Scope.{Scope}

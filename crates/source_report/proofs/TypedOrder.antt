@@ -10,10 +10,10 @@ use Rattle.cell_lower.specs.fip_base.declared.plain.Param.{Param}
 use Rattle.cell_lower.specs.fip_trees.declared.program.Binder.{Binder}
 use Rattle.cell_lower.specs.fip_trees.Tree as T
 use Rattle.cell_lower.specs.fip_trees.Tree.{Program}
-use Rattle.static_params.specs.reached_instances.declared.closed.Head.TheVariants as H
-use Rattle.static_params.specs.reached_instances.Closed as Z
-use Rattle.static_params.specs.reached_instances.Closed.{Closed, Applied}
-use Rattle.static_params.specs.reached_instances.Source.{Source, Instance}
+use Rattle.static_params.specs.reached_instances.closed_types.declared.closed.Head.TheVariants as H
+use Rattle.static_params.specs.reached_instances.closed_types.Closed as Z
+use Rattle.static_params.specs.reached_instances.closed_types.Closed.{Closed, Applied}
+use Rattle.static_params.specs.reached_instances.closed_types.Source.{Source, Instance}
 use Rattle.static_params.specs.FlatProgram.{Numbers, flat_binder, flat_pattern, flat_patterns, flat_expression, flat_block, flat_clauses, flat_parameter, flat_instance, instance_if, instances_of, flat_program}
 use Rattle.static_params.specs.FlatSource.{flat_source}
 use Rattle.static_params.proofs.GoodTypes.{all_of_have}

@@ -37,7 +37,7 @@ use Rattle.static_params.specs.data_types.Declarations.{declarations}
 use Rattle.static_params.specs.data_types.Types.{IsValued}
 use Rattle.static_params.specs.Answers as Statics
 use Rattle.static_params.specs.FlatProgram.{Numbers, flat_program}
-use Rattle.static_params.specs.reached_instances.Instances.{all_faults}
+use Rattle.static_params.specs.reached_instances.closed_types.Instances.{all_faults}
 use Rattle.lowering_simulation.specs.type_check.Faults.{type_faults, filled}
 use Rattle.ownership_agreement.specs.fip_rules.Checks as Owning
 use Rattle.ownership_agreement.specs.credit_check.Credits as Credits

@@ -12,12 +12,12 @@ use Rattle.in_place_safety.specs.fip_trees.Names.{meaning}
 use Rattle.in_place_safety.specs.fip_trees.Tree as T
 use Rattle.in_place_safety.specs.fip_trees.declared.decls.ConstructorId.{ConstructorId}
 use Rattle.specialisation_correctness.specs.data_types.Declarations.{data_scope, declared_names, written_names}
-use Rattle.specialisation_correctness.specs.reached_instances.declared.closed.Head.TheVariants as H
-use Rattle.specialisation_correctness.specs.reached_instances.Closed as Z
-use Rattle.specialisation_correctness.specs.reached_instances.Closed.{Closed, Closeds, Applied, NoClosed, same_closed}
-use Rattle.specialisation_correctness.specs.reached_instances.Source.{Instance}
-use Rattle.specialisation_correctness.specs.reached_instances.Numbering.{with_new, with_all}
-use Rattle.specialisation_correctness.specs.reached_instances.TypeInstances.{AreTypes, type_roots, parts_of}
+use Rattle.specialisation_correctness.specs.reached_instances.closed_types.declared.closed.Head.TheVariants as H
+use Rattle.specialisation_correctness.specs.reached_instances.closed_types.Closed as Z
+use Rattle.specialisation_correctness.specs.reached_instances.closed_types.Closed.{Closed, Closeds, Applied, NoClosed, same_closed}
+use Rattle.specialisation_correctness.specs.reached_instances.closed_types.Source.{Instance}
+use Rattle.specialisation_correctness.specs.reached_instances.closed_types.Numbering.{with_new, with_all}
+use Rattle.specialisation_correctness.specs.reached_instances.closed_types.TypeInstances.{AreTypes, type_roots, parts_of}
 use Rattle.specialisation_correctness.specs.static_params.FlatProgram.{Numbers, declared_or_bool, constructor_of, flat_binder, flat_parameter, flat_argument, flat_arguments, flat_expression, flat_block, flat_clauses, flat_instance, instance_if, instances_of, flat_constructor, declaring_of, number_if, flat_program}
 use Rattle.specialisation_correctness.specs.static_params.Answers.{AreFew}
 use Rattle.specialisation_correctness.specs.static_params.FlatSource.{flat_source, constructor, declared}
@@ -143,7 +143,7 @@ module _ (core : Core) (ns : Numbers) (few : AreFew (flat_source core) ns) (form
   first_type : slice_get ns.types 0 ≡ Some (Applied (H.«Type» 1) NoClosed)
   first_type =
       ap (λ l. slice_get l 0) few.types.ordered ∙
-      all_keep (Applied (H.«Type» 1) NoClosed ∷ []) ((all_of (Rattle.specialisation_correctness.specs.reached_instances.TypeInstances.types_of_instance (flat_source core)) ns.instances ++ all_of Rattle.specialisation_correctness.specs.reached_instances.TypeInstances.types_given few.passed) ++ all_of (parts_of (flat_source core)) ns.types) (Applied (H.«Type» 1) NoClosed) refl
+      all_keep (Applied (H.«Type» 1) NoClosed ∷ []) ((all_of (Rattle.specialisation_correctness.specs.reached_instances.closed_types.TypeInstances.types_of_instance (flat_source core)) ns.instances ++ all_of Rattle.specialisation_correctness.specs.reached_instances.closed_types.TypeInstances.types_given few.passed) ++ all_of (parts_of (flat_source core)) ns.types) (Applied (H.«Type» 1) NoClosed) refl
 
   abbrev Bare : List Shape → ℕ → Type 0
   Bare ss c = (s : Shape) × (slice_get ss c ≡ Some s) × (s.fields ≡ [])

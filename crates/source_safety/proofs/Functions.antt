@@ -16,11 +16,11 @@ use Rattle.in_place_safety.specs.fip_language.Values.{Values}
 use Rattle.in_place_safety.proofs.fip_language.Search.{slice_get_there}
 use Rattle.in_place_safety.specs.fip_trees.declared.groups.Member.{Member}
 use Rattle.in_place_safety.specs.fip_trees.Tree.{Instance, Program}
-use Rattle.specialisation_correctness.specs.reached_instances.declared.closed.Head.TheVariants as H
-use Rattle.specialisation_correctness.specs.reached_instances.Closed as Z
-use Rattle.specialisation_correctness.specs.reached_instances.Closed.{Closed, Applied}
-use Rattle.specialisation_correctness.specs.reached_instances.Source.{Instance as Instance'}
-use Rattle.specialisation_correctness.specs.reached_instances.Instances.{root_if, roots_from, roots, calls_from}
+use Rattle.specialisation_correctness.specs.reached_instances.closed_types.declared.closed.Head.TheVariants as H
+use Rattle.specialisation_correctness.specs.reached_instances.closed_types.Closed as Z
+use Rattle.specialisation_correctness.specs.reached_instances.closed_types.Closed.{Closed, Applied}
+use Rattle.specialisation_correctness.specs.reached_instances.closed_types.Source.{Instance as Instance'}
+use Rattle.specialisation_correctness.specs.reached_instances.closed_types.Instances.{root_if, roots_from, roots, calls_from}
 use Rattle.specialisation_correctness.specs.static_params.FlatProgram.{Numbers, flat_instance, instance_if, instances_of, flat_program}
 use Rattle.in_place_safety.specs.type_check.Faults.{filled, fill_instance}
 use Rattle.in_place_safety.specs.type_check.World.{world}

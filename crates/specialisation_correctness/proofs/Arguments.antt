@@ -18,7 +18,7 @@ use Rattle.source_report.specs.fip_trees.declared.least.Violation.{Violation}
 use Rattle.source_report.specs.data_types.Declarations.{Scope, written_names}
 use Rattle.source_report.specs.data_types.Faults.{broken, when, constructor_faults, argument_faults, arguments_faults, pattern_faults, patterns_faults, binders_faults, expression_faults, block_faults, clauses_faults}
 use Rattle.source_report.proofs.data_types.Exact.{none_left, none_right}
-use Rattle.source_report.specs.reached_instances.Source.{Declared, Source, Instance}
+use Rattle.source_report.specs.reached_instances.closed_types.Source.{Declared, Source, Instance}
 use Rattle.source_report.specs.static_params.FlatProgram.{Numbers, flat_call, declared_or_bool, constructor_of, flat_binder, flat_argument, flat_arguments, flat_pattern, flat_patterns, match_of, flat_expression, flat_block, flat_clauses}
 use Rattle.source_report.specs.instance_semantics.Specialised.{IsNumber, IsArgument, AreArguments, SameNumbers, SameParameters, IsPattern, ArePatterns, IsExpression, IsBlock, AreClauses}
 use Rattle.specialisation_correctness.specs.Declared.{HasClauses, BlockHasClauses, ClausesHaveClauses}

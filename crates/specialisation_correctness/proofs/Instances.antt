@@ -11,15 +11,15 @@ use Rattle.source_report.specs.fip_language.Stack.{CallSite, sites_in_block}
 use Rattle.source_report.specs.fip_language.Statics.{callee}
 use Rattle.source_report.specs.fip_trees.Names.{meaning}
 use Rattle.source_report.specs.data_types.Declarations.{written_names}
-use Rattle.source_report.specs.reached_instances.declared.closed.Head.TheVariants as H
-use Rattle.source_report.specs.reached_instances.Closed.{Closed, Closeds, Int, Applied, NoClosed, MoreClosed, same_closed, closed_at}
-use Rattle.source_report.specs.reached_instances.Source.{Declared, Source, Instance, statics_at, static_places, if_function, function_at, given_function}
-use Rattle.source_report.specs.reached_instances.Uses.{types_given, fit_if_known, all_given, applied_function, declared_use, named_use, statics_meant, closed_function, closed_arguments, count, use_faults}
-use Rattle.source_report.specs.reached_instances.Instances.{roots, roots_from, root_if, use_at, place_of, put_in_order, order_on, calls, if_there, calls_in, calls_from, faults_in, faults_of, all_faults, AreInstances}
-use Rattle.source_report.specs.reached_instances.Numbering.{numbered_of}
+use Rattle.source_report.specs.reached_instances.closed_types.declared.closed.Head.TheVariants as H
+use Rattle.source_report.specs.reached_instances.closed_types.Closed.{Closed, Closeds, Int, Applied, NoClosed, MoreClosed, same_closed, closed_at}
+use Rattle.source_report.specs.reached_instances.closed_types.Source.{Declared, Source, Instance, statics_at, static_places, if_function, function_at, given_function}
+use Rattle.source_report.specs.reached_instances.closed_types.Uses.{types_given, fit_if_known, all_given, applied_function, declared_use, named_use, statics_meant, closed_function, closed_arguments, count, use_faults}
+use Rattle.source_report.specs.reached_instances.closed_types.Instances.{roots, roots_from, root_if, use_at, place_of, put_in_order, order_on, calls, if_there, calls_in, calls_from, faults_in, faults_of, all_faults, AreInstances}
+use Rattle.source_report.specs.reached_instances.closed_types.Numbering.{numbered_of}
 use Rattle.source_report.specs.static_params.FlatProgram.{Numbers, number_in, or_zero, flat_call}
-use Rattle.source_report.proofs.reached_instances.ClosedTrees.{closed_exact}
-use Rattle.source_report.proofs.reached_instances.Numbered.{numbered_next, reached_in}
+use Rattle.source_report.proofs.reached_instances.closed_types.ClosedTrees.{closed_exact}
+use Rattle.source_report.proofs.reached_instances.closed_types.Numbered.{numbered_next, reached_in}
 use Rattle.specialisation_correctness.specs.Named.{named}
 use Rattle.specialisation_correctness.proofs.Lookups.{function_meant}
 use Rattle.specialisation_correctness.proofs.Places.{source_with, There, both_some, IsHere, by_name, closed_function_named, closed_function_there}

@@ -18,8 +18,8 @@ use Rattle.source_report.specs.fip_trees.declared.least.Violation.{Violation}
 use Rattle.source_report.specs.data_types.Declarations.{type_meanings, row_meanings, constructor_meanings, function_meanings}
 use Rattle.source_report.specs.data_types.Faults.{repeats, broken, function_mentions, static_mentions}
 use Rattle.source_report.proofs.data_types.Repeats.{all_new, mention_names}
-use Rattle.source_report.specs.reached_instances.Closed.{Closed, Closeds, NoClosed, MoreClosed}
-use Rattle.source_report.specs.reached_instances.Source.{static_name, static_meanings, static_places, if_type, if_function, type_at, function_at}
+use Rattle.source_report.specs.reached_instances.closed_types.Closed.{Closed, Closeds, NoClosed, MoreClosed}
+use Rattle.source_report.specs.reached_instances.closed_types.Source.{static_name, static_meanings, static_places, if_type, if_function, type_at, function_at}
 use Rattle.specialisation_correctness.specs.Named.{named, all_named}
 use Rattle.source_report.proofs.cell_lower.fip_language.Facts.{or_first as or_left, or_last as or_right}
 

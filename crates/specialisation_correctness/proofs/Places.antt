@@ -14,10 +14,10 @@ use Rattle.source_report.specs.fip_trees.declared.least.Violation.{Violation}
 use Rattle.source_report.specs.data_types.Declarations.{written_names}
 use Rattle.source_report.specs.data_types.Faults.{repeats, static_mentions}
 use Rattle.source_report.proofs.data_types.Exact.{none_left, none_right}
-use Rattle.source_report.specs.reached_instances.declared.closed.Head.TheVariants as H
-use Rattle.source_report.specs.reached_instances.Closed.{Closed, Closeds, Int, Applied, NoClosed, MoreClosed}
-use Rattle.source_report.specs.reached_instances.Source.{Declared, Source, Instance, statics_at, statics_or_none, static_places, type_at, function_at, given_type, given_function}
-use Rattle.source_report.specs.reached_instances.Uses.{broken, when, count, type_faults, types_faults, type_name_faults, applied_to, named_type, both, closed_type, closed_types, types_given, all_fit, static_fits, fit_if_known, all_given, applied_function, declared_use, named_use, statics_meant, closed_function, closed_arguments, misfit, misfits, misfits_if_known, name_faults, use_faults, arguments_faults}
+use Rattle.source_report.specs.reached_instances.closed_types.declared.closed.Head.TheVariants as H
+use Rattle.source_report.specs.reached_instances.closed_types.Closed.{Closed, Closeds, Int, Applied, NoClosed, MoreClosed}
+use Rattle.source_report.specs.reached_instances.closed_types.Source.{Declared, Source, Instance, statics_at, statics_or_none, static_places, type_at, function_at, given_type, given_function}
+use Rattle.source_report.specs.reached_instances.closed_types.Uses.{broken, when, count, type_faults, types_faults, type_name_faults, applied_to, named_type, both, closed_type, closed_types, types_given, all_fit, static_fits, fit_if_known, all_given, applied_function, declared_use, named_use, statics_meant, closed_function, closed_arguments, misfit, misfits, misfits_if_known, name_faults, use_faults, arguments_faults}
 use Rattle.specialisation_correctness.specs.Named.{data_name, function_name, head_name, named, all_named}
 use Rattle.specialisation_correctness.proofs.Lookups.{function_meant, type_meant, places_all, named_if, type_named, function_named}
 use Rattle.source_report.proofs.cell_lower.fip_language.Facts.{if_some, same_number}

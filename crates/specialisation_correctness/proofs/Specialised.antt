@@ -18,14 +18,14 @@ use Rattle.source_report.specs.fip_trees.declared.least.Violation.{Violation}
 use Rattle.source_report.specs.data_types.Declarations.{function_scope, declared_names, written_names}
 use Rattle.source_report.specs.data_types.Faults.{repeats, type_mentions, constructor_mentions, function_mentions, static_mentions, parameter_mentions, credit_faults, header_faults, block_faults, function_faults, all_data_faults, all_function_faults, name_faults, written_violations}
 use Rattle.source_report.proofs.data_types.Exact.{none_left, none_right, all_declared}
-use Rattle.source_report.specs.reached_instances.declared.closed.Head.TheVariants as H
+use Rattle.source_report.specs.reached_instances.closed_types.declared.closed.Head.TheVariants as H
 use Rattle.source_report.specs.static_params.Answers.{IsAccepted}
-use Rattle.source_report.specs.reached_instances.Closed.{Closed, Closeds, Int, Applied, NoClosed, MoreClosed, same_closed}
-use Rattle.source_report.specs.reached_instances.Source.{Declared, Source, statics_or_none}
-use Rattle.source_report.specs.reached_instances.Instances.{roots, roots_from, root_if, calls_from, all_faults, AreInstances}
+use Rattle.source_report.specs.reached_instances.closed_types.Closed.{Closed, Closeds, Int, Applied, NoClosed, MoreClosed, same_closed}
+use Rattle.source_report.specs.reached_instances.closed_types.Source.{Declared, Source, statics_or_none}
+use Rattle.source_report.specs.reached_instances.closed_types.Instances.{roots, roots_from, root_if, calls_from, all_faults, AreInstances}
 use Rattle.source_report.specs.static_params.FlatProgram.{Numbers, is_root, credit_size, flat_parameter, flat_instance, instance_if, instances_of, flat_program}
-use Rattle.source_report.proofs.reached_instances.ClosedTrees.{closed_exact}
-use Rattle.source_report.proofs.reached_instances.Numbered.{numbered_roots}
+use Rattle.source_report.proofs.reached_instances.closed_types.ClosedTrees.{closed_exact}
+use Rattle.source_report.proofs.reached_instances.closed_types.Numbered.{numbered_roots}
 use Rattle.source_report.specs.instance_semantics.Meaning.{flat_meaning}
 use Rattle.source_report.specs.instance_semantics.Specialised.{IsInstance, Stands, IsSpecialised}
 use Rattle.source_report.proofs.instance_semantics.Means.{means}

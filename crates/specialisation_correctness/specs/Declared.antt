@@ -7,7 +7,7 @@ use Rattle.source_report.specs.fip_language.Every.{Every}
 use Rattle.source_report.specs.fip_trees.declared.least.Violation.{Violation}
 use Rattle.source_report.specs.data_types.Answers.{Violates}
 use Rattle.source_report.specs.data_types.Declarations.{written_names}
-use Rattle.source_report.specs.reached_instances.Source.{Source}
+use Rattle.source_report.specs.reached_instances.closed_types.Source.{Source}
 
 abbrev pub AreSome : Clauses → Type 0
 AreSome NoClauses = ⊥

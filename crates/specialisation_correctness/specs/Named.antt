@@ -6,9 +6,9 @@ use Rattle.std.specs.Prelude.{◌-◌, [], Option, Some, None, slice_get}
 use Rattle.source_report.specs.fip_language.Core.{Name, Data, Function, Core}
 use Rattle.source_report.specs.fip_language.Declarations.{data_types}
 use Rattle.source_report.specs.fip_language.Statics as ByName
-use Rattle.source_report.specs.reached_instances.declared.closed.Head.{Head}
-use Rattle.source_report.specs.reached_instances.declared.closed.Head.TheVariants as H
-use Rattle.source_report.specs.reached_instances.Closed.{Closed, Closeds, Int, Applied, NoClosed, MoreClosed}
+use Rattle.source_report.specs.reached_instances.closed_types.declared.closed.Head.{Head}
+use Rattle.source_report.specs.reached_instances.closed_types.declared.closed.Head.TheVariants as H
+use Rattle.source_report.specs.reached_instances.closed_types.Closed.{Closed, Closeds, Int, Applied, NoClosed, MoreClosed}
 
 abbrev pub data_name : Option Data → Name
 data_name None = []

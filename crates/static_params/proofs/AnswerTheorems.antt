@@ -6,14 +6,14 @@ use Rattle.fip_trees.specs.TreeView as W
 use Rattle.fip_trees.specs.declared.least.Violation.{Violation}
 use Rattle.fip_trees.specs.declared.program.Program.{Program}
 use Rattle.static_params.specs.Answers.{AreFew, AreFewInstances, AreManyFunctions, AreManyTypes, IsAccepted, Names}
-use Rattle.reached_instances.specs.Closed.{Closed, same_closed}
+use Rattle.reached_instances.specs.closed_types.Closed.{Closed, same_closed}
 use Rattle.static_params.specs.FlatProgram.{Numbers, flat_program}
-use Rattle.reached_instances.specs.Instances.{AreInstances, ArePassed, all_faults, calls_from, passed_to, roots}
-use Rattle.reached_instances.specs.Numbering.{AreMore}
-use Rattle.reached_instances.specs.Source.{Source}
-use Rattle.reached_instances.specs.TypeInstances.{AreTypes, parts_of, type_roots}
-use Rattle.reached_instances.proofs.ClosedTrees.{closed_exact}
-use Rattle.reached_instances.proofs.Numbered.{numbered_few, one_numbering}
+use Rattle.reached_instances.specs.closed_types.Instances.{AreInstances, ArePassed, all_faults, calls_from, passed_to, roots}
+use Rattle.reached_instances.specs.closed_types.Numbering.{AreMore}
+use Rattle.reached_instances.specs.closed_types.Source.{Source}
+use Rattle.reached_instances.specs.closed_types.TypeInstances.{AreTypes, parts_of, type_roots}
+use Rattle.reached_instances.proofs.closed_types.ClosedTrees.{closed_exact}
+use Rattle.reached_instances.proofs.closed_types.Numbered.{numbered_few, one_numbering}
 
 pub instances_one : (s : Source) (is js : List Closed) → AreInstances s is → AreInstances s js → is ≡ js
 instances_one s is js a b = one_numbering same_closed closed_exact (roots s) (calls_from s) is js a b

@@ -23,10 +23,10 @@ use Rattle.data_types.specs.Faults.{broken, when, repeats, row_mentions, constru
 use Rattle.data_types.proofs.Exact.{none_left, none_right}
 use Rattle.data_types.proofs.Repeats.{repeats_append, seen_after}
 use Rattle.static_params.specs.Answers.{AreFew}
-use Rattle.reached_instances.specs.Closed.{Closeds}
+use Rattle.reached_instances.specs.closed_types.Closed.{Closeds}
 use Rattle.static_params.specs.FlatProgram.{Numbers, flat_program, numbers_of, flat_constructor}
-use Rattle.reached_instances.specs.Source as S
-use Rattle.reached_instances.specs.TypeInstances.{field_types}
+use Rattle.reached_instances.specs.closed_types.Source as S
+use Rattle.reached_instances.specs.closed_types.TypeInstances.{field_types}
 use Rattle.static_params.specs.FlatSource.{flat_source, constructor, declared, fields}
 use Rattle.static_params.proofs.TableRows.{shapes_below, row_there, IsRow}
 use Rattle.fip_language.proofs.Facts.{or_first as or_left, or_last as or_right}

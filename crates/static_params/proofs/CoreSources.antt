@@ -16,8 +16,9 @@ use Rattle.data_types.specs.Declarations.{declarations, data_declared, data_scop
 use Rattle.data_types.specs.Numbered.{all_true, is_numbered, numbered_step, are_numbered, row_numbered, type_numbered, types_numbered}
 use Rattle.data_types.specs.Types as D
 use Rattle.data_types.specs.View as v
-use Rattle.reached_instances.specs.Source as S
+use Rattle.reached_instances.specs.closed_types.Source as S
 use Rattle.reached_instances.specs.SourceView as s
+use Rattle.reached_instances.specs.closed_types.DeclaredView.{ty_step}
 use Rattle.static_params.specs.FlatSource.{field, fields, constructor, declared, flat_source}
 use Rattle.fip_language.proofs.Facts.{and_both as both_true, cons_head as heads, cons_tail as tails}
 
@@ -35,7 +36,7 @@ module _ {A : Type 0} (f : A → FieldType) (ok : (a : A) → IsField (f a)) whe
       ap₂ (λ t ts. S.MoreTys t ts) (ok a parts.0) (row_field as' parts.1)
 
   layer_field : (y : F.FieldType-F A) → numbered_step (map-FieldType FieldType Bool is_numbered (map-FieldType A FieldType f y)) ≡ true →
-      s.ty_step (map-FieldType FieldType S.Ty s.ty (map-FieldType A FieldType f y)) ≡ field (v.ty_step (map-FieldType FieldType D.Ty v.ty (map-FieldType A FieldType f y)))
+      ty_step (map-FieldType FieldType S.Ty s.ty (map-FieldType A FieldType f y)) ≡ field (v.ty_step (map-FieldType FieldType D.Ty v.ty (map-FieldType A FieldType f y)))
   layer_field F.Int e = refl
   layer_field (F.Parameter k) e = refl
   layer_field (F.Applied n ts) e =
@@ -44,7 +45,7 @@ module _ {A : Type 0} (f : A → FieldType) (ok : (a : A) → IsField (f a)) whe
 
   pub step_field : (y : F.FieldType-F A) → IsField (roll-FieldType (map-FieldType A FieldType f y))
   step_field y e =
-      fold-roll-FieldType S.Ty s.ty_step (map-FieldType A FieldType f y) ∙
+      fold-roll-FieldType S.Ty ty_step (map-FieldType A FieldType f y) ∙
       layer_field y (sym (fold-roll-FieldType Bool numbered_step (map-FieldType A FieldType f y)) ∙ e) ∙
       sym (ap field (fold-roll-FieldType D.Ty v.ty_step (map-FieldType A FieldType f y)))
 

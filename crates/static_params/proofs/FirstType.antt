@@ -7,10 +7,10 @@ use Rattle.fip_language.specs.Declarations.{bool_type, data_types}
 use Rattle.fip_language.specs.Mentions.{all_of}
 use Rattle.fip_language.specs.Table.{shapes}
 use Rattle.fip_trees.specs.SoundProgram.{bool_row}
-use Rattle.reached_instances.specs.declared.closed.Head.TheVariants as H
-use Rattle.reached_instances.specs.Closed.{Closed, Closeds, Applied, NoClosed, same_closed}
-use Rattle.reached_instances.specs.Numbering.{with_new, with_all}
-use Rattle.reached_instances.specs.TypeInstances.{types_of_instance, types_given, parts_of}
+use Rattle.reached_instances.specs.closed_types.declared.closed.Head.TheVariants as H
+use Rattle.reached_instances.specs.closed_types.Closed.{Closed, Closeds, Applied, NoClosed, same_closed}
+use Rattle.reached_instances.specs.closed_types.Numbering.{with_new, with_all}
+use Rattle.reached_instances.specs.closed_types.TypeInstances.{types_of_instance, types_given, parts_of}
 use Rattle.static_params.specs.Answers.{AreFew}
 use Rattle.static_params.specs.FlatProgram.{Numbers, flat_program}
 use Rattle.static_params.specs.FlatSource.{flat_source}

@@ -10,13 +10,13 @@ use Rattle.fip_trees.specs.declared.decls.ConstructorId.{ConstructorId}
 use Rattle.data_types.specs.Types as D
 use Rattle.data_types.specs.Declarations.{data_scope, declared_names, written_names, constructor_fields}
 use Rattle.fip_base.specs.CoreView.{writtens_of}
-use Rattle.reached_instances.specs.declared.closed.Head.TheVariants as H
-use Rattle.reached_instances.specs.Closed.{Closed, Closeds, Int, Applied, NoClosed, MoreClosed}
-use Rattle.reached_instances.specs.Source as S
-use Rattle.reached_instances.specs.Source.{Source, Instance, statics_at, statics_or_none, declared_at}
-use Rattle.reached_instances.specs.Uses.{closed_function, declared_type}
-use Rattle.reached_instances.specs.Instances.{roots, roots_from, root_if, calls_from, calls_in, if_there, calls, AreInstances, functions_among, passed_to, ArePassed}
-use Rattle.reached_instances.specs.TypeInstances.{unless_int, types_written, plain_number, numbers_named, types_named, types_in, types_of_instance, types_among, types_given, type_roots, pick, field_type, field_types, unless_ints, fields_of, parts_of, arity, AreTypes, written_in_header, annotations_in_block}
+use Rattle.reached_instances.specs.closed_types.declared.closed.Head.TheVariants as H
+use Rattle.reached_instances.specs.closed_types.Closed.{Closed, Closeds, Int, Applied, NoClosed, MoreClosed}
+use Rattle.reached_instances.specs.closed_types.Source as S
+use Rattle.reached_instances.specs.closed_types.Source.{Source, Instance, statics_at, statics_or_none, declared_at}
+use Rattle.reached_instances.specs.closed_types.Uses.{closed_function, declared_type}
+use Rattle.reached_instances.specs.closed_types.Instances.{roots, roots_from, root_if, calls_from, calls_in, if_there, calls, AreInstances, functions_among, passed_to, ArePassed}
+use Rattle.reached_instances.specs.closed_types.TypeInstances.{unless_int, types_written, plain_number, numbers_named, types_named, types_in, types_of_instance, types_among, types_given, type_roots, pick, field_type, field_types, unless_ints, fields_of, parts_of, arity, AreTypes, written_in_header, annotations_in_block}
 use Rattle.static_params.specs.FlatSource.{flat_source, field, fields, constructor, declared}
 use Rattle.static_params.proofs.Meanings.{IsConstructor, constructor_there, IsSoundTy, AreSoundTys, all_looked_up_sound}
 use Rattle.static_params.proofs.GoodTypes.{among_either, all_of_have, firsts_among, reached_have, get_map, below, IsNumber, IsGood, AreGood, IsGoodFunction, AreGiven, IsHere, closed_function_good, declared_type_good}

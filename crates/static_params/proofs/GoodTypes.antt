@@ -9,15 +9,15 @@ use Rattle.fip_language.specs.Mentions.{all_of}
 use Rattle.fip_trees.specs.Names.{meaning}
 use Rattle.fip_trees.specs.declared.decls.TypeHead.{TypeHead}
 use Rattle.data_types.specs.Declarations.{written_names}
-use Rattle.reached_instances.specs.declared.closed.Head.TheVariants as H
-use Rattle.reached_instances.specs.Closed.{Closed, Closeds, Int, Applied, NoClosed, MoreClosed, closed_at}
-use Rattle.reached_instances.specs.Source.{Instance, statics_at, given_type, given_function, type_at, function_at, if_type, if_function, static_places}
-use Rattle.reached_instances.specs.Uses.{closed_type, closed_types, named_type, applied_to, both, declared_type, or_int, closed_function, closed_arguments, named_use, declared_use, applied_function, all_given, fit_if_known, types_given, statics_meant, count}
-use Rattle.reached_instances.specs.Numbering.{Way, Reached, with_new, with_all, firsts}
+use Rattle.reached_instances.specs.closed_types.declared.closed.Head.TheVariants as H
+use Rattle.reached_instances.specs.closed_types.Closed.{Closed, Closeds, Int, Applied, NoClosed, MoreClosed, closed_at}
+use Rattle.reached_instances.specs.closed_types.Source.{Instance, statics_at, given_type, given_function, type_at, function_at, if_type, if_function, static_places}
+use Rattle.reached_instances.specs.closed_types.Uses.{closed_type, closed_types, named_type, applied_to, both, declared_type, or_int, closed_function, closed_arguments, named_use, declared_use, applied_function, all_given, fit_if_known, types_given, statics_meant, count}
+use Rattle.reached_instances.specs.closed_types.Numbering.{Way, Reached, with_new, with_all, firsts}
 use Rattle.static_params.specs.FlatSource.{flat_source}
 use Rattle.static_params.proofs.Meanings.{type_there, function_there}
 pub use Rattle.fip_language.proofs.Facts.{get_map, get_within as below}
-pub use Rattle.reached_instances.proofs.Numbered.{among_either}
+pub use Rattle.reached_instances.proofs.closed_types.Numbered.{among_either}
 
 -- ---- lists
 

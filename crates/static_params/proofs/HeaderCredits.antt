@@ -17,10 +17,10 @@ use Rattle.fip_trees.proofs.Leasts.{in_left, in_right}
 use Rattle.data_types.specs.Answers.{Violates}
 use Rattle.data_types.specs.Declarations.{declared_names}
 use Rattle.data_types.specs.Faults.{broken, when, place_faults, mark_faults, credit_faults, function_faults, all_data_faults, all_function_faults, name_faults}
-use Rattle.reached_instances.specs.declared.closed.Head.TheVariants as H
-use Rattle.reached_instances.specs.Closed as Z
-use Rattle.reached_instances.specs.Closed.{Closed, Applied}
-use Rattle.reached_instances.specs.Source.{Instance}
+use Rattle.reached_instances.specs.closed_types.declared.closed.Head.TheVariants as H
+use Rattle.reached_instances.specs.closed_types.Closed as Z
+use Rattle.reached_instances.specs.closed_types.Closed.{Closed, Applied}
+use Rattle.reached_instances.specs.closed_types.Source.{Instance}
 use Rattle.static_params.specs.FlatProgram.{Numbers, credit_size, flat_instance, instance_if, instances_of, flat_program}
 use Rattle.static_params.specs.FlatSource.{flat_source}
 use Rattle.static_params.proofs.GoodTypes.{all_of_have}

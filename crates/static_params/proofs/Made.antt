@@ -18,10 +18,10 @@ use Rattle.fip_trees.proofs.TreeViews.{binding_made, block_made, clause_made}
 use Rattle.static_params.specs.FlatProgram.{flat_argument, flat_arguments}
 use Rattle.static_params.specs.FlatView.{IsMaking, Making, Stays, binder_in, block_in, bound_in, case_in, clauses_in, expression_in, pattern_in, patterns_in}
 use Rattle.static_params.specs.declared.flatten.Flattening.{Flattening}
-use Rattle.reached_instances.specs.Source.{Source}
-use Rattle.reached_instances.proofs.Growing.{grows_same, grows_more}
-use Rattle.reached_instances.proofs.Hearing.{binding_is, block_is, clause_is}
-use Rattle.reached_instances.proofs.Lists.{drop_item}
+use Rattle.reached_instances.specs.closed_types.Source.{Source}
+use Rattle.reached_instances.proofs.closed_types.Growing.{grows_same, grows_more}
+use Rattle.reached_instances.proofs.closed_types.Hearing.{binding_is, block_is, clause_is}
+use Rattle.reached_instances.proofs.closed_types.Lists.{drop_item}
 
 -- ---- rows
 

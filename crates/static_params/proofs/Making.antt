@@ -4,13 +4,13 @@ use Rattle.std.proofs.lemmas.List.{map-append}
 use Rattle.fip_trees.specs.Tree as T
 use Rattle.fip_trees.specs.TreeView as W
 use Rattle.fip_trees.specs.declared.program.Instance as I
-use Rattle.reached_instances.specs.declared.closed.Head.TheVariants as H
+use Rattle.reached_instances.specs.closed_types.declared.closed.Head.TheVariants as H
 use Rattle.static_params.specs.declared.flatten.Flattening.{Flattening}
-use Rattle.reached_instances.specs.Closed.{Closed, Closeds, Int, Applied}
+use Rattle.reached_instances.specs.closed_types.Closed.{Closed, Closeds, Int, Applied}
 use Rattle.static_params.specs.FlatProgram.{Numbers, instances_of}
 use Rattle.static_params.specs.FlatView.{GoesOn, IsMaking}
-use Rattle.reached_instances.specs.Source.{Source}
-use Rattle.reached_instances.proofs.Growing.{grows_same, grows_more}
+use Rattle.reached_instances.specs.closed_types.Source.{Source}
+use Rattle.reached_instances.proofs.closed_types.Growing.{grows_same, grows_more}
 
 pub no_instances : (s : Source) (ns : Numbers) (c : Closed) → ((f : ℕ) (cs : Closeds) → c ≡ Applied (H.Function f) cs → ⊥) → instances_of s ns c ≡ []
 no_instances s ns Int h = refl

@@ -4,15 +4,15 @@ use Rattle.std.specs.List.{position, position_or_len, prefix_len}
 use Rattle.static_params.specs.declared.table.Numbers as N
 use Rattle.reached_instances.specs.declared.source.Source as D
 use Rattle.reached_instances.specs.declared.source.Here.{Here}
-use Rattle.reached_instances.specs.Closed.{Closed, same_closed}
+use Rattle.reached_instances.specs.closed_types.Closed.{Closed, same_closed}
 use Rattle.static_params.specs.FlatProgram.{Numbers, from_one, number_in, numbers_of, type_number}
 use Rattle.static_params.specs.FlatView.{AreNumbers, IsMakingOf, making_of, numbers_at}
 use Rattle.reached_instances.specs.KnownFits.{IsRight}
-use Rattle.reached_instances.specs.SharedTrees.{AreShared, AreWithin, Branch, Grows, Kept, all_at, tree_at, trees, trees_at}
+use Rattle.reached_instances.specs.closed_types.SharedTrees.{AreShared, AreWithin, Branch, Grows, Kept, all_at, tree_at, trees, trees_at}
 use Rattle.reached_instances.proofs.Closing.{kept_all}
 use Rattle.reached_instances.proofs.Declaring.{map_length}
 use Rattle.reached_instances.proofs.Fitting.{same_at, same_instance}
-use Rattle.reached_instances.proofs.Growing.{within_more}
+use Rattle.reached_instances.proofs.closed_types.Growing.{within_more}
 
 prefix_at : (bs : List Branch) (i : ℕ) (xs : List ℕ) → AreShared bs → i < length bs + 1 → AreWithin bs xs → prefix_len (λ x. not (nat_eq i x)) xs ≡ prefix_len (λ c. not (same_closed (tree_at (trees bs) i) c)) (all_at (trees bs) xs)
 prefix_at bs i [] s h w = refl

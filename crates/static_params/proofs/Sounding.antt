@@ -24,24 +24,24 @@ use Rattle.data_types.specs.DeclaredProgram.{AreDeclared}
 use Rattle.data_types.specs.Declarations.{declarations}
 use Rattle.data_types.specs.Faults.{function_mentions}
 use Rattle.data_types.specs.Types.{IsValued}
-use Rattle.reached_instances.specs.declared.closed.Head.TheVariants as H
+use Rattle.reached_instances.specs.closed_types.declared.closed.Head.TheVariants as H
 use Rattle.static_params.specs.Answers.{AreFew, IsAccepted, Names}
-use Rattle.reached_instances.specs.Closed as Z
-use Rattle.reached_instances.specs.Closed.{Closed, Closeds, Applied, NoClosed, MoreClosed, same_closed}
+use Rattle.reached_instances.specs.closed_types.Closed as Z
+use Rattle.reached_instances.specs.closed_types.Closed.{Closed, Closeds, Applied, NoClosed, MoreClosed, same_closed}
 use Rattle.static_params.specs.FlatProgram.{Numbers, flat_instance, flat_program, instance_if, instances_of, is_root}
 use Rattle.static_params.specs.FlatSource.{flat_source}
 use Rattle.static_params.specs.FlatView.{IsNamed}
-use Rattle.reached_instances.specs.Instances.{roots, calls_from}
-use Rattle.reached_instances.specs.Numbering.{Differ}
-use Rattle.reached_instances.specs.Source.{Source, Instance, statics_at, statics_or_none}
+use Rattle.reached_instances.specs.closed_types.Instances.{roots, calls_from}
+use Rattle.reached_instances.specs.closed_types.Numbering.{Differ}
+use Rattle.reached_instances.specs.closed_types.Source.{Source, Instance, statics_at, statics_or_none}
 use Rattle.reached_instances.specs.SourceView as s
-use Rattle.reached_instances.proofs.ClosedTrees.{closed_exact}
+use Rattle.reached_instances.proofs.closed_types.ClosedTrees.{closed_exact}
 use Rattle.static_params.proofs.ConstructorRows.{functions_once, narrow, one_place, unlike}
 use Rattle.static_params.proofs.CoreSources.{source_is}
 use Rattle.static_params.proofs.FirstType.{first_shapes}
 use Rattle.static_params.proofs.GoodInstances.{instances_good}
 use Rattle.static_params.proofs.GoodTypes.{AreGiven, IsGoodFunction, below}
-use Rattle.reached_instances.proofs.Numbered.{numbered_differ}
+use Rattle.reached_instances.proofs.closed_types.Numbered.{numbered_differ}
 use Rattle.static_params.proofs.HeaderCredits.{all_credits}
 use Rattle.static_params.proofs.TableRows.{fields_within, inhabited, instances_length, one_instance, types_length}
 use Rattle.static_params.proofs.TypeRows.{one_at, there_among}

@@ -6,22 +6,22 @@ use Rattle.fip_language.specs.declared.limits.TheConstants.{MOST_INSTANCES}
 use Rattle.fip_trees.specs.Least.{after}
 use Rattle.fip_trees.specs.declared.least.Violation.{Violation}
 use Rattle.fip_trees.proofs.Leasts.{least_of, none_of}
-use Rattle.reached_instances.specs.declared.closed.Passing.{Passing}
+use Rattle.reached_instances.specs.closed_types.declared.closed.Passing.{Passing}
 use Rattle.reached_instances.specs.declared.source.Source as D
 use Rattle.static_params.specs.declared.table.Numbers as N
 use Rattle.static_params.specs.Answers.{AreManyFunctions, AreManyTypes, Names, start}
-use Rattle.reached_instances.specs.Closed.{Closed}
+use Rattle.reached_instances.specs.closed_types.Closed.{Closed}
 use Rattle.static_params.specs.FlatView.{IsNamed, IsNumbered, IsTypes, numbers_at}
-use Rattle.reached_instances.specs.Instances.{all_faults, AreInstances, ArePassed}
+use Rattle.reached_instances.specs.closed_types.Instances.{all_faults, AreInstances, ArePassed}
 use Rattle.reached_instances.specs.KnownFits.{IsRight}
-use Rattle.reached_instances.specs.SharedTrees.{AreWithin, Grows, IsNoted, Kept, all_at, trees}
-use Rattle.reached_instances.specs.Source.{Source}
+use Rattle.reached_instances.specs.closed_types.SharedTrees.{AreWithin, Grows, IsNoted, Kept, all_at, trees}
+use Rattle.reached_instances.specs.closed_types.Source.{Source}
 use Rattle.reached_instances.specs.SourceView.{IsLookedUp, source}
-use Rattle.reached_instances.specs.Numbering.{AreMore}
-use Rattle.reached_instances.specs.TypeInstances.{AreTypes, parts_of, type_roots}
-use Rattle.reached_instances.specs.Uses.{broken}
+use Rattle.reached_instances.specs.closed_types.Numbering.{AreMore}
+use Rattle.reached_instances.specs.closed_types.TypeInstances.{AreTypes, parts_of, type_roots}
+use Rattle.reached_instances.specs.closed_types.Uses.{broken}
 use Rattle.reached_instances.proofs.Closing.{kept_all}
-use Rattle.reached_instances.proofs.Growing.{within_more}
+use Rattle.reached_instances.proofs.closed_types.Growing.{within_more}
 
 -- int alone
 pub right_first : (s : D.Source) (k : Kept) → k.fits ≡ [] → IsLookedUp s → IsRight s k

@@ -12,12 +12,12 @@ use Rattle.fip_language.specs.Values.{Value, Int, Node}
 use Rattle.fip_trees.specs.Tree as T
 use Rattle.data_types.specs.Types as D
 use Rattle.data_types.specs.Declarations.{declarations, declared_names}
-use Rattle.reached_instances.specs.declared.closed.Head.TheVariants as H
-use Rattle.reached_instances.specs.Closed as Z
-use Rattle.reached_instances.specs.Closed.{Closed, Closeds, Applied, NoClosed, MoreClosed}
-use Rattle.reached_instances.specs.Source.{declared_at}
-use Rattle.reached_instances.specs.Instances.{AreInstances, ArePassed}
-use Rattle.reached_instances.specs.TypeInstances.{AreTypes as AreNumberedTypes, type_roots, field_types}
+use Rattle.reached_instances.specs.closed_types.declared.closed.Head.TheVariants as H
+use Rattle.reached_instances.specs.closed_types.Closed as Z
+use Rattle.reached_instances.specs.closed_types.Closed.{Closed, Closeds, Applied, NoClosed, MoreClosed}
+use Rattle.reached_instances.specs.closed_types.Source.{declared_at}
+use Rattle.reached_instances.specs.closed_types.Instances.{AreInstances, ArePassed}
+use Rattle.reached_instances.specs.closed_types.TypeInstances.{AreTypes as AreNumberedTypes, type_roots, field_types}
 use Rattle.static_params.specs.FlatProgram.{Numbers, type_number, flat_instance, instance_if, instances_of, numbers_of, flat_constructor, rows_of, declaring_of, flat_program}
 use Rattle.static_params.specs.FlatSource.{flat_source, declared}
 use Rattle.static_params.proofs.GoodTypes.{IsGood, IsGoodFunction}

@@ -1,16 +1,16 @@
 -- The rows of the table of types.
 use Rattle.std.proofs.Common.{◌≡◌, ◌∙◌, ℕ, List, [], ◌∷◌, Option, Some, None, map, nat_eq, refl, ap, sym}
 use Rattle.std.specs.List.{position}
-use Rattle.reached_instances.specs.declared.closed.Head.{Head}
-use Rattle.reached_instances.specs.declared.closed.Head.TheVariants as H
+use Rattle.reached_instances.specs.closed_types.declared.closed.Head.{Head}
+use Rattle.reached_instances.specs.closed_types.declared.closed.Head.TheVariants as H
 use Rattle.static_params.specs.declared.table.Numbers as N
-use Rattle.reached_instances.specs.Closed.{Closed, Closeds, Int, Applied, arguments_of, head_of, row}
+use Rattle.reached_instances.specs.closed_types.Closed.{Closed, Closeds, Int, Applied, arguments_of, head_of, row}
 use Rattle.static_params.specs.FlatProgram.{Numbers, declaring_of, from_one, number_if, numbers_of, row_if, rows_of, type_number}
 use Rattle.static_params.specs.FlatView.{AreNumbers, numbers_at}
-use Rattle.reached_instances.specs.SharedTrees.{AreShared, AreWithin, Grows, Kept, all_at, tree_at, trees}
-use Rattle.reached_instances.specs.Source.{Source, Ty, declared_at}
-use Rattle.reached_instances.specs.SourceView.{tys_of}
-use Rattle.reached_instances.specs.TypeInstances.{field_type, field_types}
+use Rattle.reached_instances.specs.closed_types.SharedTrees.{AreShared, AreWithin, Grows, Kept, all_at, tree_at, trees}
+use Rattle.reached_instances.specs.closed_types.Source.{Source, Ty, declared_at}
+use Rattle.reached_instances.specs.closed_types.DeclaredView.{tys_of}
+use Rattle.reached_instances.specs.closed_types.TypeInstances.{field_type, field_types}
 use Rattle.reached_instances.proofs.Fielding.{fields_row}
 use Rattle.static_params.proofs.PlaceNumbers.{row_numbers}
 

@@ -7,23 +7,23 @@ use Rattle.fip_language.specs.Every.{Among}
 use Rattle.fip_language.specs.Mentions.{all_of}
 use Rattle.fip_language.specs.Table.{Shape, Table, shapes}
 use Rattle.data_types.specs.Declarations.{declared_names}
-use Rattle.reached_instances.specs.declared.closed.Head.{Head}
-use Rattle.reached_instances.specs.declared.closed.Head.TheVariants as H
-use Rattle.reached_instances.specs.Closed.{Closed, Closeds, Int, Applied, NoClosed, MoreClosed, same_head, same_closed, same_closeds}
-use Rattle.reached_instances.specs.Source as S
-use Rattle.reached_instances.specs.Source.{Source, Instance, declared_at}
-use Rattle.reached_instances.specs.Uses.{declared_type}
-use Rattle.reached_instances.specs.Numbering.{with_new, with_all, AreNumbered}
-use Rattle.reached_instances.specs.TypeInstances as Y
-use Rattle.reached_instances.specs.TypeInstances.{unless_int, types_written, numbers_named, types_named, types_in, types_of_instance, types_among, types_given, type_roots, field_types, unless_ints, fields_of, parts_of, written_in_header, annotations_in_block}
+use Rattle.reached_instances.specs.closed_types.declared.closed.Head.{Head}
+use Rattle.reached_instances.specs.closed_types.declared.closed.Head.TheVariants as H
+use Rattle.reached_instances.specs.closed_types.Closed.{Closed, Closeds, Int, Applied, NoClosed, MoreClosed, same_head, same_closed, same_closeds}
+use Rattle.reached_instances.specs.closed_types.Source as S
+use Rattle.reached_instances.specs.closed_types.Source.{Source, Instance, declared_at}
+use Rattle.reached_instances.specs.closed_types.Uses.{declared_type}
+use Rattle.reached_instances.specs.closed_types.Numbering.{with_new, with_all, AreNumbered}
+use Rattle.reached_instances.specs.closed_types.TypeInstances as Y
+use Rattle.reached_instances.specs.closed_types.TypeInstances.{unless_int, types_written, numbers_named, types_named, types_in, types_of_instance, types_among, types_given, type_roots, field_types, unless_ints, fields_of, parts_of, written_in_header, annotations_in_block}
 use Rattle.static_params.specs.FlatProgram.{Numbers, number_in, from_one, type_number, flat_constructor, row_if, rows_of, number_if, declaring_of}
 use Rattle.static_params.specs.FlatSource.{flat_source, declared}
 use Rattle.static_params.proofs.GoodTypes.{among_either, all_of_have, reached_have, IsGood}
 use Rattle.static_params.proofs.GoodInstances.{declared_is}
 use Rattle.fip_language.proofs.Facts.{and_both as same_both, equal_itself as number_same, same_number}
-use Rattle.reached_instances.proofs.ClosedTrees.{head_is as heads_same, head_self as head_same}
-pub use Rattle.reached_instances.proofs.Numbered.{among_left, among_of, among_right}
-pub use Rattle.reached_instances.proofs.SharedTrees.{among_at as there_among}
+use Rattle.reached_instances.proofs.closed_types.ClosedTrees.{head_is as heads_same, head_self as head_same}
+pub use Rattle.reached_instances.proofs.closed_types.Numbered.{among_left, among_of, among_right}
+pub use Rattle.reached_instances.proofs.closed_types.SharedTrees.{among_at as there_among}
 
 -- ---- lists
 

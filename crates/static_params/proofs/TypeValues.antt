@@ -10,13 +10,13 @@ use Rattle.fip_language.specs.Values.{Value, Int, Node, Values, End, More}
 use Rattle.fip_base.specs.CoreView.{writtens_of}
 use Rattle.data_types.specs.Types as D
 use Rattle.data_types.specs.Declarations.{declarations, data_declared, data_scope, declared_names, constructor_fields}
-use Rattle.reached_instances.specs.declared.closed.Head.TheVariants as H
-use Rattle.reached_instances.specs.Closed as C
-use Rattle.reached_instances.specs.Closed.{Closed, Closeds, Applied, NoClosed, MoreClosed}
-use Rattle.reached_instances.specs.Source as S
-use Rattle.reached_instances.specs.Source.{declared_at}
-use Rattle.reached_instances.specs.Instances.{AreInstances, ArePassed}
-use Rattle.reached_instances.specs.TypeInstances.{AreTypes, type_roots, parts_of, pick, field_type, field_types, unless_int, unless_ints, fields_of}
+use Rattle.reached_instances.specs.closed_types.declared.closed.Head.TheVariants as H
+use Rattle.reached_instances.specs.closed_types.Closed as C
+use Rattle.reached_instances.specs.closed_types.Closed.{Closed, Closeds, Applied, NoClosed, MoreClosed}
+use Rattle.reached_instances.specs.closed_types.Source as S
+use Rattle.reached_instances.specs.closed_types.Source.{declared_at}
+use Rattle.reached_instances.specs.closed_types.Instances.{AreInstances, ArePassed}
+use Rattle.reached_instances.specs.closed_types.TypeInstances.{AreTypes, type_roots, parts_of, pick, field_type, field_types, unless_int, unless_ints, fields_of}
 use Rattle.static_params.specs.FlatProgram.{Numbers, number_in, from_one, type_number, numbers_of, flat_constructor, rows_of, flat_program}
 use Rattle.static_params.specs.FlatSource.{flat_source, field, fields, constructor, declared}
 use Rattle.static_params.proofs.Meanings.{IsSoundTy, AreSoundTys, all_looked_up_sound}

@@ -13,12 +13,12 @@ use Rattle.fip_trees.specs.declared.least.Violation.{Violation}
 use Rattle.fip_language.specs.declared.limits.TheConstants.{MOST_INSTANCES}
 use Rattle.fip_trees.specs.TreeView.{program}
 use Rattle.fip_trees.specs.declared.program.Program.{Program}
-use Rattle.reached_instances.specs.Closed.{Closed}
-use Rattle.reached_instances.specs.Source.{Source}
-use Rattle.reached_instances.specs.Uses.{broken}
-use Rattle.reached_instances.specs.Numbering.{AreMore}
-use Rattle.reached_instances.specs.Instances.{roots, calls_from, all_faults, AreInstances, ArePassed}
-use Rattle.reached_instances.specs.TypeInstances.{type_roots, parts_of, AreTypes}
+use Rattle.reached_instances.specs.closed_types.Closed.{Closed}
+use Rattle.reached_instances.specs.closed_types.Source.{Source}
+use Rattle.reached_instances.specs.closed_types.Uses.{broken}
+use Rattle.reached_instances.specs.closed_types.Numbering.{AreMore}
+use Rattle.reached_instances.specs.closed_types.Instances.{roots, calls_from, all_faults, AreInstances, ArePassed}
+use Rattle.reached_instances.specs.closed_types.TypeInstances.{type_roots, parts_of, AreTypes}
 use Rattle.static_params.specs.FlatProgram.{Numbers, flat_program}
 
 abbrev pub start : Place

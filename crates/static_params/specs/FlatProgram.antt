@@ -19,12 +19,12 @@ use Rattle.fip_trees.specs.Tree as T
 use Rattle.fip_trees.specs.declared.decls.ConstructorId.{ConstructorId}
 use Rattle.fip_trees.specs.declared.program.Binder.{Binder}
 use Rattle.fip_trees.specs.declared.program.TupleResult as D
-use Rattle.reached_instances.specs.declared.closed.Head.TheVariants as H
-use Rattle.reached_instances.specs.Binders.{binders_in}
-use Rattle.reached_instances.specs.Closed.{Closed, Closeds, Int, Applied, NoClosed, MoreClosed, same_closed}
-use Rattle.reached_instances.specs.Source.{Tys, NoTys, MoreTys, Constructor, Declared, Source, Instance, declared_at}
-use Rattle.reached_instances.specs.Uses.{closed_function, declared_type, result_types}
-use Rattle.reached_instances.specs.TypeInstances.{field_types}
+use Rattle.reached_instances.specs.closed_types.declared.closed.Head.TheVariants as H
+use Rattle.reached_instances.specs.closed_types.Binders.{binders_in}
+use Rattle.reached_instances.specs.closed_types.Closed.{Closed, Closeds, Int, Applied, NoClosed, MoreClosed, same_closed}
+use Rattle.reached_instances.specs.closed_types.Source.{Tys, NoTys, MoreTys, Constructor, Declared, Source, Instance, declared_at}
+use Rattle.reached_instances.specs.closed_types.Uses.{closed_function, declared_type, result_types}
+use Rattle.reached_instances.specs.closed_types.TypeInstances.{field_types}
 
 -- what is numbered: the instances from 0, the types from 1
 pub record Numbers : Type 0 where

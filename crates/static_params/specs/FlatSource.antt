@@ -8,7 +8,7 @@ use Rattle.fip_language.specs.Declarations.{data_types}
 use Rattle.fip_trees.specs.Names.{Names}
 use Rattle.data_types.specs.Types as D
 use Rattle.data_types.specs.Declarations.{Scope, data_scope, constructor_fields, declared_names, written_names}
-use Rattle.reached_instances.specs.Source.{Ty, Plain, Parameter, Of, Tys, NoTys, MoreTys, Constructor, Declared, Source}
+use Rattle.reached_instances.specs.closed_types.Source.{Ty, Plain, Parameter, Of, Tys, NoTys, MoreTys, Constructor, Declared, Source}
 
 -- A field's type. Data types are numbered from 1 here, from 0 among the declarations.
 abbrev mutual

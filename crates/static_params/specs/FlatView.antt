@@ -14,15 +14,15 @@ use Rattle.reached_instances.specs.declared.source.Source as D
 use Rattle.reached_instances.specs.declared.source.Here.{Here}
 use Rattle.static_params.specs.declared.table.Numbers as N
 use Rattle.static_params.specs.declared.flatten.Flattening.{Flattening}
-use Rattle.reached_instances.specs.Closed.{Closed}
+use Rattle.reached_instances.specs.closed_types.Closed.{Closed}
 use Rattle.static_params.specs.Answers.{AreFew, Names}
 use Rattle.static_params.specs.FlatProgram.{Numbers, flat_binder, flat_block, flat_clauses, flat_expression}
 use Rattle.static_params.specs.FlatProgram.{flat_call, flat_parameter, flat_pattern, flat_patterns, flat_type}
-use Rattle.reached_instances.specs.Instances.{all_faults, ArePassed}
-use Rattle.reached_instances.specs.TypeInstances.{AreTypes}
+use Rattle.reached_instances.specs.closed_types.Instances.{all_faults, ArePassed}
+use Rattle.reached_instances.specs.closed_types.TypeInstances.{AreTypes}
 use Rattle.reached_instances.specs.KnownFits.{IsRight}
-use Rattle.reached_instances.specs.SharedTrees.{AreWithin, Grows, Kept, all_at, trees}
-use Rattle.reached_instances.specs.Source.{Source, Instance}
+use Rattle.reached_instances.specs.closed_types.SharedTrees.{AreWithin, Grows, Kept, all_at, trees}
+use Rattle.reached_instances.specs.closed_types.Source.{Source, Instance}
 use Rattle.reached_instances.specs.SourceView.{instance, source}
 
 -- the trees that are numbered

@@ -7,7 +7,7 @@ ghost use Rattle.fip_trees.specs.TreeView as W;
 ghost use Rattle.static_params.specs.FlatProgram as P;
 ghost use Rattle.static_params.specs.FlatView as F;
 ghost use Rattle.reached_instances.specs.SourceView as S;
-ghost use Rattle.reached_instances.specs.Uses.{result_types};
+ghost use Rattle.reached_instances.specs.closed_types.Uses.{result_types};
 
 use crate::table::Numbers;
 use fip_base::core_form::{

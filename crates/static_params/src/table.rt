@@ -3,11 +3,11 @@ ghost use Rattle.std.specs.Prelude.{◌≡◌, ◌+◌, ◌<◌, ◌≤◌, ◌^
 ghost use Rattle.std.specs.List.{position};
 ghost use Rattle.fip_language.specs.Mentions.{all_of};
 ghost use Rattle.fip_language.specs.declared.limits.TheConstants.{MOST_INSTANCES};
-ghost use Rattle.reached_instances.specs.Closed.{arguments_of};
+ghost use Rattle.reached_instances.specs.closed_types.Closed.{arguments_of};
 ghost use Rattle.static_params.specs.FlatProgram as P;
 ghost use Rattle.static_params.specs.FlatView.{AreNumbers, numbers_at};
-ghost use Rattle.reached_instances.specs.SharedTrees.{AreWithin, Grows, tree_at, trees, trees_at};
-ghost use Rattle.reached_instances.specs.Source.{declared_at};
+ghost use Rattle.reached_instances.specs.closed_types.SharedTrees.{AreWithin, Grows, tree_at, trees, trees_at};
+ghost use Rattle.reached_instances.specs.closed_types.Source.{declared_at};
 ghost use Rattle.reached_instances.specs.SourceView as S;
 
 use fip_base::plain::{Name, NoMemory, Types};

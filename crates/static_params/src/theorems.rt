@@ -6,10 +6,10 @@ ghost use Rattle.fip_trees.specs.declared.program.Program.{Program};
 ghost use Rattle.fip_trees.specs.TreeView as W;
 ghost use Rattle.static_params.specs.Answers.{AreFew, AreFewInstances, AreManyFunctions, AreManyTypes};
 ghost use Rattle.static_params.specs.Answers.{IsAccepted, Names};
-ghost use Rattle.reached_instances.specs.Closed.{Closed};
+ghost use Rattle.reached_instances.specs.closed_types.Closed.{Closed};
 ghost use Rattle.static_params.specs.FlatProgram.{Numbers};
-ghost use Rattle.reached_instances.specs.Instances.{AreInstances};
-ghost use Rattle.reached_instances.specs.Source.{Source};
+ghost use Rattle.reached_instances.specs.closed_types.Instances.{AreInstances};
+ghost use Rattle.reached_instances.specs.closed_types.Source.{Source};
 
 /// Nothing; a program's instances are one list, and they are few or many.
 pub fn instances_are_one()

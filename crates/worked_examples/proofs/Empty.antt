@@ -10,12 +10,12 @@ use Rattle.source_report.specs.data_types.Types as D
 use Rattle.source_report.specs.data_types.Types.{IsValued}
 use Rattle.source_report.specs.data_types.Declarations.{declarations}
 use Rattle.source_report.specs.data_types.Answers as Declaring
-use Rattle.source_report.specs.reached_instances.declared.closed.Head.TheVariants as H
-use Rattle.source_report.specs.reached_instances.Closed.{Closed, Applied, NoClosed}
+use Rattle.source_report.specs.reached_instances.closed_types.declared.closed.Head.TheVariants as H
+use Rattle.source_report.specs.reached_instances.closed_types.Closed.{Closed, Applied, NoClosed}
 use Rattle.source_report.specs.static_params.FlatProgram.{Numbers}
 use Rattle.source_report.specs.static_params.FlatSource.{flat_source}
-use Rattle.source_report.specs.reached_instances.Numbering.{Reached}
-use Rattle.source_report.specs.reached_instances.TypeInstances.{type_roots, parts_of}
+use Rattle.source_report.specs.reached_instances.closed_types.Numbering.{Reached}
+use Rattle.source_report.specs.reached_instances.closed_types.TypeInstances.{type_roots, parts_of}
 use Rattle.source_report.specs.static_params.Answers as Statics
 use Rattle.source_report.specs.call_groups.Stacks.{HasFrame, frames_in, words_in, frame_words, AreStacks}
 use Rattle.source_report.specs.tail_groups.Members.{AreMembers}

@@ -1,7 +1,7 @@
 use Rattle.std.proofs.Common.{Option, ℕ, Vec, Global, subst}
-use Rattle.reached_instances.specs.SharedTrees.{trees}
-use Rattle.reached_instances.specs.UsesView.{AreWithinIfSome, all_trees}
-use Rattle.reached_instances.proofs.Using.{applied_place, applied_none}
+use Rattle.closed_types.specs.SharedTrees.{trees}
+use Rattle.closed_types.specs.UsesView.{AreWithinIfSome, all_trees}
+use Rattle.closed_types.proofs.Using.{applied_place, applied_none}
 use Rattle.reached_instances.proofs.fits.applied_function.Goals as goal
 
 pub returns-in_ok-place-in-Some-clause-closed : goal.returns-in_ok-place-in-Some-clause-closed

@@ -2,7 +2,7 @@ use Rattle.std.proofs.Common.{◌≡◌, ◌≤◌, ◌+◌, ◌∙◌, ℕ, ◌
 use Rattle.fip_base.specs.CoreView.{static}
 use Rattle.reached_instances.proofs.Declaring.{map_length}
 use Rattle.reached_instances.proofs.Gathering.{typed_fails, typed_goes, typed_ends, typed_stops}
-use Rattle.reached_instances.proofs.Lists.{drop_item, mapped_item}
+use Rattle.closed_types.proofs.Lists.{drop_item, mapped_item}
 use Rattle.reached_instances.proofs.fits.types_of.Goals as goal
 
 pub returns-in-None-type_of-clause-trees : goal.returns-in-None-type_of-clause-trees

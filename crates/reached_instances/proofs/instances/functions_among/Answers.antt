@@ -1,8 +1,8 @@
 use Rattle.std.proofs.Common.{get_or, ℕ, ◌+◌, ◌<◌, List, [], length, subst, sym}
-use Rattle.reached_instances.specs.Closed.{MoreClosed, NoClosed}
-use Rattle.reached_instances.specs.Instances.{functions_among}
-use Rattle.reached_instances.specs.PutView.{Put}
-use Rattle.reached_instances.specs.SharedTrees.{tree_at, trees}
+use Rattle.closed_types.specs.Closed.{MoreClosed, NoClosed}
+use Rattle.closed_types.specs.Instances.{functions_among}
+use Rattle.closed_types.specs.PutView.{Put}
+use Rattle.closed_types.specs.SharedTrees.{tree_at, trees}
 use Rattle.reached_instances.proofs.Putting.{item_is, every_there, put_as, put_ends, put_starts, put_step}
 use Rattle.reached_instances.proofs.Typing.{functions_each}
 use Rattle.reached_instances.proofs.instances.functions_among.Goals as goal

@@ -1,9 +1,9 @@
 use Rattle.std.proofs.Common.{[], take}
 use Rattle.fip_base.specs.fip_language.Mentions.{all_of}
-use Rattle.reached_instances.specs.Closed.{MoreClosed, NoClosed}
-use Rattle.reached_instances.specs.Instances.{functions_among}
-use Rattle.reached_instances.specs.PutView.{Put}
-use Rattle.reached_instances.specs.SharedTrees.{AreWithin, tree_at, trees}
+use Rattle.closed_types.specs.Closed.{MoreClosed, NoClosed}
+use Rattle.closed_types.specs.Instances.{functions_among}
+use Rattle.closed_types.specs.PutView.{Put}
+use Rattle.closed_types.specs.SharedTrees.{AreWithin, tree_at, trees}
 use Rattle.reached_instances.proofs.instances.functions_among.Given as goal
 
 abbrev pub invariant-loop-argument : goal.invariant-loop-argument

@@ -1,7 +1,7 @@
 use Rattle.std.proofs.Common.{◌≡◌, ◌≤◌, ℕ, List, [], ◌∷◌, map, length, refl, arith}
 use Rattle.fip_base.specs.CoreView.{static}
 use Rattle.fip_base.specs.declared.core_form.Static.{Static}
-use Rattle.reached_instances.specs.Instances.{root_if}
+use Rattle.closed_types.specs.Instances.{root_if}
 use Rattle.reached_instances.proofs.instances.has_statics.Goals as goal
 
 some : (xs : List Static) → 1 ≤ length xs → (n : ℕ) → [] ≡ root_if (map static xs) n

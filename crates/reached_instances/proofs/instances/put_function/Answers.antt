@@ -1,6 +1,6 @@
 use Rattle.std.proofs.Common.{◌∙◌, [], refl, sym, Some, ap}
-use Rattle.reached_instances.specs.SharedTrees.{tree_at, trees}
-use Rattle.reached_instances.proofs.Growing.{grows_same}
+use Rattle.closed_types.specs.SharedTrees.{tree_at, trees}
+use Rattle.closed_types.proofs.Growing.{grows_same}
 use Rattle.reached_instances.proofs.Putting.{put_as, put_none, put_place}
 use Rattle.reached_instances.proofs.Typing.{function_of_head, function_of_type, function_of_int}
 use Rattle.reached_instances.proofs.instances.put_function.Goals as goal

@@ -1,7 +1,7 @@
 use Rattle.std.proofs.Common.{◌∙◌, ℕ, List, [], ap, sym, subst}
-use Rattle.reached_instances.specs.declared.closed.Head.TheVariants as H
-use Rattle.reached_instances.specs.Closed.{Applied, NoClosed}
-use Rattle.reached_instances.specs.SharedTrees.{AreWithin, trees, trees_at}
+use Rattle.closed_types.specs.declared.closed.Head.TheVariants as H
+use Rattle.closed_types.specs.Closed.{Applied, NoClosed}
+use Rattle.closed_types.specs.SharedTrees.{AreWithin, trees, trees_at}
 use Rattle.reached_instances.proofs.Putting.{put_as, put_none, put_place}
 use Rattle.reached_instances.proofs.instances.put_root.Goals as goal
 

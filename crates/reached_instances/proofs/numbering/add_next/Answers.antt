@@ -1,5 +1,5 @@
 use Rattle.std.proofs.Common.{◌∙◌, ap, nat_eq}
-use Rattle.reached_instances.specs.Numbering.{with_all}
+use Rattle.closed_types.specs.Numbering.{with_all}
 use Rattle.reached_instances.proofs.numbering.add_next.Goals as goal
 
 pub returns-clause-visited : goal.returns-clause-visited

@@ -1,5 +1,5 @@
 use Rattle.std.proofs.Common.{◌+◌, refl, sym, ◌∙◌, arith}
-use Rattle.reached_instances.proofs.Growing.{grows_more}
+use Rattle.closed_types.proofs.Growing.{grows_more}
 use Rattle.reached_instances.proofs.Walked.{walking_first, walking_next, walking_ends, walking_many, past_end}
 use Rattle.reached_instances.proofs.numbering.reach.Goals as goal
 

@@ -1,5 +1,5 @@
 use Rattle.std.proofs.Common.{◌≤◌, length}
-use Rattle.reached_instances.specs.SharedTrees.{Grows}
+use Rattle.closed_types.specs.SharedTrees.{Grows}
 use Rattle.reached_instances.proofs.Walked.{IsWalking}
 use Rattle.reached_instances.proofs.numbering.reach.Given as goal
 

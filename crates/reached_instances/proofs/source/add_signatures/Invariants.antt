@@ -1,7 +1,7 @@
 use Rattle.std.proofs.Common.{◌≡◌, ◌++◌, drop, map}
 use Rattle.fip_base.specs.fip_language.Mentions.{all_of}
 use Rattle.fip_base.specs.CoreView as V
-use Rattle.reached_instances.specs.TypeInstances.{written_in_static}
+use Rattle.closed_types.specs.TypeInstances.{written_in_static}
 use Rattle.reached_instances.proofs.source.add_signatures.Given as goal
 
 abbrev pub invariant-loop-parameter : goal.invariant-loop-parameter

@@ -1,8 +1,8 @@
 use Rattle.std.proofs.Common.{◌≡◌, ◌+◌, Bool, true, false, not, ◌&&◌, List, refl, sym, ap, map, drop, ◌∙◌}
 use Rattle.fip_trees.specs.declared.decls.DeclaredConstructor.{DeclaredConstructor}
-use Rattle.reached_instances.specs.Source.{all_none, none_of}
-use Rattle.reached_instances.specs.SourceView.{constructor}
-use Rattle.reached_instances.proofs.Lists.{drop_item}
+use Rattle.closed_types.specs.Source.{all_none, none_of}
+use Rattle.closed_types.specs.DeclaredView.{constructor}
+use Rattle.closed_types.proofs.Lists.{drop_item}
 use Rattle.reached_instances.proofs.source.is_scalar.Goals as goal
 
 fails : (b r : Bool) → not b ≡ true → false ≡ (b && r)

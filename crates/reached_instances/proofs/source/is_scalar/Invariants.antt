@@ -1,6 +1,6 @@
 use Rattle.std.proofs.Common.{◌≡◌, map, drop}
-use Rattle.reached_instances.specs.Source.{all_none, is_bare}
-use Rattle.reached_instances.specs.SourceView.{constructor, declared}
+use Rattle.closed_types.specs.Source.{all_none, is_bare}
+use Rattle.closed_types.specs.DeclaredView.{constructor, declared}
 use Rattle.reached_instances.proofs.source.is_scalar.Given as goal
 
 abbrev pub invariant-loop-constructor : goal.invariant-loop-constructor

@@ -1,5 +1,5 @@
 use Rattle.std.proofs.Common.{◌≡◌, ◌++◌, drop, map}
-use Rattle.reached_instances.specs.Source.{is_bare}
+use Rattle.closed_types.specs.Source.{is_bare}
 use Rattle.reached_instances.specs.SourceView as S
 use Rattle.reached_instances.proofs.source.scalars_of.Given as goal
 

@@ -2,8 +2,8 @@ use Rattle.std.proofs.Common.{◌∙◌, ◌+◌, suc, sym, ap, refl, List, map,
 use Rattle.fip_base.specs.CoreView.{static}
 use Rattle.fip_base.specs.declared.core_form.Static.{Static}
 use Rattle.fip_trees.specs.Names.{with_meanings}
-use Rattle.reached_instances.specs.Source.{static_meanings, static_name}
-use Rattle.reached_instances.proofs.Lists.{with_next, drop_item}
+use Rattle.closed_types.specs.Source.{static_meanings, static_name}
+use Rattle.closed_types.proofs.Lists.{with_next, drop_item}
 use Rattle.reached_instances.proofs.source.static_places.Goals as goal
 
 pub loop-parameter-preserved : goal.loop-parameter-preserved

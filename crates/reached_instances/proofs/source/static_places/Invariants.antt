@@ -1,7 +1,7 @@
 use Rattle.std.proofs.Common.{◌≡◌, [], map, drop}
 use Rattle.fip_base.specs.CoreView.{static}
 use Rattle.fip_trees.specs.Names.{with_meanings}
-use Rattle.reached_instances.specs.Source.{static_meanings}
+use Rattle.closed_types.specs.Source.{static_meanings}
 use Rattle.reached_instances.proofs.source.static_places.Given as goal
 
 abbrev pub invariant-loop-parameter : goal.invariant-loop-parameter

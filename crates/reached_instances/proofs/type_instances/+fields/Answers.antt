@@ -1,15 +1,15 @@
 use Rattle.std.proofs.Common.{◌∙◌, ℕ, ◌+◌, ◌<◌, List, [], ◌∷◌, map, length, sym, ap, subst}
 use Rattle.fip_trees.specs.declared.decls.FieldType.{FieldType}
-use Rattle.reached_instances.specs.declared.closed.Head.TheVariants as H
-use Rattle.reached_instances.specs.Closed.{Closeds, Applied, row}
-use Rattle.reached_instances.specs.SharedTrees.{tree_at, trees, trees_at}
-use Rattle.reached_instances.specs.PutView.{Put}
-use Rattle.reached_instances.specs.SourceView.{ty}
-use Rattle.reached_instances.specs.TypeInstances.{field_type}
+use Rattle.closed_types.specs.declared.closed.Head.TheVariants as H
+use Rattle.closed_types.specs.Closed.{Closeds, Applied, row}
+use Rattle.closed_types.specs.SharedTrees.{tree_at, trees, trees_at}
+use Rattle.closed_types.specs.PutView.{Put}
+use Rattle.closed_types.specs.DeclaredView.{ty}
+use Rattle.closed_types.specs.TypeInstances.{field_type}
 use Rattle.reached_instances.proofs.Fielding.{ty_int, ty_parameter, ty_applied, pick_at, pick_within, rowed, fields_row}
-use Rattle.reached_instances.proofs.Growing.{grows_same, grows_more, trees_kept, within_more}
+use Rattle.closed_types.proofs.Growing.{grows_same, grows_more, trees_kept, within_more}
 use Rattle.reached_instances.proofs.Putting.{all_of_single, map_map, put_as, put_ends, put_place, put_starts, put_step}
-use Rattle.reached_instances.proofs.SharedAt.{int_first}
+use Rattle.closed_types.proofs.SharedAt.{int_first}
 use Rattle.reached_instances.proofs.type_instances.+fields.Goals as goal
 
 pub field_place-returns-in-Int-clause-grows : goal.field_place-returns-in-Int-clause-grows

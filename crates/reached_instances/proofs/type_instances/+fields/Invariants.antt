@@ -1,9 +1,9 @@
 use Rattle.std.proofs.Common.{[], ◌∷◌, take}
 use Rattle.fip_base.specs.fip_language.Mentions.{all_of}
-use Rattle.reached_instances.specs.PutView.{Put}
-use Rattle.reached_instances.specs.SharedTrees.{AreWithin, trees, trees_at}
-use Rattle.reached_instances.specs.SourceView.{ty}
-use Rattle.reached_instances.specs.TypeInstances.{field_type}
+use Rattle.closed_types.specs.PutView.{Put}
+use Rattle.closed_types.specs.SharedTrees.{AreWithin, trees, trees_at}
+use Rattle.closed_types.specs.DeclaredView.{ty}
+use Rattle.closed_types.specs.TypeInstances.{field_type}
 use Rattle.reached_instances.proofs.type_instances.+fields.Given as goal
 
 abbrev pub invariant-field_places-loop-ty : goal.invariant-field_places-loop-ty

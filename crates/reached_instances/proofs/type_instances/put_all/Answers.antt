@@ -1,7 +1,7 @@
 use Rattle.std.proofs.Common.{get_or, ℕ, ◌+◌, ◌<◌, length, refl, sym}
-use Rattle.reached_instances.specs.SharedTrees.{tree_at, trees}
-use Rattle.reached_instances.specs.TypeInstances.{unless_int}
-use Rattle.reached_instances.proofs.Growing.{grows_same}
+use Rattle.closed_types.specs.SharedTrees.{tree_at, trees}
+use Rattle.closed_types.specs.TypeInstances.{unless_int}
+use Rattle.closed_types.proofs.Growing.{grows_same}
 use Rattle.reached_instances.proofs.Putting.{item_is, all_of_map, every_there, put_as, put_ends, put_starts, put_step, put_unless}
 use Rattle.reached_instances.proofs.type_instances.put_all.Goals as goal
 

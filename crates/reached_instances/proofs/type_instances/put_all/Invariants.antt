@@ -1,8 +1,8 @@
 use Rattle.std.proofs.Common.{take}
 use Rattle.fip_base.specs.fip_language.Mentions.{all_of}
-use Rattle.reached_instances.specs.PutView.{Put}
-use Rattle.reached_instances.specs.SharedTrees.{AreWithin, tree_at, trees}
-use Rattle.reached_instances.specs.TypeInstances.{unless_int}
+use Rattle.closed_types.specs.PutView.{Put}
+use Rattle.closed_types.specs.SharedTrees.{AreWithin, tree_at, trees}
+use Rattle.closed_types.specs.TypeInstances.{unless_int}
 use Rattle.reached_instances.proofs.type_instances.put_all.Given as goal
 
 abbrev pub invariant-loop-place : goal.invariant-loop-place

@@ -1,11 +1,11 @@
 use Rattle.std.proofs.Common.{◌∙◌, ℕ, List, [], map, ap, sym, subst}
 use Rattle.fip_base.specs.fip_language.Mentions.{all_of}
 use Rattle.fip_trees.specs.declared.decls.FieldType.{FieldType}
-use Rattle.reached_instances.specs.SharedTrees.{AreWithin, all_at, trees, trees_at}
-use Rattle.reached_instances.specs.SourceView.{ty}
-use Rattle.reached_instances.specs.TypeInstances.{field_type, unless_int, unless_ints}
+use Rattle.closed_types.specs.SharedTrees.{AreWithin, all_at, trees, trees_at}
+use Rattle.closed_types.specs.DeclaredView.{ty}
+use Rattle.closed_types.specs.TypeInstances.{field_type, unless_int, unless_ints}
 use Rattle.reached_instances.proofs.Fielding.{fields_row, unless_row}
-use Rattle.reached_instances.proofs.Growing.{within_more}
+use Rattle.closed_types.proofs.Growing.{within_more}
 use Rattle.reached_instances.proofs.Putting.{put_as, put_grown, put_more}
 use Rattle.reached_instances.proofs.type_instances.put_constructor.Goals as goal
 

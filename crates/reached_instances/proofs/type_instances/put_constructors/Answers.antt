@@ -1,10 +1,10 @@
 use Rattle.std.proofs.Common.{ap, sym}
 use Rattle.fip_trees.specs.declared.decls.DeclaredConstructor.{DeclaredConstructor}
-use Rattle.reached_instances.specs.Closed.{Closeds}
-use Rattle.reached_instances.specs.SharedTrees.{trees, trees_at}
+use Rattle.closed_types.specs.Closed.{Closeds}
+use Rattle.closed_types.specs.SharedTrees.{trees, trees_at}
 use Rattle.reached_instances.specs.SourceView as S
-use Rattle.reached_instances.specs.TypeInstances.{types_of_fields}
-use Rattle.reached_instances.proofs.Growing.{trees_kept, within_more}
+use Rattle.closed_types.specs.TypeInstances.{types_of_fields}
+use Rattle.closed_types.proofs.Growing.{trees_kept, within_more}
 use Rattle.reached_instances.proofs.Putting.{all_of_map, put_as, put_ends, put_starts, put_step}
 use Rattle.reached_instances.proofs.type_instances.put_constructors.Goals as goal
 

@@ -1,9 +1,9 @@
 use Rattle.std.proofs.Common.{take}
 use Rattle.fip_base.specs.fip_language.Mentions.{all_of}
-use Rattle.reached_instances.specs.PutView.{Put}
-use Rattle.reached_instances.specs.SharedTrees.{AreWithin, trees, trees_at}
+use Rattle.closed_types.specs.PutView.{Put}
+use Rattle.closed_types.specs.SharedTrees.{AreWithin, trees, trees_at}
 use Rattle.reached_instances.specs.SourceView as S
-use Rattle.reached_instances.specs.TypeInstances.{types_of_fields}
+use Rattle.closed_types.specs.TypeInstances.{types_of_fields}
 use Rattle.reached_instances.proofs.type_instances.put_constructors.Given as goal
 
 abbrev pub invariant-loop-constructor : goal.invariant-loop-constructor

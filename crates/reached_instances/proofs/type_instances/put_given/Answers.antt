@@ -1,6 +1,6 @@
 use Rattle.std.proofs.Common.{◌∙◌, ℕ, List, ap, subst, sym}
-use Rattle.reached_instances.specs.SharedTrees.{AreWithin, tree_at, trees, trees_at}
-use Rattle.reached_instances.specs.TypeInstances.{types_among}
+use Rattle.closed_types.specs.SharedTrees.{AreWithin, tree_at, trees, trees_at}
+use Rattle.closed_types.specs.TypeInstances.{types_among}
 use Rattle.reached_instances.proofs.Putting.{put_as}
 use Rattle.reached_instances.proofs.Typing.{given_types}
 use Rattle.reached_instances.proofs.type_instances.put_given.Goals as goal

@@ -1,6 +1,6 @@
 use Rattle.std.proofs.Common.{get_or, ℕ, sym}
-use Rattle.reached_instances.specs.SharedTrees.{tree_at, trees}
-use Rattle.reached_instances.specs.TypeInstances.{types_given}
+use Rattle.closed_types.specs.SharedTrees.{tree_at, trees}
+use Rattle.closed_types.specs.TypeInstances.{types_given}
 use Rattle.reached_instances.proofs.Putting.{item_is, all_of_map, put_as, put_ends, put_starts, put_step}
 use Rattle.reached_instances.proofs.type_instances.put_passed.Goals as goal
 

@@ -1,6 +1,6 @@
 use Rattle.std.proofs.Common.{◌∙◌, [], refl, sym, Some, ap}
-use Rattle.reached_instances.specs.SharedTrees.{tree_at, trees}
-use Rattle.reached_instances.proofs.Growing.{grows_same}
+use Rattle.closed_types.specs.SharedTrees.{tree_at, trees}
+use Rattle.closed_types.proofs.Growing.{grows_same}
 use Rattle.reached_instances.proofs.Putting.{put_as, put_none, put_place}
 use Rattle.reached_instances.proofs.Typing.{type_of_head, type_of_function, type_of_int}
 use Rattle.reached_instances.proofs.type_instances.put_type.Goals as goal

@@ -1,7 +1,7 @@
 use Rattle.std.proofs.Common.{get_or, ℕ, ◌+◌, ◌<◌, length}
-use Rattle.reached_instances.specs.Closed.{MoreClosed, NoClosed}
-use Rattle.reached_instances.specs.SharedTrees.{tree_at, trees}
-use Rattle.reached_instances.specs.TypeInstances.{types_among}
+use Rattle.closed_types.specs.Closed.{MoreClosed, NoClosed}
+use Rattle.closed_types.specs.SharedTrees.{tree_at, trees}
+use Rattle.closed_types.specs.TypeInstances.{types_among}
 use Rattle.reached_instances.proofs.Putting.{item_is, every_there, put_as, put_ends, put_starts, put_step}
 use Rattle.reached_instances.proofs.Typing.{types_each}
 use Rattle.reached_instances.proofs.type_instances.put_types.Goals as goal

@@ -1,5 +1,5 @@
 use Rattle.std.proofs.Common.{◌≡◌, ◌++◌, map, drop}
-use Rattle.reached_instances.specs.Source.{Declared}
+use Rattle.reached_instances.specs.closed_types.Source.{Declared}
 use Rattle.reached_instances.specs.SourceView as S
 use Rattle.static_params.proofs.specialised.arities_of.Given as goal
 

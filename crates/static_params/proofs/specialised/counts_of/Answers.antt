@@ -1,8 +1,8 @@
 use Rattle.std.proofs.Common.{◌∙◌, List, map, ap}
 use Rattle.fip_trees.specs.declared.decls.FieldType.{FieldType}
 use Rattle.static_params.specs.FlatProgram.{count_tys}
-use Rattle.reached_instances.specs.Source.{Constructor}
-use Rattle.reached_instances.specs.SourceView.{constructor, ty, tys_of}
+use Rattle.reached_instances.specs.closed_types.Source.{Constructor}
+use Rattle.reached_instances.specs.closed_types.DeclaredView.{constructor, ty, tys_of}
 use Rattle.static_params.proofs.Made.{items_goes}
 use Rattle.static_params.proofs.specialised.counts_of.Goals as goal
 

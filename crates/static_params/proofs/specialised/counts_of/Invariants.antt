@@ -1,6 +1,6 @@
 use Rattle.std.proofs.Common.{◌≡◌, ◌++◌, map, drop}
 use Rattle.static_params.specs.FlatProgram.{count_tys}
-use Rattle.reached_instances.specs.Source.{Constructor}
+use Rattle.reached_instances.specs.closed_types.Source.{Constructor}
 use Rattle.reached_instances.specs.SourceView as S
 use Rattle.static_params.proofs.specialised.counts_of.Given as goal
 

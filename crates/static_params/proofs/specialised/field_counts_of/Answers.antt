@@ -2,8 +2,8 @@ use Rattle.std.proofs.Common.{◌∙◌, List, map, ap}
 use Rattle.fip_trees.specs.TreeView.{counts_row}
 use Rattle.fip_trees.specs.declared.decls.DeclaredConstructor.{DeclaredConstructor}
 use Rattle.static_params.specs.FlatProgram.{count_tys, field_counts}
-use Rattle.reached_instances.specs.Source.{Constructor}
-use Rattle.reached_instances.specs.SourceView.{constructor, declared}
+use Rattle.reached_instances.specs.closed_types.Source.{Constructor}
+use Rattle.reached_instances.specs.closed_types.DeclaredView.{constructor, declared}
 use Rattle.static_params.proofs.Made.{row_goes}
 use Rattle.static_params.proofs.specialised.field_counts_of.Goals as goal
 

@@ -1,6 +1,6 @@
 use Rattle.std.proofs.Common.{◌∙◌, sym}
 use Rattle.static_params.specs.FlatView.{numbers_at}
-use Rattle.reached_instances.specs.SharedTrees.{trees}
+use Rattle.reached_instances.specs.closed_types.SharedTrees.{trees}
 use Rattle.static_params.proofs.Specialising.{is_none_of, none_broken, noted_named}
 use Rattle.static_params.proofs.specialised.flat_of.Goals as goal
 

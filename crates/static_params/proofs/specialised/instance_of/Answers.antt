@@ -6,7 +6,7 @@ use Rattle.fip_base.specs.declared.core_form.Static.{Static}
 use Rattle.fip_language.specs.declared.CreditMark.{CreditMark}
 use Rattle.static_params.specs.FlatProgram.{credit_size, is_root, signature_tuple}
 use Rattle.static_params.specs.FlatView.{Making, block_in, bound_parameter_in, making, parameter_in, type_in}
-use Rattle.reached_instances.specs.Uses.{result_types}
+use Rattle.reached_instances.specs.closed_types.Uses.{result_types}
 use Rattle.static_params.proofs.Made.{stays_more}
 use Rattle.static_params.proofs.specialised.instance_of.Goals as goal
 

@@ -4,7 +4,7 @@ use Rattle.fip_trees.specs.TreeView as W
 use Rattle.fip_trees.specs.declared.program.Instance as I
 use Rattle.static_params.specs.FlatProgram.{instances_of}
 use Rattle.static_params.specs.FlatView.{IsMakingOf, numbers_at}
-use Rattle.reached_instances.specs.SharedTrees.{AreWithin, all_at, trees}
+use Rattle.reached_instances.specs.closed_types.SharedTrees.{AreWithin, all_at, trees}
 use Rattle.reached_instances.specs.SourceView as S
 use Rattle.static_params.proofs.specialised.instances_of.Goals as goal
 

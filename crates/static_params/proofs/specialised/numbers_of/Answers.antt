@@ -3,9 +3,9 @@ use Rattle.fip_language.specs.declared.limits.TheConstants.{MOST_INSTANCES}
 use Rattle.fip_trees.specs.Least.{after}
 use Rattle.fip_trees.specs.declared.least.Violation.{Violation}
 use Rattle.static_params.specs.FlatView.{IsTypes}
-use Rattle.reached_instances.specs.Instances.{AreInstances, all_faults}
+use Rattle.reached_instances.specs.closed_types.Instances.{AreInstances, all_faults}
 use Rattle.reached_instances.specs.KnownFits.{AreRoots}
-use Rattle.reached_instances.specs.SharedTrees.{AreWithin, all_at, trees}
+use Rattle.reached_instances.specs.closed_types.SharedTrees.{AreWithin, all_at, trees}
 use Rattle.reached_instances.specs.SourceView.{source}
 use Rattle.static_params.proofs.Specialising.{few_at, many_functions, many_types, numbered}
 use Rattle.static_params.proofs.specialised.numbers_of.Goals as goal

@@ -1,6 +1,6 @@
 use Rattle.std.proofs.Common.{ℕ, List, Option, IfSome, subst}
-use Rattle.reached_instances.specs.Instances.{ArePassed}
-use Rattle.reached_instances.specs.SharedTrees.{AreWithin, all_at, trees}
+use Rattle.reached_instances.specs.closed_types.Instances.{ArePassed}
+use Rattle.reached_instances.specs.closed_types.SharedTrees.{AreWithin, all_at, trees}
 use Rattle.static_params.proofs.specialised.passed_of.Goals as goal
 
 pub returns-clause-grows : goal.returns-clause-grows

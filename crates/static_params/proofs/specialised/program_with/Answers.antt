@@ -1,7 +1,7 @@
 use Rattle.std.proofs.Common.{◌∙◌, List, map, ap}
 use Rattle.fip_trees.specs.declared.decls.DeclaredType.{DeclaredType}
 use Rattle.static_params.specs.FlatProgram.{field_counts}
-use Rattle.reached_instances.specs.Source.{Declared}
+use Rattle.reached_instances.specs.closed_types.Source.{Declared}
 use Rattle.reached_instances.specs.SourceView as S
 use Rattle.static_params.proofs.specialised.program_with.Goals as goal
 

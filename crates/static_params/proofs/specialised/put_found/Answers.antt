@@ -4,7 +4,7 @@ use Rattle.reached_instances.specs.declared.source.FunctionSource.{FunctionSourc
 use Rattle.static_params.specs.FlatProgram.{flat_instance, instance_if}
 use Rattle.static_params.specs.FlatView.{making}
 use Rattle.reached_instances.specs.SourceView.{function_source}
-use Rattle.reached_instances.proofs.GivenStatics.{at_past, at_there}
+use Rattle.reached_instances.proofs.closed_types.Declarations.{at_past, at_there}
 use Rattle.static_params.proofs.Made.{stays_same}
 use Rattle.static_params.proofs.Making.{one_made}
 use Rattle.reached_instances.proofs.Mentioned.{binders_there}

@@ -4,7 +4,7 @@ use Rattle.fip_trees.specs.TreeView as W
 use Rattle.reached_instances.specs.declared.source.Here.{Here}
 use Rattle.static_params.specs.FlatProgram.{instances_of}
 use Rattle.static_params.specs.FlatView.{IsMakingOf, Making, making}
-use Rattle.reached_instances.specs.SharedTrees.{tree_at, trees}
+use Rattle.reached_instances.specs.closed_types.SharedTrees.{tree_at, trees}
 use Rattle.reached_instances.specs.SourceView.{IsFunctionAt, IsHere}
 use Rattle.static_params.proofs.Making.{goes_same, no_instances}
 use Rattle.static_params.proofs.specialised.put_instance.Goals as goal

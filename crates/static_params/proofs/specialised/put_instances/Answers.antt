@@ -4,11 +4,11 @@ use Rattle.fip_trees.specs.Tree as T
 use Rattle.fip_trees.specs.TreeView as W
 use Rattle.static_params.specs.FlatProgram.{Numbers, instances_of}
 use Rattle.static_params.specs.FlatView.{making}
-use Rattle.reached_instances.specs.SharedTrees.{tree_at, trees}
-use Rattle.reached_instances.specs.Source.{Source}
+use Rattle.reached_instances.specs.closed_types.SharedTrees.{tree_at, trees}
+use Rattle.reached_instances.specs.closed_types.Source.{Source}
 use Rattle.static_params.proofs.Making.{goes_same, goes_more}
 use Rattle.reached_instances.proofs.Putting.{all_of_map, all_of_next, every_there, item_is, take_past}
-use Rattle.reached_instances.proofs.Using.{tree_kept}
+use Rattle.reached_instances.proofs.closed_types.Using.{tree_kept}
 use Rattle.static_params.proofs.specialised.put_instances.Goals as goal
 
 pub loop-place-init : goal.loop-place-init

@@ -3,7 +3,7 @@ use Rattle.fip_language.specs.Mentions.{all_of}
 use Rattle.fip_trees.specs.TreeView as W
 use Rattle.static_params.specs.FlatProgram.{instances_of}
 use Rattle.static_params.specs.FlatView.{GoesOn, IsMaking, making}
-use Rattle.reached_instances.specs.SharedTrees.{AreWithin, tree_at, trees}
+use Rattle.reached_instances.specs.closed_types.SharedTrees.{AreWithin, tree_at, trees}
 use Rattle.static_params.proofs.specialised.put_instances.Given as goal
 
 abbrev pub invariant-loop-place : goal.invariant-loop-place

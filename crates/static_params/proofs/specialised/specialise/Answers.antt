@@ -5,7 +5,7 @@ use Rattle.fip_trees.specs.Least.{refusal}
 use Rattle.fip_trees.specs.declared.program.Program.{Program}
 use Rattle.static_params.specs.Answers.{IsAccepted}
 use Rattle.static_params.specs.FlatView.{IsNamed}
-use Rattle.reached_instances.specs.Source.{Source}
+use Rattle.reached_instances.specs.closed_types.Source.{Source}
 use Rattle.reached_instances.specs.SourceView.{source_of}
 use Rattle.static_params.proofs.Sounding.{named_is, program_sound}
 use Rattle.static_params.proofs.specialised.specialise.Goals as goal

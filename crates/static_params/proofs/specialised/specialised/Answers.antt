@@ -2,7 +2,7 @@ use Rattle.std.proofs.Common.{IfSome, subst}
 use Rattle.fip_trees.specs.declared.program.Program.{Program}
 use Rattle.static_params.specs.Answers.{IsAccepted}
 use Rattle.static_params.specs.FlatView.{IsNamed}
-use Rattle.reached_instances.specs.Source.{Source}
+use Rattle.reached_instances.specs.closed_types.Source.{Source}
 use Rattle.static_params.proofs.specialised.specialised.Goals as goal
 
 pub returns-clause-accepted : goal.returns-clause-accepted

@@ -1,4 +1,4 @@
-use Rattle.reached_instances.proofs.Growing.{grows_more}
+use Rattle.reached_instances.proofs.closed_types.Growing.{grows_more}
 use Rattle.static_params.proofs.specialised.types_of.Goals as goal
 
 pub returns-clause-grows : goal.returns-clause-grows

@@ -2,9 +2,9 @@ use Rattle.std.proofs.Common.{◌∙◌, ℕ, List, map, nat_eq, ap}
 use Rattle.std.specs.List.{position}
 use Rattle.fip_trees.specs.declared.decls.FieldType.{FieldType}
 use Rattle.static_params.specs.FlatProgram.{from_one}
-use Rattle.reached_instances.specs.SharedTrees.{trees, trees_at}
-use Rattle.reached_instances.specs.SourceView.{ty}
-use Rattle.reached_instances.specs.TypeInstances.{field_type}
+use Rattle.reached_instances.specs.closed_types.SharedTrees.{trees, trees_at}
+use Rattle.reached_instances.specs.closed_types.DeclaredView.{ty}
+use Rattle.reached_instances.specs.closed_types.TypeInstances.{field_type}
 use Rattle.static_params.proofs.Tabling.{field_numbers}
 use Rattle.static_params.proofs.table.closed_constructor.Goals as goal
 

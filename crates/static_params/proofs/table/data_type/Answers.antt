@@ -1,12 +1,12 @@
 use Rattle.std.proofs.Common.{◌∙◌, ◌++◌, List, map, refl, ap}
 use Rattle.fip_language.specs.Table.{Shape}
 use Rattle.fip_trees.specs.declared.decls.DeclaredConstructor.{DeclaredConstructor}
-use Rattle.reached_instances.specs.Closed.{Closeds}
+use Rattle.reached_instances.specs.closed_types.Closed.{Closeds}
 use Rattle.static_params.specs.FlatProgram.{Numbers, flat_constructor}
 use Rattle.static_params.specs.FlatView.{numbers_at}
-use Rattle.reached_instances.specs.SharedTrees.{trees, trees_at}
-use Rattle.reached_instances.specs.SourceView.{constructor}
-use Rattle.reached_instances.proofs.Growing.{grows_same, grows_more, trees_kept, within_more}
+use Rattle.reached_instances.specs.closed_types.SharedTrees.{trees, trees_at}
+use Rattle.reached_instances.specs.closed_types.DeclaredView.{constructor}
+use Rattle.reached_instances.proofs.closed_types.Growing.{grows_same, grows_more, trees_kept, within_more}
 use Rattle.static_params.proofs.Made.{items_done, items_goes}
 use Rattle.static_params.proofs.PlaceNumbers.{numbers_kept, numbers_more}
 use Rattle.static_params.proofs.table.data_type.Goals as goal

@@ -1,8 +1,8 @@
 use Rattle.std.proofs.Common.{◌≡◌, ◌++◌, drop, map}
 use Rattle.static_params.specs.FlatProgram.{flat_constructor}
 use Rattle.static_params.specs.FlatView.{AreNumbers, numbers_at}
-use Rattle.reached_instances.specs.SharedTrees.{AreWithin, Grows, trees, trees_at}
-use Rattle.reached_instances.specs.SourceView.{constructor}
+use Rattle.reached_instances.specs.closed_types.SharedTrees.{AreWithin, Grows, trees, trees_at}
+use Rattle.reached_instances.specs.closed_types.DeclaredView.{constructor}
 use Rattle.static_params.proofs.table.data_type.Given as goal
 
 abbrev pub invariant-loop-constructor : goal.invariant-loop-constructor

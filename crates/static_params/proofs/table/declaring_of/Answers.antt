@@ -1,7 +1,7 @@
 use Rattle.std.proofs.Common.{◌∙◌, ◌++◌, ℕ, List, get_or, ap, sym}
 use Rattle.fip_language.specs.Mentions.{all_of}
 use Rattle.static_params.specs.FlatProgram.{declaring_of}
-use Rattle.reached_instances.specs.SharedTrees.{tree_at, trees}
+use Rattle.reached_instances.specs.closed_types.SharedTrees.{tree_at, trees}
 use Rattle.reached_instances.specs.SourceView.{source}
 use Rattle.reached_instances.proofs.Putting.{all_of_map, all_of_next, item_is, take_past}
 use Rattle.static_params.proofs.table.declaring_of.Goals as goal

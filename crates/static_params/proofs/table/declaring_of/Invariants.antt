@@ -1,7 +1,7 @@
 use Rattle.std.proofs.Common.{◌≡◌, take}
 use Rattle.fip_language.specs.Mentions.{all_of}
 use Rattle.static_params.specs.FlatProgram.{declaring_of}
-use Rattle.reached_instances.specs.SharedTrees.{tree_at, trees}
+use Rattle.reached_instances.specs.closed_types.SharedTrees.{tree_at, trees}
 use Rattle.reached_instances.specs.SourceView.{source}
 use Rattle.static_params.proofs.table.declaring_of.Given as goal
 

@@ -1,5 +1,5 @@
 use Rattle.std.proofs.Common.{◌∙◌, ◌++◌, ℕ, List, ap, sym, append-nil, Some}
-use Rattle.reached_instances.specs.SharedTrees.{tree_at, trees}
+use Rattle.reached_instances.specs.closed_types.SharedTrees.{tree_at, trees}
 use Rattle.reached_instances.specs.SourceView.{source}
 use Rattle.static_params.proofs.Tabling.{declaring_of_type, declaring_of_function, declaring_of_int}
 use Rattle.static_params.proofs.table.put_declaring.Goals as goal

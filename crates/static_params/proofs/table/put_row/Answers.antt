@@ -2,9 +2,9 @@ use Rattle.std.proofs.Common.{◌∙◌, ◌++◌, ap, sym, append-nil, Some}
 use Rattle.fip_language.specs.Table.{Shape}
 use Rattle.std.proofs.Common.{List}
 use Rattle.static_params.specs.FlatView.{numbers_at}
-use Rattle.reached_instances.specs.SharedTrees.{tree_at, trees}
+use Rattle.reached_instances.specs.closed_types.SharedTrees.{tree_at, trees}
 use Rattle.reached_instances.specs.SourceView.{source}
-use Rattle.reached_instances.proofs.Growing.{grows_same}
+use Rattle.reached_instances.proofs.closed_types.Growing.{grows_same}
 use Rattle.static_params.proofs.Tabling.{rows_of_type, rows_of_function, rows_of_int}
 use Rattle.static_params.proofs.table.put_row.Goals as goal
 

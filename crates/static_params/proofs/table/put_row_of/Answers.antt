@@ -1,11 +1,11 @@
 use Rattle.std.proofs.Common.{◌∙◌, ◌++◌, ◌∷◌, [], List, option_map, map, ap, sym, subst, append-nil}
 use Rattle.fip_language.specs.Table.{Shape}
-use Rattle.reached_instances.specs.Closed.{Closeds, arguments_of}
+use Rattle.reached_instances.specs.closed_types.Closed.{Closeds, arguments_of}
 use Rattle.static_params.specs.FlatProgram.{flat_constructor, row_if}
 use Rattle.static_params.specs.FlatView.{numbers_at}
-use Rattle.reached_instances.specs.SharedTrees.{AreWithin, tree_at, trees, trees_at}
+use Rattle.reached_instances.specs.closed_types.SharedTrees.{AreWithin, tree_at, trees, trees_at}
 use Rattle.reached_instances.specs.SourceView as S
-use Rattle.reached_instances.proofs.Growing.{grows_same}
+use Rattle.reached_instances.proofs.closed_types.Growing.{grows_same}
 use Rattle.static_params.proofs.table.put_row_of.Goals as goal
 
 pub returns-in_ok-push-in-Some-clause-grows : goal.returns-in_ok-push-in-Some-clause-grows

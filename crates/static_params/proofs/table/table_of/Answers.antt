@@ -1,15 +1,15 @@
 use Rattle.std.proofs.Common.{◌∙◌, ◌++◌, ◌+◌, ◌<◌, ℕ, List, get_or, length, refl, ap, sym, subst}
 use Rattle.fip_language.specs.Mentions.{all_of}
 use Rattle.fip_language.specs.Table.{Shape}
-use Rattle.reached_instances.specs.Closed.{Closed}
+use Rattle.reached_instances.specs.closed_types.Closed.{Closed}
 use Rattle.static_params.specs.FlatProgram.{Numbers, rows_of}
 use Rattle.static_params.specs.FlatView.{numbers_at}
-use Rattle.reached_instances.specs.SharedTrees.{AreWithin, tree_at, trees}
+use Rattle.reached_instances.specs.closed_types.SharedTrees.{AreWithin, tree_at, trees}
 use Rattle.reached_instances.specs.SourceView.{source}
-use Rattle.reached_instances.proofs.Growing.{grows_same, grows_more}
+use Rattle.reached_instances.proofs.closed_types.Growing.{grows_same, grows_more}
 use Rattle.static_params.proofs.PlaceNumbers.{numbers_kept, numbers_more}
 use Rattle.reached_instances.proofs.Putting.{all_of_map, all_of_next, every_there, item_is, take_past}
-use Rattle.reached_instances.proofs.Using.{tree_kept}
+use Rattle.reached_instances.proofs.closed_types.Using.{tree_kept}
 use Rattle.static_params.proofs.table.table_of.Goals as goal
 
 pub loop-place-init : goal.loop-place-init

@@ -2,7 +2,7 @@ use Rattle.std.proofs.Common.{◌≡◌, take}
 use Rattle.fip_language.specs.Mentions.{all_of}
 use Rattle.static_params.specs.FlatProgram.{rows_of}
 use Rattle.static_params.specs.FlatView.{AreNumbers, numbers_at}
-use Rattle.reached_instances.specs.SharedTrees.{Grows, tree_at, trees}
+use Rattle.reached_instances.specs.closed_types.SharedTrees.{Grows, tree_at, trees}
 use Rattle.reached_instances.specs.SourceView.{source}
 use Rattle.static_params.proofs.table.table_of.Given as goal
 

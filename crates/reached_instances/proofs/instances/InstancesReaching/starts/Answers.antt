@@ -2,12 +2,12 @@ use Rattle.std.proofs.Common.{◌≤◌, ◌+◌, ◌∙◌, ℕ, List, map, ref
 use Rattle.fip_base.specs.CoreView.{static}
 use Rattle.fip_base.specs.declared.core_form.Static.{Static}
 use Rattle.reached_instances.specs.declared.source.FunctionSource.{FunctionSource}
-use Rattle.reached_instances.specs.Instances.{root_if, roots_from}
+use Rattle.closed_types.specs.Instances.{root_if, roots_from}
 use Rattle.reached_instances.specs.SourceView.{function_source}
 use Rattle.reached_instances.proofs.Declaring.{map_length}
 use Rattle.reached_instances.proofs.Fitting.{right_kept}
-use Rattle.reached_instances.proofs.Growing.{grows_same, grows_more}
-use Rattle.reached_instances.proofs.Lists.{mapped_item}
+use Rattle.closed_types.proofs.Growing.{grows_same, grows_more}
+use Rattle.closed_types.proofs.Lists.{mapped_item}
 use Rattle.reached_instances.proofs.Putting.{put_as}
 use Rattle.reached_instances.proofs.Reaching.{AreRooted, rooted_ends, rooted_put, rooted_starts}
 use Rattle.reached_instances.proofs.instances.InstancesReaching.starts.Goals as goal

@@ -1,5 +1,5 @@
 use Rattle.std.proofs.Common.{◌≡◌, map}
-use Rattle.reached_instances.specs.SharedTrees.{Grows}
+use Rattle.closed_types.specs.SharedTrees.{Grows}
 use Rattle.reached_instances.specs.SourceView.{function_source}
 use Rattle.reached_instances.proofs.Reaching.{AreRooted}
 use Rattle.reached_instances.proofs.instances.InstancesReaching.starts.Given as goal

@@ -1,11 +1,11 @@
 use Rattle.std.proofs.Common.{slice_get, ◌∙◌, Option, ap, sym, subst}
 use Rattle.fip_trees.specs.Least.{after}
 use Rattle.reached_instances.specs.declared.source.Here.{Here}
-use Rattle.reached_instances.specs.Closed.{Closed}
-use Rattle.reached_instances.specs.Instances.{calls_from, faults_in, faults_of}
-use Rattle.reached_instances.specs.SharedTrees.{AreWithin, all_at, tree_at, trees}
+use Rattle.closed_types.specs.Closed.{Closed}
+use Rattle.closed_types.specs.Instances.{calls_from, faults_in, faults_of}
+use Rattle.closed_types.specs.SharedTrees.{AreWithin, all_at, tree_at, trees}
 use Rattle.reached_instances.specs.SourceView.{IsFunctionAt, IsHere, instance, source}
-use Rattle.reached_instances.proofs.Growing.{grows_same}
+use Rattle.closed_types.proofs.Growing.{grows_same}
 use Rattle.reached_instances.proofs.Reaching.{no_calls, no_faults}
 use Rattle.reached_instances.proofs.instances.InstancesReaching.visit.Goals as goal
 

@@ -1,6 +1,6 @@
 use Rattle.std.proofs.Common.{◌∙◌, ap, sym, subst}
-use Rattle.reached_instances.specs.SharedTrees.{AreWithin, all_at, trees}
-use Rattle.reached_instances.proofs.Growing.{grows_same}
+use Rattle.closed_types.specs.SharedTrees.{AreWithin, all_at, trees}
+use Rattle.closed_types.proofs.Growing.{grows_same}
 use Rattle.reached_instances.proofs.instances.PassedReaching.starts.Goals as goal
 
 pub returns : goal.returns

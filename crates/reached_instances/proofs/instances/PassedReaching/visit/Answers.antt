@@ -1,6 +1,6 @@
 use Rattle.std.proofs.Common.{◌∙◌, ℕ, List, ap, sym, subst}
-use Rattle.reached_instances.specs.Instances.{functions_among}
-use Rattle.reached_instances.specs.SharedTrees.{AreWithin, tree_at, trees, trees_at}
+use Rattle.closed_types.specs.Instances.{functions_among}
+use Rattle.closed_types.specs.SharedTrees.{AreWithin, tree_at, trees, trees_at}
 use Rattle.reached_instances.proofs.Typing.{given_functions}
 use Rattle.reached_instances.proofs.instances.PassedReaching.visit.Goals as goal
 

@@ -1,5 +1,5 @@
 use Rattle.std.proofs.Common.{◌≡◌, drop, nat_eq}
-use Rattle.reached_instances.specs.Numbering.{with_all}
+use Rattle.closed_types.specs.Numbering.{with_all}
 use Rattle.reached_instances.proofs.numbering.Places.add_all.Given as goal
 
 abbrev pub invariant-loop-place : goal.invariant-loop-place

@@ -3,14 +3,14 @@ use Rattle.fip_base.specs.CoreView.{written, writtens}
 use Rattle.fip_base.specs.declared.core_form.Written.{Written}
 use Rattle.fip_base.specs.fip_language.Core.{WrittenName}
 use Rattle.fip_trees.specs.Least.{after}
-use Rattle.reached_instances.specs.SharedTrees.{trees}
-use Rattle.reached_instances.specs.Source.{Instance}
-use Rattle.reached_instances.specs.UsesView.{IsPlaceOf}
+use Rattle.closed_types.specs.SharedTrees.{trees}
+use Rattle.closed_types.specs.Source.{Instance}
+use Rattle.closed_types.specs.UsesView.{IsPlaceOf}
 use Rattle.reached_instances.specs.SourceView.{source, instance}
-use Rattle.reached_instances.specs.Uses.{closed_type, type_faults, types_faults}
-use Rattle.reached_instances.proofs.Growing.{grows_same, grows_more}
-use Rattle.reached_instances.proofs.Lists.{walk_step}
-use Rattle.reached_instances.proofs.SharedAt.{int_first}
+use Rattle.closed_types.specs.Uses.{closed_type, type_faults, types_faults}
+use Rattle.closed_types.proofs.Growing.{grows_same, grows_more}
+use Rattle.closed_types.proofs.Lists.{walk_step}
+use Rattle.closed_types.proofs.SharedAt.{int_first}
 use Rattle.reached_instances.proofs.Closing.{IsClosing, instance_kept, ready_more, written_int, written_named, count_writtens, closing_starts, closing_goes, closing_ends, named_place, named_noted}
 use Rattle.reached_instances.proofs.source.Source.+types.Goals as goal
 

@@ -1,9 +1,9 @@
 use Rattle.std.proofs.Common.{◌≡◌, drop}
 use Rattle.fip_base.specs.CoreView.{writtens}
 use Rattle.fip_trees.specs.Least.{after}
-use Rattle.reached_instances.specs.SharedTrees.{trees, Grows}
+use Rattle.closed_types.specs.SharedTrees.{trees, Grows}
 use Rattle.reached_instances.specs.SourceView.{source, instance, IsReady}
-use Rattle.reached_instances.specs.Uses.{types_faults}
+use Rattle.closed_types.specs.Uses.{types_faults}
 use Rattle.reached_instances.proofs.Closing.{IsClosing}
 use Rattle.reached_instances.proofs.source.Source.+types.Given as goal
 

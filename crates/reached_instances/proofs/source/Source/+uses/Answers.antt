@@ -4,18 +4,18 @@ use Rattle.fip_base.specs.CoreView.{static, written, writtens}
 use Rattle.fip_base.specs.declared.core_form.Static as DS
 use Rattle.fip_trees.specs.Least.{after}
 use Rattle.fip_trees.specs.Names.{meaning}
-use Rattle.reached_instances.specs.SharedTrees.{NoneOrWithin, tree_at, trees}
-use Rattle.reached_instances.specs.Source.{Instance, given_function, statics_at}
+use Rattle.closed_types.specs.SharedTrees.{NoneOrWithin, tree_at, trees}
+use Rattle.closed_types.specs.Source.{Instance, given_function, statics_at}
 use Rattle.reached_instances.specs.SourceView.{source, instance}
-use Rattle.reached_instances.specs.Uses.{all_given, applied_function, arguments_faults, closed_arguments, count, statics_meant}
-use Rattle.reached_instances.specs.UsesView.{AreAllWithin, IsPlaceOf, all_trees, argument_of, faults_of_argument}
-use Rattle.reached_instances.proofs.Arguing.{arguing_goes, arguing_noted}
+use Rattle.closed_types.specs.Uses.{all_given, applied_function, arguments_faults, closed_arguments, count, statics_meant}
+use Rattle.closed_types.specs.UsesView.{AreAllWithin, IsPlaceOf, all_trees, argument_of, faults_of_argument}
+use Rattle.closed_types.proofs.Arguing.{arguing_goes, arguing_noted}
 use Rattle.reached_instances.proofs.Closing.{count_writtens, instance_kept}
 use Rattle.reached_instances.proofs.Declaring.{map_length}
 use Rattle.reached_instances.proofs.Fitting.{ready_if_right, right_kept}
-use Rattle.reached_instances.proofs.GivenStatics.{at_past, at_there}
-use Rattle.reached_instances.proofs.Growing.{grows_more, within_more}
-use Rattle.reached_instances.proofs.Using.{arguments_within, declared_closed, declared_faults, declared_noted, declared_place, given_noted, given_place, unlike_noted, unlike_place}
+use Rattle.closed_types.proofs.Declarations.{at_past, at_there}
+use Rattle.closed_types.proofs.Growing.{grows_more, within_more}
+use Rattle.closed_types.proofs.Using.{arguments_within, declared_closed, declared_faults, declared_noted, declared_place, given_noted, given_place, unlike_noted, unlike_place}
 use Rattle.reached_instances.proofs.source.Source.+uses.Goals as goal
 
 -- ---- one argument

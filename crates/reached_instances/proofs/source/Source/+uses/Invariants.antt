@@ -2,10 +2,10 @@ use Rattle.std.proofs.Common.{◌≡◌, drop, map}
 use Rattle.fip_base.specs.CoreView.{static, writtens}
 use Rattle.fip_trees.specs.Least.{after}
 use Rattle.reached_instances.specs.KnownFits.{IsRight}
-use Rattle.reached_instances.specs.SharedTrees.{trees, Grows, AreWithin}
+use Rattle.closed_types.specs.SharedTrees.{trees, Grows, AreWithin}
 use Rattle.reached_instances.specs.SourceView.{source, instance}
-use Rattle.reached_instances.specs.Uses.{arguments_faults}
-use Rattle.reached_instances.proofs.Arguing.{IsArguing}
+use Rattle.closed_types.specs.Uses.{arguments_faults}
+use Rattle.closed_types.proofs.Arguing.{IsArguing}
 use Rattle.reached_instances.proofs.source.Source.+uses.Given as goal
 
 abbrev pub invariant-closed_arguments-loop-written : goal.invariant-closed_arguments-loop-written

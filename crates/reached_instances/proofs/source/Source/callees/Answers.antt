@@ -1,12 +1,12 @@
 use Rattle.std.proofs.Common.{◌≡◌, ◌≤◌, ◌<◌, ◌∙◌, List, length, map, get_or, ap, sym, subst}
 use Rattle.fip_trees.specs.Least.{after}
-use Rattle.reached_instances.specs.declared.mentions.CallSite.{CallSite}
+use Rattle.closed_types.specs.declared.mentions.CallSite.{CallSite}
 use Rattle.reached_instances.specs.declared.source.FunctionSource.{FunctionSource}
-use Rattle.reached_instances.specs.Instances.{all_reached, all_use_faults, calls_in, faults_in}
-use Rattle.reached_instances.specs.MentionsView.{use_of}
-use Rattle.reached_instances.specs.SharedTrees.{all_at, trees}
+use Rattle.closed_types.specs.Instances.{all_reached, all_use_faults, calls_in, faults_in}
+use Rattle.closed_types.specs.MentionsView.{use_of}
+use Rattle.closed_types.specs.SharedTrees.{all_at, trees}
 use Rattle.reached_instances.specs.SourceView.{function_source, instance, source}
-use Rattle.reached_instances.proofs.GivenStatics.{at_past, at_there}
+use Rattle.closed_types.proofs.Declarations.{at_past, at_there}
 use Rattle.reached_instances.proofs.Mentioned.{sites_there}
 use Rattle.reached_instances.proofs.source.Source.callees.Goals as goal
 

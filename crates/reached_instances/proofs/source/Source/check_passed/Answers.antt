@@ -3,16 +3,16 @@ use Rattle.fip_base.specs.CoreView.{writtens}
 use Rattle.fip_base.specs.fip_language.Core.{Static}
 use Rattle.fip_trees.specs.Least.{after}
 use Rattle.reached_instances.specs.declared.source.Here.{Here}
-use Rattle.reached_instances.specs.Closed.{Closed}
-use Rattle.reached_instances.specs.SharedTrees.{trees, trees_at}
-use Rattle.reached_instances.specs.Source.{statics_at}
+use Rattle.closed_types.specs.Closed.{Closed}
+use Rattle.closed_types.specs.SharedTrees.{trees, trees_at}
+use Rattle.closed_types.specs.Source.{statics_at}
 use Rattle.reached_instances.specs.SourceView.{IsHere, source, instance}
-use Rattle.reached_instances.specs.Uses.{all_fit, misfits, types_given}
-use Rattle.reached_instances.specs.UsesView.{AreWithinIfSome, all_trees}
+use Rattle.closed_types.specs.Uses.{all_fit, misfits, types_given}
+use Rattle.closed_types.specs.UsesView.{AreWithinIfSome, all_trees}
 use Rattle.reached_instances.proofs.Checking.{here_is, fit_known, misfits_known, fit_unknown, misfits_unknown}
 use Rattle.reached_instances.proofs.Fitting.{right_kept}
-use Rattle.reached_instances.proofs.SharedAt.{int_first}
-use Rattle.reached_instances.proofs.Using.{arguments_kept, arguments_within}
+use Rattle.closed_types.proofs.SharedAt.{int_first}
+use Rattle.closed_types.proofs.Using.{arguments_kept, arguments_within}
 use Rattle.reached_instances.proofs.source.Source.check_passed.Goals as goal
 
 pub returns-in_ok-fit-in-Some-2-clause-right : goal.returns-in_ok-fit-in-Some-2-clause-right

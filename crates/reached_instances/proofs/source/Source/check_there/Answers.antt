@@ -2,17 +2,17 @@ use Rattle.std.proofs.Common.{◌≡◌, ◌∙◌, ◌+◌, ℕ, Some, List, ma
 use Rattle.fip_base.specs.fip_language.Core.{Static}
 use Rattle.fip_base.specs.CoreView.{static, written}
 use Rattle.fip_trees.specs.Least.{after}
-use Rattle.reached_instances.specs.SharedTrees.{NoneOrWithin, tree_at, trees}
-use Rattle.reached_instances.specs.Source.{Instance, statics_at}
+use Rattle.closed_types.specs.SharedTrees.{NoneOrWithin, tree_at, trees}
+use Rattle.closed_types.specs.Source.{Instance, statics_at}
 use Rattle.reached_instances.specs.SourceView.{source, instance}
-use Rattle.reached_instances.specs.Uses.{static_fits}
-use Rattle.reached_instances.specs.UsesView.{all_trees, argument_or_none, misfit_at}
-use Rattle.reached_instances.proofs.Arguing.{fit_step, given_there, misfit_step}
+use Rattle.closed_types.specs.Uses.{static_fits}
+use Rattle.closed_types.specs.UsesView.{all_trees, argument_or_none, misfit_at}
+use Rattle.closed_types.proofs.Arguing.{fit_step, given_there, misfit_step}
 use Rattle.reached_instances.proofs.Fitting.{asked_kept, same_instance}
-use Rattle.reached_instances.proofs.GivenStatics.{at_there}
-use Rattle.reached_instances.proofs.Growing.{grows_more}
-use Rattle.reached_instances.proofs.Lists.{mapped_item}
-use Rattle.reached_instances.proofs.Using.{argument_within, one_kept, one_within}
+use Rattle.closed_types.proofs.Declarations.{at_there}
+use Rattle.closed_types.proofs.Growing.{grows_more}
+use Rattle.closed_types.proofs.Lists.{mapped_item}
+use Rattle.closed_types.proofs.Using.{argument_within, one_kept, one_within}
 use Rattle.reached_instances.proofs.source.Source.check_there.Goals as goal
 
 pub loop-parameter-preserved : goal.loop-parameter-preserved

@@ -2,10 +2,10 @@ use Rattle.std.proofs.Common.{◌≡◌, ◌&&◌, drop, map}
 use Rattle.fip_base.specs.CoreView.{static, writtens}
 use Rattle.fip_trees.specs.Least.{after}
 use Rattle.reached_instances.specs.KnownFits.{IsRight}
-use Rattle.reached_instances.specs.SharedTrees.{trees, Grows}
+use Rattle.closed_types.specs.SharedTrees.{trees, Grows}
 use Rattle.reached_instances.specs.SourceView.{source, instance, IsAsked}
-use Rattle.reached_instances.specs.Uses.{all_fit, misfits}
-use Rattle.reached_instances.specs.UsesView.{AreAllWithin, all_trees}
+use Rattle.closed_types.specs.Uses.{all_fit, misfits}
+use Rattle.closed_types.specs.UsesView.{AreAllWithin, all_trees}
 use Rattle.reached_instances.proofs.source.Source.check_there.Given as goal
 
 abbrev pub invariant-loop-parameter : goal.invariant-loop-parameter

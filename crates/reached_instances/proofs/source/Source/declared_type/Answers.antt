@@ -1,10 +1,10 @@
 use Rattle.std.proofs.Common.{ℕ, Option, subst}
 use Rattle.fip_base.specs.CoreView.{written}
-use Rattle.reached_instances.specs.SharedTrees.{trees}
+use Rattle.closed_types.specs.SharedTrees.{trees}
 use Rattle.reached_instances.specs.SourceView.{source, instance}
-use Rattle.reached_instances.specs.Uses.{closed_type}
-use Rattle.reached_instances.specs.UsesView.{IsPlaceOf}
-use Rattle.reached_instances.proofs.Using.{none_or_int}
+use Rattle.closed_types.specs.Uses.{closed_type}
+use Rattle.closed_types.specs.UsesView.{IsPlaceOf}
+use Rattle.closed_types.proofs.Using.{none_or_int}
 use Rattle.reached_instances.proofs.source.Source.declared_type.Goals as goal
 
 pub returns-clause-tree : goal.returns-clause-tree

@@ -1,12 +1,12 @@
 use Rattle.std.proofs.Common.{◌∙◌, refl, sym, ap, subst}
 use Rattle.fip_base.specs.CoreView.{written}
-use Rattle.reached_instances.specs.SharedTrees.{trees}
-use Rattle.reached_instances.specs.Source.{Instance}
+use Rattle.closed_types.specs.SharedTrees.{trees}
+use Rattle.closed_types.specs.Source.{Instance}
 use Rattle.reached_instances.specs.SourceView.{source, instance}
-use Rattle.reached_instances.specs.Uses.{declared_type}
+use Rattle.closed_types.specs.Uses.{declared_type}
 use Rattle.reached_instances.proofs.Closing.{instance_kept, ready_more}
 use Rattle.reached_instances.proofs.Declaring.{AreDeclared, declared_starts, declared_goes, declared_ends}
-use Rattle.reached_instances.proofs.Growing.{grows_same, grows_more}
+use Rattle.closed_types.proofs.Growing.{grows_same, grows_more}
 use Rattle.reached_instances.proofs.source.Source.declared_types.Goals as goal
 
 pub loop-written-init : goal.loop-written-init

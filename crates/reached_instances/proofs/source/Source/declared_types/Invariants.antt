@@ -1,5 +1,5 @@
 use Rattle.std.proofs.Common.{◌≡◌}
-use Rattle.reached_instances.specs.SharedTrees.{trees, Grows}
+use Rattle.closed_types.specs.SharedTrees.{trees, Grows}
 use Rattle.reached_instances.specs.SourceView.{source, instance, IsReady}
 use Rattle.reached_instances.proofs.Declaring.{AreDeclared}
 use Rattle.reached_instances.proofs.source.Source.declared_types.Given as goal

@@ -1,8 +1,8 @@
 use Rattle.std.proofs.Common.{sym, subst, map}
 use Rattle.fip_base.specs.CoreView.{signature_parameter, result_type}
-use Rattle.reached_instances.specs.SharedTrees.{Grows}
+use Rattle.closed_types.specs.SharedTrees.{Grows}
 use Rattle.reached_instances.specs.SourceView.{source}
-use Rattle.reached_instances.proofs.Growing.{grows_same}
+use Rattle.closed_types.proofs.Growing.{grows_same}
 use Rattle.reached_instances.proofs.Fitting.{known_right, known_more, ready_if_right}
 use Rattle.reached_instances.proofs.source.Source.fits_once.Goals as goal
 

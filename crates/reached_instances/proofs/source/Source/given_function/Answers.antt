@@ -1,6 +1,6 @@
 use Rattle.std.proofs.Common.{◌≤◌, List, length, subst, sym}
 use Rattle.reached_instances.specs.declared.source.FunctionSource.{FunctionSource}
-use Rattle.reached_instances.specs.SharedTrees.{AreWithin, trees_at}
+use Rattle.closed_types.specs.SharedTrees.{AreWithin, trees_at}
 use Rattle.reached_instances.proofs.GivenStatics.{function_missing}
 use Rattle.reached_instances.proofs.source.Source.given_function.Goals as goal
 

@@ -1,13 +1,13 @@
 use Rattle.std.proofs.Common.{◌≡◌, ◌∙◌, Bool, true, false, ◌&&◌, ℕ, List, map, bytes_eq, ap, sym}
 use Rattle.fip_base.specs.CoreView as V
 use Rattle.fip_base.specs.declared.core_form.Parameter.{Parameter}
-use Rattle.reached_instances.specs.SharedTrees.{all_at, trees}
-use Rattle.reached_instances.specs.Source.{Instance}
+use Rattle.closed_types.specs.SharedTrees.{all_at, trees}
+use Rattle.closed_types.specs.Source.{Instance}
 use Rattle.reached_instances.specs.SourceView.{source, instance}
-use Rattle.reached_instances.specs.Uses.{declared_type, no_credit, result_types, same_parameters, same_results}
+use Rattle.closed_types.specs.Uses.{declared_type, no_credit, result_types, same_parameters, same_results}
 use Rattle.reached_instances.proofs.Closing.{instance_kept, kept_all, ready_more}
 use Rattle.reached_instances.proofs.Fitting.{all_same, all_same_at, same_results_all}
-use Rattle.reached_instances.proofs.Growing.{grows_more, within_more}
+use Rattle.closed_types.proofs.Growing.{grows_more, within_more}
 use Rattle.reached_instances.proofs.source.Source.header_fits.Goals as goal
 
 three : (a b d r : Bool) → a ≡ true → b ≡ true → r ≡ d → r ≡ (a && (b && d))

@@ -1,9 +1,9 @@
 use Rattle.std.proofs.Common.{[], option_map, ap, sym, ◌∙◌, List, map}
 use Rattle.fip_base.specs.fip_language.Mentions.{all_of}
 use Rattle.fip_trees.specs.declared.decls.DeclaredConstructor.{DeclaredConstructor}
-use Rattle.reached_instances.specs.SharedTrees.{trees, trees_at}
+use Rattle.closed_types.specs.SharedTrees.{trees, trees_at}
 use Rattle.reached_instances.specs.SourceView as S
-use Rattle.reached_instances.specs.TypeInstances.{fields_of, types_of_fields}
+use Rattle.closed_types.specs.TypeInstances.{fields_of, types_of_fields}
 use Rattle.reached_instances.proofs.Putting.{put_as, put_none}
 use Rattle.reached_instances.proofs.source.Source.put_fields.Goals as goal
 

@@ -1,8 +1,8 @@
 use Rattle.std.proofs.Common.{[], ap, sym, subst, Option}
 use Rattle.reached_instances.specs.declared.source.Here.{Here}
-use Rattle.reached_instances.specs.SharedTrees.{tree_at, trees}
+use Rattle.closed_types.specs.SharedTrees.{tree_at, trees}
 use Rattle.reached_instances.specs.SourceView.{IsHere, source}
-use Rattle.reached_instances.specs.TypeInstances.{types_of_instance}
+use Rattle.closed_types.specs.TypeInstances.{types_of_instance}
 use Rattle.reached_instances.proofs.Putting.{put_as, put_none}
 use Rattle.reached_instances.proofs.Typing.{no_instance}
 use Rattle.reached_instances.proofs.source.Source.put_instance.Goals as goal

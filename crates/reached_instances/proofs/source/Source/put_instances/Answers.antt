@@ -1,9 +1,9 @@
 use Rattle.std.proofs.Common.{get_or, ℕ, ◌+◌, ◌<◌, length, ap, sym}
-use Rattle.reached_instances.specs.SharedTrees.{tree_at, trees}
+use Rattle.closed_types.specs.SharedTrees.{tree_at, trees}
 use Rattle.reached_instances.specs.SourceView.{source}
-use Rattle.reached_instances.specs.TypeInstances.{types_of_instance}
+use Rattle.closed_types.specs.TypeInstances.{types_of_instance}
 use Rattle.reached_instances.proofs.Putting.{item_is, all_of_map, every_there, put_as, put_ends, put_starts, put_step}
-use Rattle.reached_instances.proofs.Using.{tree_kept}
+use Rattle.closed_types.proofs.Using.{tree_kept}
 use Rattle.reached_instances.proofs.source.Source.put_instances.Goals as goal
 
 pub loop-place-init : goal.loop-place-init

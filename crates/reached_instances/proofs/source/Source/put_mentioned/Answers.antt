@@ -1,11 +1,11 @@
 use Rattle.std.proofs.Common.{◌≡◌, ◌<◌, ◌≤◌, [], List, length, get_or, map, ap, sym, subst}
 use Rattle.fip_base.specs.CoreView.{written}
 use Rattle.reached_instances.specs.declared.source.FunctionSource.{FunctionSource}
-use Rattle.reached_instances.specs.SharedTrees.{trees}
+use Rattle.closed_types.specs.SharedTrees.{trees}
 use Rattle.reached_instances.specs.SourceView.{function_source, instance, source}
-use Rattle.reached_instances.specs.TypeInstances.{types_in}
+use Rattle.closed_types.specs.TypeInstances.{types_in}
 use Rattle.reached_instances.proofs.Closing.{ready_more}
-use Rattle.reached_instances.proofs.GivenStatics.{at_past}
+use Rattle.closed_types.proofs.Declarations.{at_past}
 use Rattle.reached_instances.proofs.Putting.{put_as, put_none}
 use Rattle.reached_instances.proofs.Typing.{puts_mentioned}
 use Rattle.reached_instances.proofs.source.Source.put_mentioned.Goals as goal

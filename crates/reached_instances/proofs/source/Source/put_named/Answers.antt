@@ -1,7 +1,7 @@
 use Rattle.std.proofs.Common.{get_or, ◌∙◌, ℕ, List, [], ◌∷◌, sym, ap, subst}
-use Rattle.reached_instances.specs.declared.closed.Head.TheVariants as H
-use Rattle.reached_instances.specs.Closed.{Applied, NoClosed}
-use Rattle.reached_instances.specs.SharedTrees.{AreWithin, trees, trees_at}
+use Rattle.closed_types.specs.declared.closed.Head.TheVariants as H
+use Rattle.closed_types.specs.Closed.{Applied, NoClosed}
+use Rattle.closed_types.specs.SharedTrees.{AreWithin, trees, trees_at}
 use Rattle.reached_instances.proofs.Putting.{item_is, all_of_single, put_as, put_ends, put_place, put_starts, put_step}
 use Rattle.reached_instances.proofs.source.Source.put_named.Goals as goal
 

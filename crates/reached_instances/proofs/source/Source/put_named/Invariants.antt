@@ -1,9 +1,9 @@
 use Rattle.std.proofs.Common.{[], ◌∷◌, take}
 use Rattle.fip_base.specs.fip_language.Mentions.{all_of}
-use Rattle.reached_instances.specs.declared.closed.Head.TheVariants as H
-use Rattle.reached_instances.specs.Closed.{Applied, NoClosed}
-use Rattle.reached_instances.specs.PutView.{Put}
-use Rattle.reached_instances.specs.SharedTrees.{AreWithin}
+use Rattle.closed_types.specs.declared.closed.Head.TheVariants as H
+use Rattle.closed_types.specs.Closed.{Applied, NoClosed}
+use Rattle.closed_types.specs.PutView.{Put}
+use Rattle.closed_types.specs.SharedTrees.{AreWithin}
 use Rattle.reached_instances.proofs.source.Source.put_named.Given as goal
 
 abbrev pub invariant-loop-number : goal.invariant-loop-number

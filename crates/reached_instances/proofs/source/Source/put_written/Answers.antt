@@ -1,6 +1,6 @@
-use Rattle.reached_instances.specs.SharedTrees.{trees}
+use Rattle.closed_types.specs.SharedTrees.{trees}
 use Rattle.reached_instances.specs.SourceView.{source, instance}
-use Rattle.reached_instances.specs.Uses.{declared_type}
+use Rattle.closed_types.specs.Uses.{declared_type}
 use Rattle.fip_base.specs.CoreView.{written}
 use Rattle.reached_instances.proofs.Putting.{put_unless}
 use Rattle.reached_instances.proofs.source.Source.put_written.Goals as goal

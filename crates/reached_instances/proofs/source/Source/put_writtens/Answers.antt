@@ -1,11 +1,11 @@
 use Rattle.std.proofs.Common.{sym, ap}
 use Rattle.fip_base.specs.fip_language.Core as C
 use Rattle.fip_base.specs.CoreView.{written}
-use Rattle.reached_instances.specs.SharedTrees.{trees}
-use Rattle.reached_instances.specs.Source.{Instance}
+use Rattle.closed_types.specs.SharedTrees.{trees}
+use Rattle.closed_types.specs.Source.{Instance}
 use Rattle.reached_instances.specs.SourceView.{source, instance}
-use Rattle.reached_instances.specs.TypeInstances.{unless_int}
-use Rattle.reached_instances.specs.Uses.{declared_type}
+use Rattle.closed_types.specs.TypeInstances.{unless_int}
+use Rattle.closed_types.specs.Uses.{declared_type}
 use Rattle.reached_instances.proofs.Closing.{instance_kept, ready_more}
 use Rattle.reached_instances.proofs.Putting.{all_of_map, put_as, put_ends, put_starts, put_step}
 use Rattle.reached_instances.proofs.source.Source.put_writtens.Goals as goal

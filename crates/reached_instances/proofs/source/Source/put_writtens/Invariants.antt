@@ -1,11 +1,11 @@
 use Rattle.std.proofs.Common.{take}
 use Rattle.fip_base.specs.fip_language.Mentions.{all_of}
 use Rattle.fip_base.specs.CoreView.{written}
-use Rattle.reached_instances.specs.PutView.{Put}
-use Rattle.reached_instances.specs.SharedTrees.{AreWithin, trees}
+use Rattle.closed_types.specs.PutView.{Put}
+use Rattle.closed_types.specs.SharedTrees.{AreWithin, trees}
 use Rattle.reached_instances.specs.SourceView.{source, instance, IsReady}
-use Rattle.reached_instances.specs.TypeInstances.{unless_int}
-use Rattle.reached_instances.specs.Uses.{declared_type}
+use Rattle.closed_types.specs.TypeInstances.{unless_int}
+use Rattle.closed_types.specs.Uses.{declared_type}
 use Rattle.reached_instances.proofs.source.Source.put_writtens.Given as goal
 
 abbrev pub invariant-loop-written : goal.invariant-loop-written

@@ -1,16 +1,16 @@
 use Rattle.std.proofs.Common.{◌∙◌, List, map, refl, sym, ap, subst}
 use Rattle.fip_trees.specs.Least.{after}
-use Rattle.reached_instances.specs.declared.mentions.CallSite.{CallSite}
-use Rattle.reached_instances.specs.Instances.{all_use_faults}
-use Rattle.reached_instances.specs.MentionsView.{use_of}
-use Rattle.reached_instances.specs.SharedTrees.{trees}
-use Rattle.reached_instances.specs.Source.{Instance}
+use Rattle.closed_types.specs.declared.mentions.CallSite.{CallSite}
+use Rattle.closed_types.specs.Instances.{all_use_faults}
+use Rattle.closed_types.specs.MentionsView.{use_of}
+use Rattle.closed_types.specs.SharedTrees.{trees}
+use Rattle.closed_types.specs.Source.{Instance}
 use Rattle.reached_instances.specs.SourceView.{source, instance}
-use Rattle.reached_instances.specs.Uses.{closed_function, use_faults}
-use Rattle.reached_instances.specs.UsesView.{IsPlaceOf}
+use Rattle.closed_types.specs.Uses.{closed_function, use_faults}
+use Rattle.closed_types.specs.UsesView.{IsPlaceOf}
 use Rattle.reached_instances.proofs.Closing.{instance_kept}
-use Rattle.reached_instances.proofs.Growing.{grows_same, grows_more, within_more}
-use Rattle.reached_instances.proofs.Lists.{walk_step}
+use Rattle.closed_types.proofs.Growing.{grows_same, grows_more, within_more}
+use Rattle.closed_types.proofs.Lists.{walk_step}
 use Rattle.reached_instances.proofs.Reaching.{AreReached, reached_starts, reached_goes, reached_ends}
 use Rattle.reached_instances.proofs.source.Source.reached.Goals as goal
 

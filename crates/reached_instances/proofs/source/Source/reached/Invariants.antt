@@ -1,9 +1,9 @@
 use Rattle.std.proofs.Common.{◌≡◌, drop, map}
 use Rattle.fip_trees.specs.Least.{after}
-use Rattle.reached_instances.specs.Instances.{all_use_faults}
+use Rattle.closed_types.specs.Instances.{all_use_faults}
 use Rattle.reached_instances.specs.KnownFits.{IsRight}
-use Rattle.reached_instances.specs.MentionsView.{use_of}
-use Rattle.reached_instances.specs.SharedTrees.{trees, Grows, AreWithin}
+use Rattle.closed_types.specs.MentionsView.{use_of}
+use Rattle.closed_types.specs.SharedTrees.{trees, Grows, AreWithin}
 use Rattle.reached_instances.specs.SourceView.{source, instance}
 use Rattle.reached_instances.proofs.Reaching.{AreReached}
 use Rattle.reached_instances.proofs.source.Source.reached.Given as goal

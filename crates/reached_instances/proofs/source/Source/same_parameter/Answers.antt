@@ -1,14 +1,14 @@
 use Rattle.std.proofs.Common.{◌∙◌, ap, sym}
 use Rattle.fip_base.specs.CoreView.{parameter, signature_parameter}
-use Rattle.reached_instances.specs.SharedTrees.{trees}
-use Rattle.reached_instances.specs.Source.{Instance, is_scalar}
+use Rattle.closed_types.specs.SharedTrees.{trees}
+use Rattle.closed_types.specs.Source.{Instance, is_scalar}
 use Rattle.reached_instances.specs.SourceView.{source, instance}
-use Rattle.reached_instances.specs.Uses.{declared_type}
+use Rattle.closed_types.specs.Uses.{declared_type}
 use Rattle.reached_instances.proofs.Closing.{instance_kept, ready_more}
 use Rattle.reached_instances.proofs.Declaring.{other_types, other_marks, same_marks}
 use Rattle.reached_instances.proofs.Fitting.{other_there, same_there}
-use Rattle.reached_instances.proofs.Growing.{more_within}
-use Rattle.reached_instances.proofs.Using.{tree_kept}
+use Rattle.closed_types.proofs.Growing.{more_within}
+use Rattle.closed_types.proofs.Using.{tree_kept}
 use Rattle.reached_instances.proofs.source.Source.same_parameter.Goals as goal
 
 pub returns-then-first-second-clause-same : goal.returns-then-first-second-clause-same

@@ -1,14 +1,14 @@
 use Rattle.std.proofs.Common.{◌≡◌, ◌+◌, ◌∙◌, ℕ, ◌∷◌, map, drop, ap, sym, subst, arith}
 use Rattle.fip_base.specs.CoreView.{parameter, signature_parameter}
-use Rattle.reached_instances.specs.SharedTrees.{trees}
-use Rattle.reached_instances.specs.Source.{Instance}
+use Rattle.closed_types.specs.SharedTrees.{trees}
+use Rattle.closed_types.specs.Source.{Instance}
 use Rattle.reached_instances.specs.SourceView.{source, instance}
-use Rattle.reached_instances.specs.UsesView.{is_same_parameter}
+use Rattle.closed_types.specs.UsesView.{is_same_parameter}
 use Rattle.reached_instances.proofs.Closing.{instance_kept, ready_more}
 use Rattle.reached_instances.proofs.Declaring.{map_length, sames, sames_end, sames_fail, sames_step}
 use Rattle.reached_instances.proofs.Fitting.{unlike_parameters}
-use Rattle.reached_instances.proofs.Growing.{grows_more}
-use Rattle.reached_instances.proofs.Lists.{drop_item}
+use Rattle.closed_types.proofs.Growing.{grows_more}
+use Rattle.closed_types.proofs.Lists.{drop_item}
 use Rattle.reached_instances.proofs.source.Source.same_parameters.Goals as goal
 
 pub returns-then-wanted-found-clause-same : goal.returns-then-wanted-found-clause-same

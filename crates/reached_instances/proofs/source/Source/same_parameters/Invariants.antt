@@ -1,5 +1,5 @@
 use Rattle.std.proofs.Common.{◌≡◌, drop}
-use Rattle.reached_instances.specs.SharedTrees.{trees, Grows}
+use Rattle.closed_types.specs.SharedTrees.{trees, Grows}
 use Rattle.reached_instances.specs.SourceView.{source, instance, IsReady}
 use Rattle.reached_instances.proofs.Declaring.{sames}
 use Rattle.reached_instances.proofs.source.Source.same_parameters.Given as goal

@@ -1,12 +1,12 @@
 use Rattle.std.proofs.Common.{◌∙◌, ◌++◌, ℕ, List, [], ◌∷◌, ap, sym, subst}
 use Rattle.fip_base.specs.fip_language.Mentions.{all_of}
-use Rattle.reached_instances.specs.declared.closed.Head.TheVariants as H
-use Rattle.reached_instances.specs.Closed.{Applied, Closed, NoClosed}
-use Rattle.reached_instances.specs.SharedTrees.{AreWithin, all_at, trees, trees_at}
+use Rattle.closed_types.specs.declared.closed.Head.TheVariants as H
+use Rattle.closed_types.specs.Closed.{Applied, Closed, NoClosed}
+use Rattle.closed_types.specs.SharedTrees.{AreWithin, all_at, trees, trees_at}
 use Rattle.reached_instances.specs.SourceView.{source}
-use Rattle.reached_instances.specs.TypeInstances.{types_given, types_of_instance}
+use Rattle.closed_types.specs.TypeInstances.{types_given, types_of_instance}
 use Rattle.reached_instances.proofs.Closing.{kept_all}
-use Rattle.reached_instances.proofs.Growing.{within_more}
+use Rattle.closed_types.proofs.Growing.{within_more}
 use Rattle.reached_instances.proofs.Putting.{put_more, put_place}
 use Rattle.reached_instances.proofs.Typing.{roots_kept}
 use Rattle.reached_instances.proofs.type_instances.TypeInstancesReaching.starts.Goals as goal

@@ -1,10 +1,10 @@
 use Rattle.std.proofs.Common.{◌∙◌, ◌++◌, ℕ, List, ap, sym, subst, Some}
 use Rattle.fip_base.specs.fip_language.Mentions.{all_of}
-use Rattle.reached_instances.specs.Closed.{Closed, Closeds, arguments_of}
-use Rattle.reached_instances.specs.SharedTrees.{AreWithin, all_at, tree_at, trees, trees_at}
-use Rattle.reached_instances.specs.Source.{declared_at}
+use Rattle.closed_types.specs.Closed.{Closed, Closeds, arguments_of}
+use Rattle.closed_types.specs.SharedTrees.{AreWithin, all_at, tree_at, trees, trees_at}
+use Rattle.closed_types.specs.Source.{declared_at}
 use Rattle.reached_instances.specs.SourceView.{source}
-use Rattle.reached_instances.specs.TypeInstances.{fields_of, unless_int, unless_ints}
+use Rattle.closed_types.specs.TypeInstances.{fields_of, unless_int, unless_ints}
 use Rattle.reached_instances.proofs.Fielding.{unless_at}
 use Rattle.reached_instances.proofs.Putting.{put_more}
 use Rattle.reached_instances.proofs.Typing.{parts_of_function, parts_of_int, parts_of_type, roots_kept}

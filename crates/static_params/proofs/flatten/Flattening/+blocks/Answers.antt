@@ -17,7 +17,7 @@ use Rattle.fip_trees.specs.TreeView as W
 use Rattle.fip_trees.proofs.TreeViews.{expression_nested}
 use Rattle.static_params.specs.FlatProgram.{flat_argument, flat_arguments, match_of}
 use Rattle.static_params.proofs.FlatViews.{core_give, core_nested, core_tuple, view_give, view_tuple}
-use Rattle.reached_instances.proofs.Hearing.{expression_call, expression_match, expression_operation}
+use Rattle.reached_instances.proofs.closed_types.Hearing.{expression_call, expression_match, expression_operation}
 use Rattle.static_params.specs.FlatView.{Making, making, binder_in, block_in, bound_in, case_in, clauses_in, expression_in}
 use Rattle.static_params.proofs.Made.{clause_row, made_binding, made_block, made_clause, row_goes, row_done, stays_same, stays_more}
 use Rattle.static_params.proofs.flatten.Flattening.+blocks.Goals as goal

@@ -3,10 +3,10 @@ use Rattle.fip_language.specs.Core.{Name, WrittenName}
 use Rattle.fip_base.specs.CoreView.{writtens}
 use Rattle.static_params.specs.FlatProgram.{callee_number, or_zero}
 use Rattle.static_params.specs.FlatView.{numbers_at}
-use Rattle.reached_instances.specs.SharedTrees.{tree_at, trees}
+use Rattle.reached_instances.specs.closed_types.SharedTrees.{tree_at, trees}
 use Rattle.reached_instances.specs.SourceView.{instance, source}
-use Rattle.reached_instances.specs.Uses.{closed_function}
-use Rattle.reached_instances.specs.UsesView.{IsPlaceOf}
+use Rattle.reached_instances.specs.closed_types.Uses.{closed_function}
+use Rattle.reached_instances.specs.closed_types.UsesView.{IsPlaceOf}
 use Rattle.static_params.proofs.PlaceNumbers.{making_kept, making_more, number_grown}
 use Rattle.static_params.proofs.flatten.Flattening.callee.Goals as goal
 

@@ -3,9 +3,9 @@ use Rattle.std.specs.List.{position}
 use Rattle.fip_base.specs.CoreView.{result_type}
 use Rattle.static_params.specs.FlatProgram.{from_one, type_number}
 use Rattle.static_params.specs.FlatView.{numbers_at}
-use Rattle.reached_instances.specs.SharedTrees.{trees}
+use Rattle.reached_instances.specs.closed_types.SharedTrees.{trees}
 use Rattle.reached_instances.specs.SourceView.{instance, source}
-use Rattle.reached_instances.specs.Uses.{declared_type, result_types}
+use Rattle.reached_instances.specs.closed_types.Uses.{declared_type, result_types}
 use Rattle.reached_instances.proofs.Fitting.{ready_if_right, right_kept}
 use Rattle.static_params.proofs.PlaceNumbers.{making_kept, making_more}
 use Rattle.reached_instances.proofs.Putting.{map_map}

@@ -1,8 +1,8 @@
 use Rattle.std.proofs.Common.{◌∙◌, ap}
 use Rattle.static_params.specs.FlatProgram.{from_one}
-use Rattle.reached_instances.specs.SharedTrees.{trees}
+use Rattle.reached_instances.specs.closed_types.SharedTrees.{trees}
 use Rattle.reached_instances.specs.SourceView.{instance, source}
-use Rattle.reached_instances.specs.Uses.{declared_type}
+use Rattle.reached_instances.specs.closed_types.Uses.{declared_type}
 use Rattle.fip_base.specs.CoreView.{written}
 use Rattle.reached_instances.proofs.Fitting.{ready_if_right, right_kept}
 use Rattle.static_params.proofs.PlaceNumbers.{making_more, making_kept, number_grown}

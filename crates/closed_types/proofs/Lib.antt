@@ -1,0 +1,16 @@
+pub mod Sameness
+pub mod ClosedTrees
+pub mod SharedTrees
+pub mod SharedAt
+pub mod Rows
+pub mod FitNotes
+pub mod Growing
+pub mod Lists
+pub mod Numbered
+pub mod Gathered
+pub mod Using
+pub mod Arguing
+pub mod Heard
+pub mod Hearing
+pub mod Ordering
+pub mod Declarations

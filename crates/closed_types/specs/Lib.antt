@@ -1,0 +1,13 @@
+pub mod Closed
+pub mod Source
+pub mod Uses
+pub mod Numbering
+pub mod Instances
+pub mod TypeInstances
+pub mod Binders
+pub mod SharedTrees
+pub mod BranchView
+pub mod MentionsView
+pub mod UsesView
+pub mod PutView
+pub mod DeclaredView

@@ -1,9 +1,0 @@
-use Rattle.std.proofs.Common.{◌∙◌, subst, IfSome}
-use Rattle.reached_instances.specs.SharedTrees.{IsNoted, Kept}
-use Rattle.reached_instances.proofs.FitNotes.{known_noted}
-use Rattle.reached_instances.proofs.closed.Shared.known_fit.Goals as goal
-
-pub returns : goal.returns
-returns c =
-    subst (λ (k : Kept). IfSome c.copied.result (λ b. IsNoted c.args.passing b k.fits)) c.self.view_is
-    (known_noted c.self.inside.fits.entries c.args.passing c.copied.result (c.copied.ensures ∙ c.get.ensures.value))

@@ -1,8 +1,0 @@
-use Rattle.std.proofs.Common.{◌≡◌, [], drop}
-use Rattle.fip_base.specs.CoreView.{arguments}
-use Rattle.reached_instances.specs.MentionsView.{heard, hears_arguments}
-use Rattle.reached_instances.specs.SourceView.{declared_with}
-use Rattle.reached_instances.proofs.mentions.Mentions.+arguments.Given as goal
-
-abbrev pub invariant-add_arguments-loop-argument : goal.invariant-add_arguments-loop-argument
-invariant-add_arguments-loop-argument l = hears_arguments (declared_with l.decls []) (heard l.self) (arguments (drop l.argument-index l.list)) ≡ hears_arguments (declared_with l.decls []) (heard l.initial.self) (arguments l.list)

@@ -52,7 +52,7 @@ use Rattle.source_report.proofs.Filling.{from_map}
 
 sizes_from : (ks : List ℕ) → ((i n : ℕ) → slice_get ks i ≡ Some n → (1 ≤ n) × (n ≤ MOST_FIELDS)) → AreSizes ks
 sizes_from [] h = tt
-sizes_from (k ∷ ks) h = let here = h 0 k refl in (here.0, (omega (arith, here)), sizes_from ks (λ i n e. h (suc i) n e))
+sizes_from (k ∷ ks) h = let here = h 0 k refl in (here.0, (let b = here.1 in omega (arith, b)), sizes_from ks (λ i n e. h (suc i) n e))
 
 module _ (core : Core) (unbroken : (v : Violation) → Declaring.Violates core v → ⊥) where
   many_fields : (d : Data) (k : DataConstructor) → Among d core.types → Among k d.constructors → nat_lt MOST_FIELDS (length k.fields) ≡ true → ⊥

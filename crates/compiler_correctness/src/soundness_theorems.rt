@@ -8,6 +8,7 @@ ghost use Rattle.lowering_soundness.specs.fip_language.declared.FunKind.{FunKind
 ghost use Rattle.lowering_soundness.specs.fip_language.declared.FunKind.TheVariants.{Fun};
 ghost use Rattle.lowering_soundness.specs.fip_rules.World as R;
 ghost use Rattle.lowering_soundness.specs.fip_trees.declared.groups.Member.{Member};
+ghost use Rattle.lowering_soundness.specs.fip_trees.SoundProgram.{IsSoundProgram};
 ghost use Rattle.lowering_soundness.specs.fip_trees.Tree.{Instance, Program};
 ghost use Rattle.lowering_soundness.specs.lowering_relation.LoweredBodies.{function_of, has_function};
 ghost use Rattle.lowering_soundness.specs.lowering_relation.LoweredFunctions.{IsSettingOf};
@@ -82,11 +83,12 @@ pub fn laid_accepted_code_is_sound()
         ((n : ℕ) (f : PlainFunction) → function_at code n ≡ Some f → MapsStand f) → IsSound code }
 {}
 
-/// The program of an accepted source is as lowering asks, with the needs that the rules on credits are reported of, so that
-/// its code is laid out. For who lowers it.
+/// The program of an accepted source is as lowering asks, with the needs that the rules on credits are reported of, so
+/// that its code is laid out; and its types, names, fields and credits are sound. For who lowers it.
 pub fn accepted_programs_are_as_asked()
     ensures theorem { (source : List ℕ) (program : Program) → IsAccepted source program →
         IsAsked program (all_needs program program.instances) }
+    ensures sound { (source : List ℕ) (program : Program) → IsTyped source program → IsSoundProgram program }
 {}
 
 /// The code that lowering makes of an accepted source breaks no rule of sound code: it is headed as the source's

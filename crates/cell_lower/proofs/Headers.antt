@@ -21,6 +21,7 @@ registers-some None r h = absurd (cc)
 registers-some (Some m) r h = cc
 
 pub ruleset heading = (and_if-append, registers-some)
+
 pub ruleset functions = (no_function_spelt)
 
 -- the instance of a function

@@ -2,8 +2,8 @@
 ghost use Rattle.std.specs.Prelude.{◌≡◌, ◌≤◌, ◌<◌, ◌+◌, ◌&&◌, not, suc, ◌∷◌, None, Some, IfOk, OnOk, drop, length};
 ghost use Rattle.fip_trees.specs.TreeView as V;
 ghost use Rattle.match_knowledge.specs.View as View;
-ghost use Rattle.lower_parts.specs.lowering_relation.Entering.{entering, entering_all, entering_root, root_of, variable_held, with_cell};
-ghost use Rattle.lower_parts.specs.lowering_relation.Entering.{with_variable, spent_if};
+ghost use Rattle.lower_parts.specs.lowering_relation.Entering.{entering, entering_all, entering_root, root_of};
+ghost use Rattle.lower_parts.specs.lowering_relation.Entering.{variable_held, with_cell, with_variable, spent_if};
 ghost use Rattle.lower_parts.specs.lowering_relation.Losing.{Loses};
 ghost use Rattle.lower_parts.specs.lowering_relation.Rows.{row_of, rows_of};
 ghost use Rattle.lower_parts.specs.lowering_relation.Written.{Extends, GivesUp, size};

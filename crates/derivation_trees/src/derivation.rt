@@ -38,7 +38,7 @@ pub struct Credit {
 #[derive(Drop)]
 pub struct Node {
     pub rule: RuleName,
-    /// The owned variables' numbers, rising.
+    /// The owned variables' numbers, rising. A text spells those below 2^32.
     pub variables: Vec<usize>,
     /// The credits, their sizes rising.
     pub credits: Vec<Credit>,

@@ -103,7 +103,8 @@ struct Owned {
     credits: Sizes,
 }
 
-// What is asked: the variables that occur in an expression from `first` to before `end`, and credits.
+// What is asked: the variables that occur in an expression from `first` to before `end` (a number and a span, whose sum
+// may pass 64 bits), and credits.
 #[derive(Clone, Copy)]
 struct Asked {
     first: u128,
@@ -339,7 +340,11 @@ impl Guide<'_> {
     }
 
     #[cycle(pattern)]
-    fn bind_patterns(&self, variables: &mut Vec<usize>, patterns: &[Pattern]) -> Result<(), NoMemory>
+    fn bind_patterns(
+        &self,
+        variables: &mut Vec<usize>,
+        patterns: &[Pattern],
+    ) -> Result<(), NoMemory>
         ensures { OnOk result (variables.new.items ≡
             W.bound_patterns (guided self.now) variables.old.items (V.patterns patterns.now)) }
     {
@@ -851,7 +856,11 @@ impl Guide<'_> {
         Ok(())
     }
 
-    fn add_variable(&self, variables: &mut Vec<usize>, binder: Option<usize>) -> Result<(), NoMemory>
+    fn add_variable(
+        &self,
+        variables: &mut Vec<usize>,
+        binder: Option<usize>,
+    ) -> Result<(), NoMemory>
         ensures { OnOk result (variables.new.items ≡
             W.owning_variable (guided self.now) variables.old.items binder) }
     {

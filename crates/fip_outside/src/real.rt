@@ -193,7 +193,7 @@ impl<F: Files> Folder for FileFolder<'_, F> {
         ensures read { IfOk result (λ bytes. (file rest : F.File)
             × Consumes (F.File.remaining file) (F.File.remaining rest) bytes.items × IsAtEnd (F.File.remaining rest)) }
         ensures within { IfOk result (λ bytes. length bytes.items ≤ limit) }
-        // Where it answers that the file is too long, an opened file gave more bytes than these.
+        // Where it answers that the file is too long, an opened file gave more than `limit` bytes.
         ensures over { result ≡ Err FetchError.TooLong → (file rest : F.File)
             × Takes (F.File.remaining file) (F.File.remaining rest) (limit + 1) }
         ensures failed { result ≡ Err FetchError.Failed → Rose self.old.faults self.new.faults

@@ -30,13 +30,13 @@ pub struct State<'a> {
     is_fip: bool,
     least: Least,
     scope: Scope<'a>,
-    // Where the walk stood before each of the bound expressions around.
+    // One for each of the bound expressions around; only how many there are is asked.
     around: Vec<Kept>,
     // The variables that were used up on some path to here, and those that were on every path.
     used: Log,
     always: Log,
     waiting: Vec<Mark<'a>>,
-    // The places of the binders that came into scope so far.
+    // One for each binder that came into scope so far; only how many there are is asked, so that memory bounds it.
     entered: Vec<Place>,
 }
 

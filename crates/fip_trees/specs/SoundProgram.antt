@@ -1,7 +1,7 @@
 -- What every program without static parameters keeps to, whatever source it was made of. There are few instances and
 -- few types, no two roots have one name, and the types are sound: bool is the first, each has a finite value, and its
--- constructors have names of their own, few fields, and types for these that are in the table. A header has few credits,
--- of sizes that constructors have.
+-- constructors have names of their own, few fields, and types for these that are in the table. A header has few
+-- credits, of sizes that constructors have.
 --
 -- In the program of `data list[a] { Nil; Cons(a, list[a]) }` and `fun f(xs: list[int]): int { 0 }` there are one
 -- instance, f, without credits, and two types: bool, with the value False, and list[int], with the value Nil.

@@ -229,7 +229,8 @@ impl Flat {
     }
 }
 
-/// A program that is typed: each slot holds its node's type. It is as sound as one that isn't typed yet.
+/// A program that the type checker gave, whose clauses say that each slot holds its node's type. By its type it is as
+/// sound as one that isn't typed yet.
 #[derive(Drop)]
 pub struct Typed {
     pub program: Program,

@@ -329,6 +329,7 @@ pub fn asking_at(parts: &[Row], knowns: &[Knowledge]) -> usize
     }
 }
 
+/// The pattern at a place.
 pub fn row_at(rows: &[Row], place: usize) -> &Row
     requires there { place < length rows.now }
     ensures row { slice_get rows.now place ≡ Some result.now }
@@ -339,6 +340,7 @@ pub fn row_at(rows: &[Row], place: usize) -> &Row
     }
 }
 
+/// What is known of the field at a place.
 pub fn known_at(knowns: &[Knowledge], place: usize) -> &Knowledge
     requires there { place < length knowns.now }
     ensures known { slice_get knowns.now place ≡ Some result.now }
@@ -361,6 +363,7 @@ pub fn contains(read: &[u16], register: u16) -> bool
     false
 }
 
+/// Puts the kind of a register, where it is there.
 pub fn set_kind(kinds: &mut Vec<Kind>, register: u16, kind: Kind)
     ensures set { kinds.new.items ≡ slice_set kinds.old.items register kind }
 {

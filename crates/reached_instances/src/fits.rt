@@ -15,9 +15,9 @@ ghost use Rattle.closed_types.specs.UsesView.{AreAllWithin, AreWithinIfSome, IsP
 ghost use Rattle.closed_types.specs.UsesView.{AsksFor, argument_or_none, is_same_parameter, misfit_at};
 ghost use Rattle.closed_types.specs.UsesView.{type_or_int};
 
-use closed_types::closed::{Head, Passing, Shared};
 use crate::source::{Here, Source};
 use crate::types::both;
+use closed_types::closed::{Head, Passing, Shared};
 use fip_base::core_form::{Function, Parameter, ResultType, SignatureParameter, Static, Written};
 use fip_base::plain::{CreditMark, NoMemory};
 use fip_base::refusal::Rule;

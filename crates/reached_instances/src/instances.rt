@@ -14,10 +14,10 @@ ghost use Rattle.closed_types.specs.SharedTrees.{AreWithin, Grows, all_at, tree_
 ghost use Rattle.reached_instances.specs.SourceView as S;
 ghost use Rattle.closed_types.specs.UsesView.{with_place};
 
-use closed_types::closed::{Head, Shared, copied};
-use closed_types::mentions::CallSite;
 use crate::numbering::{Places, Reaching};
 use crate::source::{Here, Source};
+use closed_types::closed::{Head, Shared, copied};
+use closed_types::mentions::CallSite;
 use fip_base::core_form::Static;
 use fip_base::plain::NoMemory;
 use fip_trees::least::Least;

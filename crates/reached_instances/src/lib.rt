@@ -10,5 +10,4 @@ pub mod type_instances;
 mod types;
 mod uses;
 
-pub use closed_types::closed;
-pub use closed_types::mentions;
+pub use closed_types::{closed, mentions};

@@ -12,9 +12,9 @@ ghost use Rattle.reached_instances.specs.SourceView as S;
 ghost use Rattle.closed_types.specs.TypeInstances as T;
 ghost use Rattle.closed_types.specs.Uses.{declared_type};
 
-use closed_types::closed::{Head, Shared};
 use crate::numbering::{Places, Reaching};
 use crate::source::{Here, Source};
+use closed_types::closed::{Head, Shared};
 use fip_base::core_form::Written;
 use fip_base::plain::NoMemory;
 use fip_trees::decls::{DeclaredConstructor, FieldType};

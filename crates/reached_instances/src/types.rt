@@ -10,8 +10,8 @@ ghost use Rattle.closed_types.specs.Uses.{applied_to, broken, closed_type, close
 ghost use Rattle.closed_types.specs.Uses.{type_faults, type_name_faults, types_faults, when};
 ghost use Rattle.closed_types.specs.UsesView.{ArePlacesOf, AreWithinIfSome, IsPlaceOf, trees_of, with_place};
 
-use closed_types::closed::{Head, Shared};
 use crate::source::{Here, Source};
+use closed_types::closed::{Head, Shared};
 use fip_base::core_form::Written;
 use fip_base::plain::{NoMemory, Place};
 use fip_base::refusal::Rule;

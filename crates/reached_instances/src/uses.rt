@@ -11,10 +11,10 @@ ghost use Rattle.closed_types.specs.Uses as U;
 ghost use Rattle.closed_types.specs.UsesView.{AreAllWithin, IsPlaceOf, all_trees, argument_of};
 ghost use Rattle.closed_types.specs.UsesView.{faults_of_argument};
 
-use closed_types::closed::Shared;
 use crate::fits::applied_function;
 use crate::source::{Here, Source};
 use crate::types::{note_unless, parameter};
+use closed_types::closed::Shared;
 use fip_base::core_form::{Static, Written};
 use fip_base::plain::{NoMemory, Place};
 use fip_base::refusal::Rule;

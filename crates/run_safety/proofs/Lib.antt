@@ -1,0 +1,6 @@
+pub mod Headers
+pub mod Trees
+pub mod Stores
+pub mod Literals
+pub mod Alive
+pub mod Starting

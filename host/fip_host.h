@@ -265,8 +265,10 @@ uint32_t fip_start(FipMachine *machine, size_t number, const uint64_t *arguments
 
 /* Starts a run of a function on the text of its arguments, a line each, as `fip_start` does. Status 5: the text
  * is none of the parameters' types, and `loaded.at` is the least offset at which it can't go on; 6: its cells
- * and the credits need more words than the store has left, and `loaded` has both numbers; the store is as it
- * was. 10: there is no memory, and the store has no word: give it another. Proved: code, kept, starts. */
+ * and the credits need more words than the store has left, and `loaded` has both numbers; 12: there is no such
+ * function, or the text is longer than any memory. So the store stays as it was. 10: there is no memory, and the
+ * store is without a word: give the machine another. Proved: code, kept, starts, bad, large, range, lost, same,
+ * status. */
 uint32_t fip_start_text(FipMachine *machine, size_t number, const char *text, size_t text_size, uint64_t frames,
                         FipLoaded *loaded);
 
@@ -292,7 +294,7 @@ uint32_t fip_result(const FipMachine *machine, size_t i, uint64_t *word);
 
 /* Prints the results, a line each: how many bytes the text has; as much of it as fits is written to `out`. It
  * takes memory for the text. Status 13: there are no results; 10: there is no memory. The machine stays as it
- * is. Proved: same. */
+ * is. Proved: same, lines, none, closed. */
 uint32_t fip_print_results(const FipMachine *machine, char *out, size_t out_size, size_t *length);
 
 /* The gauge of the run: the numbers of cells of a size, from 1 to 16, and the most of the stack, where the run
@@ -302,9 +304,10 @@ uint32_t fip_gauge(const FipMachine *machine, size_t size, FipGauge *gauge);
 
 /* Values that are kept from run to run, and their text */
 
-/* Keeps the results of a run that ended with values: how many they are, and their numbers in `numbers`. They
- * can't be read or kept again. It takes no memory. Status 13: there are none; 12: `numbers` is too short, or too
- * few numbers are free. Proved: code, task, store, taken, same. */
+/* Keeps the results of a run that ended with values, each under the first number that is free: how many they
+ * are, and their numbers in `numbers`. They can't be read or kept again. It takes no memory. Status 13: there
+ * are none; 12: `numbers` is too short, or too few numbers are free. Proved: code, task, store, taken, keeps,
+ * rest, closed, same. */
 uint32_t fip_keep(FipMachine *machine, size_t *numbers, size_t numbers_count, size_t *count);
 
 /* What is kept under a number. Status 12: nothing is. The machine stays as it is. Proved: same, reports, none. */
@@ -315,10 +318,10 @@ uint32_t fip_kept(const FipMachine *machine, size_t number, FipKept *kept);
 uint32_t fip_forget(FipMachine *machine, size_t number);
 
 /* Starts a run of a function, as `fip_start` does, on kept values, on ints and on constructors without fields. A
- * kept value is used up, unless its parameter is borrowed. Status 12: there is no such function, it takes
- * another number of arguments, or nothing is kept under a number; 14: an argument is no value of its parameter's
- * type, or one that is used up is given twice; 6: the store has no room for the credits; 10: there is no memory.
- * Proved: code, starts. */
+ * kept value is used up, unless its parameter is borrowed; where no run starts, all stay. Status 12: there is no
+ * such function, it takes another number of arguments, or nothing is kept under a number; 14: an argument is no
+ * value of its parameter's type, or one that is used up is given twice; 6: the store has no room for the
+ * credits; 10: there is no memory. Proved: code, starts, uses, kept. */
 uint32_t fip_start_kept(FipMachine *machine, size_t number, const FipArgument *arguments, size_t arguments_count,
                         uint64_t frames);
 

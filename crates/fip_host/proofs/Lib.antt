@@ -5,3 +5,7 @@ pub mod Growing
 pub mod Beginning
 pub mod Names
 pub mod Needs
+pub mod Putting
+pub mod Lines
+pub mod Loading
+pub mod Refusing

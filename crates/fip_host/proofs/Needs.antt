@@ -1,6 +1,6 @@
 -- The greatest frame has two words at least; and caps within a cap.
-use Rattle.std.proofs.Common.{◌≡◌, ℕ, ◌+◌, ◌*◌, ◌^◌, ◌≤◌, List, [], ◌∷◌, arith}
-use Rattle.std.specs.Prelude.{max, min}
+use Rattle.std.proofs.Common.{◌≡◌, ℕ, ◌+◌, ◌*◌, ◌≤◌, List, [], ◌∷◌, arith}
+use Rattle.std.specs.Prelude.{max}
 use Rattle.fip_machine.specs.cell_code.declared.code.Function.{Function}
 use Rattle.fip_host.specs.Needing.{capped, largest_frame}
 

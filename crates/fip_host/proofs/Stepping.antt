@@ -1,6 +1,6 @@
 -- What a step and a run say of a task that is laid aside between calls: the clauses speak of the task that was taken up,
 -- and so of the one that stood there before.
-use Rattle.std.proofs.Common.{◌≡◌, ℕ, Bool, List, Option, Some, None, sym, ap, subst, ◌∙◌}
+use Rattle.std.proofs.Common.{◌≡◌, ℕ, Bool, List, Some, None, sym, ap, subst, ◌∙◌}
 use Rattle.cell_code.specs.Plain.{plain}
 use Rattle.fip_machine.specs.cell_store.Cells.{Cells}
 use Rattle.fip_machine.specs.machine_cells.machine_semantics.Cells.{Store}

@@ -1,7 +1,6 @@
 -- What `fip_verify` hands to the host: a machine of just the code that the bytes spell. Of the 240 bytes of the file of
 -- rev it is a machine of rev, with no run, no cell, no word for one, and nothing kept.
 use Rattle.std.specs.Prelude.{◌≡◌, ℕ, List, [], Option, Some, None}
-use Rattle.fip_language.specs.SoundTable.{IsSoundTable}
 use Rattle.fip_machine.specs.code_verify.Checked.{Checked}
 use Rattle.fip_host.specs.Hosting.{Seen}
 use Rattle.fip_host.specs.Verdicts.{IsCodeOf}

@@ -2,7 +2,6 @@
 use base.Fml.{Fml}
 use denote.Ref.{MutBor}
 use denote.Follow.{follows}
-use Rattle.fip_host.specs.declared.handle.Handle.{Handle}
 use Rattle.fip_host.specs.contracts.hosted.Hosted as M
 use Rattle.fip_host.specs.contracts.handle.Handle as H
 

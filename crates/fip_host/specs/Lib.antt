@@ -2,8 +2,11 @@ pub mod HandleOwns
 pub mod HandleFollows
 pub mod Statuses
 pub mod Verdicts
+pub mod Making
 pub mod Hosting
 pub mod Handing
 pub mod Needing
 pub mod Telling
 pub mod Starting
+pub mod Keeping
+pub mod Printing

@@ -7,6 +7,7 @@ use Rattle.fip_machine.specs.machine_step.declared.rows.Stepped.TheVariants as S
 use Rattle.fip_machine.specs.declared.machine.Ended.{Ended}
 use Rattle.fip_machine.specs.declared.machine.Ended.TheVariants as M
 use Rattle.fip_host.specs.declared.answer.FipEnd.{FipEnd}
+use Rattle.fip_host.specs.declared.answer.FipLoaded.{FipLoaded}
 use Rattle.fip_host.specs.declared.answer.Refusal.{Refusal}
 use Rattle.fip_host.specs.declared.answer.Refusal.TheVariants as R
 
@@ -46,3 +47,12 @@ end_by_run M.Out = end_at 4
 abbrev pub outcome_status : Result (Unit {0}) Refusal → ℕ
 outcome_status (Ok x) = 0
 outcome_status (Err refusal) = refusal_number refusal
+
+-- what is told besides of a text that wasn't loaded
+abbrev pub loaded_by : Refusal → FipLoaded → FipLoaded
+loaded_by (R.BadInput at) l = record { at = at; needed = l.needed; given = l.given }
+loaded_by (R.TooSmall needed given) l = record { at = l.at; needed = needed; given = given }
+loaded_by R.NoMemory l = l
+loaded_by R.OutOfRange l = l
+loaded_by R.NotReady l = l
+loaded_by R.WrongValue l = l

@@ -1,5 +1,6 @@
 -- What the calls tell of a code, of cells and of kept values, and what they write for the host.
-use Rattle.std.specs.Prelude.{◌≡◌, ◌≢◌, ℕ, ◌+◌, ◌-◌, ◌*◌, ◌<◌, true, false, List, ◌++◌, Option, Some, None, ◌⊎◌}
+use Rattle.std.specs.Prelude.{◌≡◌, ◌≢◌, ℕ, ◌+◌, ◌-◌, ◌*◌, ◌<◌, true, false, List, ◌++◌, Option}
+use Rattle.std.specs.Prelude.{Some, None}
 use Rattle.std.specs.Prelude.{length, take, drop, slice_get, slice_set, slice_index_or, if◌then◌else◌}
 use Rattle.fip_base.specs.declared.plain.Stack.{Stack}
 use Rattle.fip_machine.specs.cell_code.declared.code.Function.{Function}
@@ -10,7 +11,6 @@ use Rattle.fip_machine.specs.code_verify.code_rules.StackNumbers.{HasStack}
 use Rattle.fip_machine.specs.fip_language.Store.{Cell}
 use Rattle.fip_machine.specs.fip_language.Table.{Shape}
 use Rattle.fip_machine.specs.cell_store.Cells.{Cells, cell_at, IsAfter}
-use Rattle.fip_machine.specs.cell_store.Made.{Loading, IsRetaken, IsAppended}
 use Rattle.fip_machine.specs.machine_cells.machine_semantics.Cells.{Store}
 use Rattle.fip_machine.specs.declared.gauge.Gauge.{Gauge}
 use Rattle.fip_host.specs.declared.answer.FipFunction.{FipFunction}
@@ -91,19 +91,6 @@ pub record IsLast (cells : Cells) (word : ℕ) : Type 0 where
   pub from : Option ℕ
   pub named : IsNamedBy cells word from
   pub none : (r : ℕ) → IsAfter from r → cell_at cells r ≡ None
-
--- A cell was made, in the place of a released one of its size or after all others, and this is its word.
-pub record IsMade (old new : Loading) (tag : ℕ) (fields : List ℕ) (word : ℕ) : Type 0 where
-  pub place : ℕ
-  pub is : word ≡ 2 * place + 1
-  pub made : IsRetaken old new place (record { tag = tag; fields = fields })
-      ⊎ IsAppended old new place (record { tag = tag; fields = fields })
-
--- So many words stand after the old ones.
-pub record HasMore (old new : List ℕ) (n : ℕ) : Type 0 where
-  pub more : List ℕ
-  pub is : new ≡ old ++ more
-  pub many : length more ≡ n
 
 -- The cell that a word names, which was live, is released.
 pub record IsReleased (old new : Store) (word : ℕ) : Type 0 where

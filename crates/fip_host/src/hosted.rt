@@ -3,6 +3,9 @@ ghost use Rattle.std.specs.Prelude.{◌≡◌, ◌<◌, ◌⊎◌, [], None, Err
 ghost use Rattle.std.specs.Prelude.{Some};
 ghost use Rattle.fip_language.specs.SoundTable.{IsSoundTable};
 ghost use Rattle.fip_language.specs.declared.limits.TheConstants.{MOST_STORE_WORDS};
+ghost use Rattle.cell_code.specs.Plain.{plain};
+ghost use Rattle.code_verify.specs.Checked.{HasMachineInts};
+ghost use Rattle.code_verify.specs.code_rules.Breaks.{IsSound};
 ghost use Rattle.code_verify.specs.code_rules.Codes.{is_fip};
 ghost use Rattle.fip_host.specs.Hosting.{Seen};
 ghost use Rattle.fip_machine.specs.machine_cells.Small.{IsSmall};
@@ -11,7 +14,7 @@ ghost use Rattle.fip_host.specs.declared.answer.Refusal.{Refusal};
 ghost use Rattle.fip_host.specs.declared.answer.Refusal.TheVariants.{NoMemory, OutOfRange};
 
 mod cells;
-mod runs;
+pub mod runs;
 mod values;
 
 use crate::answer::{FipFunction, Refusal};
@@ -37,6 +40,8 @@ pub struct Hosted {
     verified: Verified,
     cells: Sealed,
     task: Option<Paused>,
+    // Whether the run never comes to an instruction that can't be done, as one that began on a text.
+    is_safe: bool,
     entry: usize,
     // Whether the results may be read: they aren't kept.
     is_open: bool,
@@ -63,7 +68,7 @@ impl Model for Hosted {
       kept = h.kept.items;
     } };
 
-    ghost invariant = { λ h. IsHosted h.verified h.task h.cells.cells h.cells.pushed };
+    ghost invariant = { λ h. IsHosted h.verified h.task h.cells.cells h.cells.released h.cells.pushed h.is_safe };
 }
 
 /// The store without a cell and without a word for one. It takes no memory.
@@ -88,6 +93,16 @@ pub fn sealed(loader: Loader) -> Sealed
     seal(loader)
 }
 
+/// The function of a number.
+pub fn function_in(verified: &Verified, number: usize) -> Option<&Function>
+    ensures some { IfSome result (λ r. slice_get verified.now.code.functions.items number ≡ Some r.now) }
+    ensures none { result ≡ None → slice_get verified.now.code.functions.items number ≡ None }
+    ensures sound { IsSound (plain verified.now.code) }
+    ensures literals { HasMachineInts (plain verified.now.code) }
+{
+    verified.code().functions.get(number)
+}
+
 impl Hosted {
     /// A machine of a code, with no store and no run. It takes no memory.
     pub fn of(alloc: Global, verified: Verified) -> Hosted
@@ -103,6 +118,7 @@ impl Hosted {
             verified,
             cells: no_cells(alloc),
             task: None,
+            is_safe: false,
             entry: 0,
             is_open: false,
             gauge: Gauge::new(),
@@ -122,7 +138,7 @@ impl Hosted {
         ensures some { IfSome result (λ r. slice_get self.now.code.code.functions.items number ≡ Some r.now) }
         ensures none { result ≡ None → slice_get self.now.code.code.functions.items number ≡ None }
     {
-        self.verified.code().functions.get(number)
+        function_in(&self.verified, number)
     }
 
     /// What is reported of a function.
@@ -165,6 +181,7 @@ impl Hosted {
         let book = no_values(alloc, kept)?;
         self.cells = sealed(loader);
         self.task = None;
+        self.is_safe = false;
         self.gauge = Gauge::new();
         self.kept = book;
         Ok(())

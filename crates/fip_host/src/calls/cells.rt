@@ -3,7 +3,8 @@ ghost use Rattle.std.specs.Prelude.{◌≡◌, ◌≢◌, ◌+◌, ◌<◌, ◌�
 ghost use Rattle.fip_language.specs.declared.limits.TheConstants.{MOST_STORE_WORDS, MOST_FIELDS};
 ghost use Rattle.cell_store.specs.Cells.{count_live};
 ghost use Rattle.fip_host.specs.Hosting.{loading_of};
-ghost use Rattle.fip_host.specs.Telling.{IsCell, IsField, IsLast, IsMade, IsNamedBy, IsNext, IsReleased};
+ghost use Rattle.fip_host.specs.Making.{IsMade};
+ghost use Rattle.fip_host.specs.Telling.{IsCell, IsField, IsLast, IsNamedBy, IsNext, IsReleased};
 
 use super::status_of;
 use crate::answer::FipCell;

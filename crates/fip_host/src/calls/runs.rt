@@ -1,12 +1,19 @@
 // Runs.
-ghost use Rattle.std.specs.Prelude.{◌≡◌, ◌≢◌, ℕ, List, Some, None, slice_get};
-ghost use Rattle.fip_host.specs.Telling.{ReportsSize};
-ghost use Rattle.fip_host.specs.Hosting.{StepsTo, RunsOn, IsIdle, IsStarted, end_now, results_of, count_of};
-ghost use Rattle.fip_host.specs.Starting.{IsTextStarted};
+ghost use Rattle.std.specs.Prelude.{◌≡◌, ◌≢◌, ◌<◌, ◌⊎◌, ℕ, List, Some, None, slice_get};
+ghost use Rattle.std.specs.Prelude.{length};
+ghost use Rattle.fip_language.specs.Store.{Parts};
+ghost use Rattle.fip_host.specs.declared.hosted.runs.TheConstants.{MOST_TEXT_BYTES};
+ghost use Rattle.fip_host.specs.Telling.{ReportsSize, byte_count, filled};
+ghost use Rattle.fip_host.specs.Hosting.{StepsTo, RunsOn, IsIdle, IsStarted, end_now, loading_of, results_of};
+ghost use Rattle.fip_host.specs.Hosting.{count_of};
+ghost use Rattle.fip_host.specs.Statuses.{loaded_by, refusal_number};
+ghost use Rattle.fip_host.specs.Printing.{ArePrintable, printed_results};
+ghost use Rattle.fip_host.specs.Starting.{IsTextStarted, IsBadText, IsTooLarge, IsLost};
 
 use super::{fill, status_of};
 use crate::answer::{FipEnd, FipGauge, FipLoaded, Refusal};
 use crate::handle::Handle;
+use crate::hosted::runs::MOST_TEXT_BYTES;
 use fip_language::limits::MOST_FIELDS;
 use std::alloc::Global;
 
@@ -25,15 +32,16 @@ pub extern "C" fn fip_start(
 ) -> u32
     ensures code { machine.new.held.code ≡ machine.old.held.code }
     ensures kept { machine.new.held.kept ≡ machine.old.held.kept }
-    ensures starts { result ≡ 0 → IsStarted number arguments.now machine.new.held }
+    ensures starts { result ≡ 0 → IsStarted number arguments.now frames machine.old.held machine.new.held }
 {
     status_of(machine.machine().start(alloc, number, arguments, frames))
 }
 
 /// Starts a run of a function on the text of its arguments, a line each, as `fip_start` does. Status 5: the text is
 /// none of the parameters' types, and `loaded.at` is the least offset at which it can't go on; 6: its cells and the
-/// credits need more words than the store has left, and `loaded` has both numbers; the store is as it was. 10: there
-/// is no memory, and the store has no word: give it another.
+/// credits need more words than the store has left, and `loaded` has both numbers; 12: there is no such function, or
+/// the text is longer than any memory. So the store stays as it was. 10: there is no memory, and the store is without
+/// a word: give the machine another.
 #[unsafe(no_mangle)]
 pub extern "C" fn fip_start_text(
     alloc: Global,
@@ -45,22 +53,40 @@ pub extern "C" fn fip_start_text(
 ) -> u32
     ensures code { machine.new.held.code ≡ machine.old.held.code }
     ensures kept { machine.new.held.kept ≡ machine.old.held.kept }
-    ensures starts { result ≡ 0 → IsTextStarted number machine.new.held }
+    ensures starts { result ≡ 0 → IsTextStarted number text.now frames machine.old.held machine.new.held }
+    ensures bad { result ≡ 5 → IsBadText number text.now machine.old.held loaded.new.at }
+    ensures large { result ≡ 6 →
+        IsTooLarge number text.now machine.old.held loaded.new.needed loaded.new.given }
+    ensures range { result ≡ 12 → (slice_get machine.old.held.code.code.functions.items number ≡ None)
+        ⊎ (MOST_TEXT_BYTES < length text.now) }
+    ensures lost { result ≡ 10 → IsLost machine.new.held }
+    ensures same { (result ≡ 5) ⊎ (result ≡ 6) ⊎ (result ≡ 12) →
+        loading_of machine.new.held ≡ loading_of machine.old.held }
+    ensures status { (result ≡ 0) ⊎ (result ≡ 5) ⊎ (result ≡ 6) ⊎ (result ≡ 10) ⊎ (result ≡ 12) }
 {
+    if text.len() > MOST_TEXT_BYTES {
+        return 12;
+    }
     match machine.machine().start_text(alloc, number, text, frames) {
         Ok(()) => 0,
-        Err(refusal) => {
-            match refusal {
-                Refusal::BadInput { at } => loaded.at = at,
-                Refusal::TooSmall { needed, given } => {
-                    loaded.needed = needed;
-                    loaded.given = given;
-                }
-                _ => {}
-            }
-            refusal.number()
-        }
+        Err(refusal) => told(refusal, loaded),
     }
+}
+
+// The status of a text that wasn't loaded, and what is told besides.
+fn told(refusal: Refusal, loaded: &mut FipLoaded) -> u32
+    ensures is { result ≡ refusal_number refusal }
+    ensures told { loaded.new ≡ loaded_by refusal loaded.old }
+{
+    match refusal {
+        Refusal::BadInput { at } => loaded.at = at,
+        Refusal::TooSmall { needed, given } => {
+            loaded.needed = needed;
+            loaded.given = given;
+        }
+        _ => {}
+    }
+    refusal.number()
 }
 
 /// Does one instruction of the run, and reports where it is then. It takes no memory. Once the run has ended, it reports
@@ -145,6 +171,11 @@ pub extern "C" fn fip_print_results(
     length: &mut usize,
 ) -> u32
     ensures same { machine.new.held ≡ machine.old.held }
+    ensures lines { result ≡ 0 → (xs : Parts) → ArePrintable machine.old.held xs →
+        (out.new ≡ filled out.old (printed_results machine.old.held xs))
+        × (length.new ≡ byte_count (printed_results machine.old.held xs)) }
+    ensures none { result ≢ 0 → out.new ≡ out.old }
+    ensures closed { result ≡ 13 → results_of machine.old.held ≡ None }
 {
     match machine.machine().results_text(alloc) {
         Ok(text) => {

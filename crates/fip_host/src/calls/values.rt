@@ -1,9 +1,10 @@
 // Values that are kept from run to run, and their text.
-ghost use Rattle.std.specs.Prelude.{◌≡◌, ◌≢◌, Some, None, [], false, map, slice_set};
+ghost use Rattle.std.specs.Prelude.{◌≡◌, ◌≢◌, Some, None, [], false, drop, map, slice_set, take};
 ghost use Rattle.fip_language.specs.Store.{Placed, value_of, word_of};
 ghost use Rattle.fip_language.specs.PrintedText.{printed};
 ghost use Rattle.value_text.specs.Standing.{Stands};
-ghost use Rattle.fip_host.specs.Hosting.{IsStarted};
+ghost use Rattle.fip_host.specs.Hosting.{IsStarted, results_of};
+ghost use Rattle.fip_host.specs.Keeping.{HasKept, IsUsedUp};
 ghost use Rattle.fip_host.specs.Telling.{argument_word, byte_count, filled, kept_at};
 
 use super::{fill, status_of};
@@ -11,15 +12,18 @@ use crate::answer::{FipArgument, FipKept};
 use crate::handle::Handle;
 use std::alloc::Global;
 
-/// Keeps the results of a run that ended with values: how many they are, and their numbers in `numbers`. They can't be
-/// read or kept again. It takes no memory. Status 13: there are none; 12: `numbers` is too short, or too few numbers
-/// are free.
+/// Keeps the results of a run that ended with values, each under the first number that is free: how many they are, and
+/// their numbers in `numbers`. They can't be read or kept again. It takes no memory. Status 13: there are none; 12:
+/// `numbers` is too short, or too few numbers are free.
 #[unsafe(no_mangle)]
 pub extern "C" fn fip_keep(machine: &mut Handle, numbers: &mut [usize], count: &mut usize) -> u32
     ensures code { machine.new.held.code ≡ machine.old.held.code }
     ensures task { machine.new.held.task ≡ machine.old.held.task }
     ensures store { machine.new.held.store ≡ machine.old.held.store }
     ensures taken { result ≡ 0 → machine.new.held.is_open ≡ false }
+    ensures keeps { result ≡ 0 → HasKept machine.old.held machine.new.held (take count.new numbers.new) }
+    ensures rest { result ≡ 0 → drop count.new numbers.new ≡ drop count.new numbers.old }
+    ensures closed { result ≡ 13 → results_of machine.old.held ≡ None }
     ensures same { result ≢ 0 → machine.new.held ≡ machine.old.held }
 {
     match machine.machine().keep(numbers) {
@@ -67,9 +71,10 @@ pub extern "C" fn fip_forget(machine: &mut Handle, number: usize) -> u32
 }
 
 /// Starts a run of a function, as `fip_start` does, on kept values, on ints and on constructors without fields. A kept
-/// value is used up, unless its parameter is borrowed. Status 12: there is no such function, it takes another number
-/// of arguments, or nothing is kept under a number; 14: an argument is no value of its parameter's type, or one that
-/// is used up is given twice; 6: the store has no room for the credits; 10: there is no memory.
+/// value is used up, unless its parameter is borrowed; where no run starts, all stay. Status 12: there is no such
+/// function, it takes another number of arguments, or nothing is kept under a number; 14: an argument is no value of
+/// its parameter's type, or one that is used up is given twice; 6: the store has no room for the credits; 10: there is
+/// no memory.
 #[unsafe(no_mangle)]
 pub extern "C" fn fip_start_kept(
     alloc: Global,
@@ -79,8 +84,10 @@ pub extern "C" fn fip_start_kept(
     frames: u64,
 ) -> u32
     ensures code { machine.new.held.code ≡ machine.old.held.code }
-    ensures starts { result ≡ 0 → IsStarted number (map (argument_word machine.old.held.kept) arguments.now)
-        machine.new.held }
+    ensures starts { result ≡ 0 → IsStarted number (map (argument_word machine.old.held.kept) arguments.now) frames
+        machine.old.held machine.new.held }
+    ensures uses { result ≡ 0 → IsUsedUp number arguments.now machine.old.held machine.new.held }
+    ensures kept { result ≢ 0 → machine.new.held.kept ≡ machine.old.held.kept }
 {
     status_of(
         machine

@@ -4,8 +4,10 @@ ghost use Rattle.std.specs.Prelude.{length};
 ghost use Rattle.fip_language.specs.declared.limits.TheConstants.{MOST_FIELDS};
 ghost use Rattle.cell_store.specs.Cells.{cell_at, count_live};
 ghost use Rattle.fip_machine.specs.machine_cells.Small.{IsSmall};
+ghost use Rattle.cell_store.specs.Made.{loading};
 ghost use Rattle.fip_host.specs.Hosting.{loading_of};
-ghost use Rattle.fip_host.specs.Telling.{HasMore, IsNamedBy, IsCell, IsField, IsNext, IsLast, IsMade, IsReleased};
+ghost use Rattle.fip_host.specs.Making.{HasMade, IsMade};
+ghost use Rattle.fip_host.specs.Telling.{IsNamedBy, IsCell, IsField, IsNext, IsLast, IsReleased};
 ghost use Rattle.fip_host.specs.declared.answer.Refusal.{Refusal};
 ghost use Rattle.fip_host.specs.declared.answer.Refusal.TheVariants.{OutOfRange, TooSmall};
 
@@ -54,7 +56,7 @@ fn made(loader: &mut Loader, tag: u32, fields: &[u64]) -> Result<u64, Refusal>
 // Makes a cell for each of these credits, with tag and fields 0, and puts its word after the others; stops where one
 // can't be made.
 fn made_for(loader: &mut Loader, credits: &[u8], words: &mut Vec<u64>) -> Result<(), Refusal>
-    ensures words { OnOk result (HasMore words.old.items words.new.items (length credits.now)) }
+    ensures made { OnOk result (HasMade credits.now words.old.items words.new.items loader.old loader.new) }
 {
     let zeros = [0; MOST_FIELDS];
     for size in credits {
@@ -92,7 +94,8 @@ pub fn add_credits(
     requires small { IsSmall cells.old.cells }
     ensures pushed { cells.new.pushed ≡ [] }
     ensures small { IsSmall cells.new.cells }
-    ensures words { OnOk result (HasMore words.old.items words.new.items (length credits.now)) }
+    ensures made { OnOk result (HasMade credits.now words.old.items words.new.items (loading cells.old)
+        (loading cells.new)) }
 {
     if credits.is_empty() {
         return Ok(());
@@ -124,6 +127,7 @@ impl Hosted {
         ensures range { result ≡ Err OutOfRange → (length fields.now ≡ 0) ⊎ (MOST_FIELDS < length fields.now) }
         ensures same { OnErr result (loading_of self.new ≡ loading_of self.old) }
     {
+        self.is_safe = false;
         let mut loader = std::mem::replace(&mut self.cells, no_cells(alloc)).reopen();
         let outcome = made(&mut loader, tag, fields);
         self.cells = sealed(loader);
@@ -189,6 +193,7 @@ impl Hosted {
     {
         match place_of(&self.cells, word) {
             Some(place) if !self.cells.is_released(place) => {
+                self.is_safe = false;
                 self.cells.release(place);
                 Ok(())
             }

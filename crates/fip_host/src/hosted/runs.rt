@@ -1,36 +1,56 @@
 // Runs over a machine's store: starting, stepping, running to the end, and what came of them.
-ghost use Rattle.std.specs.Prelude.{◌≡◌, ◌≢◌, ◌≤◌, ◌<◌, ◌+◌, ◌*◌, ℕ, [], Some, None, Err, IfSome, IfNone, OnOk, length};
-ghost use Rattle.std.specs.Prelude.{List, option_map, slice_get};
+ghost use Rattle.std.specs.Prelude.{◌≡◌, ◌≢◌, ◌≤◌, ◌<◌, ◌+◌, ◌*◌, ℕ, [], Option, Some, None, Err, length, true};
+ghost use Rattle.std.specs.Prelude.{List, option_map, slice_get, IfSome, IfNone, IfOk, IfErr, OnOk};
+ghost use Rattle.fip_base.specs.declared.plain.Stack.{Stack as a_stack};
 ghost use Rattle.fip_language.specs.declared.limits.TheConstants.{MOST_FRAMES};
-ghost use Rattle.code_verify.specs.Checked.{Checked};
-ghost use Rattle.fip_machine.specs.Pausing.{stand_of};
+ghost use Rattle.fip_language.specs.Prefix.{IsPlace};
+ghost use Rattle.fip_language.specs.SoundTable.{IsSoundTable};
+ghost use Rattle.fip_language.specs.Values.{Values};
+ghost use Rattle.fip_language.specs.ValueText.{SpellsValues};
+ghost use Rattle.cell_code.specs.declared.code.Function.{Function as a_function};
+ghost use Rattle.cell_store.specs.Made.{Loading};
+ghost use Rattle.code_verify.specs.Checked.{Checked, HasMachineInts};
+ghost use Rattle.code_verify.specs.code_rules.Breaks.{IsSound};
+ghost use Rattle.code_verify.specs.code_rules.StackNumbers.{HasStack};
+ghost use Rattle.value_text.specs.declared.load.LoadError.TheVariants.{BadValue, Full};
+ghost use Rattle.value_text.specs.FirstStore.{IsInOrder};
+ghost use Rattle.value_text.specs.Loaded.{types_of, needed, HasNoFree, IsLoaded};
+ghost use Rattle.fip_machine.specs.Pausing.{CanResume, stand_of};
 ghost use Rattle.fip_machine.specs.Tasks.{ended_by, state_with, IsFresh};
-ghost use Rattle.fip_machine.specs.Ending.{KnowsRun, RunsTo};
+ghost use Rattle.fip_machine.specs.Ending.{KnowsRun, RunsTo, IsSafeRun};
 ghost use Rattle.fip_machine.specs.GaugeView.{IsUnseen, ReportsRun};
-ghost use Rattle.fip_machine.specs.machine_cells.Small.{IsSmall};
+ghost use Rattle.fip_machine.specs.machine_cells.Small.{IsSmall, store_of};
+ghost use Rattle.fip_machine.specs.machine_cells.machine_semantics.Cells.{IsStore, Store};
 ghost use Rattle.cell_code.specs.Plain.{plain};
 ghost use Rattle.fip_machine.specs.machine_cells.machine_semantics.States.{Typed};
 ghost use Rattle.fip_machine.specs.machine_cells.machine_semantics.Steps.{Kinds};
-ghost use Rattle.fip_host.specs.Hosting.{StepsTo, RunsOn, IsAtStart, IsStarted, IsIdle, end_now, results_of};
-ghost use Rattle.fip_host.specs.Hosting.{words_given};
-ghost use Rattle.fip_host.specs.Starting.{IsTextStarted};
+ghost use Rattle.fip_host.specs.declared.hosted.runs.TheConstants.{MOST_TEXT_BYTES};
+ghost use Rattle.fip_host.specs.Hosting.{StepsTo, RunsOn, IsAtStart, IsStarted, IsIdle, end_now, frames_of, results_of};
+ghost use Rattle.fip_host.specs.Hosting.{StandsAtStart, words_given};
+ghost use Rattle.fip_host.specs.Starting.{IsTextStarted, KeepsFromText};
 ghost use Rattle.fip_host.specs.Needing.{IsNeed, capped, largest_frame, places_bytes, store_bytes, words_held};
 ghost use Rattle.fip_host.specs.Statuses.{end_at, end_by, end_by_run};
 
 use super::cells::add_credits;
-use super::{Hosted, no_cells, sealed};
+use super::{Hosted, function_in, no_cells, sealed};
 use crate::answer::{FipEnd, FipNeed, Refusal, trap_number};
 use cell_code::Function;
+use cell_store::Loader;
 use code_verify::Verified;
-use fip_base::plain::Stack;
+use fip_base::plain::{NoMemory, Stack};
 use fip_language::limits::{MOST_FIELDS, MOST_FRAMES};
 use fip_machine::{Ended, Gauge, Machine, Paused, Stepped, TaskStack};
 use std::alloc::Global;
 use value_text::{LoadError, load_values};
 
+/// The most bytes of a text: no block of memory has more.
+pub const MOST_TEXT_BYTES: usize = 9223372036854775808;
+
 // The frames of a run: those that a fip function needs, or so many, at most 1,000,000.
 fn frames_for(verified: &Verified, number: usize, frames: u64) -> usize
     ensures few { result ≤ MOST_FRAMES }
+    ensures are { (held : Option a_stack) × HasStack (plain verified.now.code) number held
+        × (result ≡ frames_of frames held) }
 {
     match verified.code_stack(number) {
         Some(stack) => stack.frames.min(MOST_FRAMES),
@@ -101,9 +121,21 @@ fn end_of_run(ended: Ended) -> FipEnd
     }
 }
 
+// Whether a run that is safe goes on; and what is known of a verified code.
+fn is_sure(verified: &Verified, is_safe: bool, paused: &Paused) -> bool
+    ensures safe { result ≡ true → is_safe ≡ true }
+    ensures going { result ≡ true → paused.now.ended ≡ None }
+    ensures sound { IsSound (plain verified.now.code) }
+    ensures literals { HasMachineInts (plain verified.now.code) }
+{
+    let _code = verified.code();
+    is_safe && paused.ended().is_none()
+}
+
 // Runs a machine to the end. It is no part of its caller's code, so that the registers of the processor are the loop's.
 #[inline(never)]
-fn drive<'a>(machine: &mut Machine<'a>, calls: u64, gauge: &mut Gauge) -> Ended
+fn drive<'a>(machine: &mut Machine<'a>, is_safe: bool, calls: u64, gauge: &mut Gauge) -> Ended
+    requires safe { is_safe ≡ true → IsSafeRun machine.old calls }
     ensures code { machine.new.stack.code ≡ machine.old.stack.code }
     ensures run { (kinds : Kinds) (lent : List Typed) → KnowsRun machine.old.stack.code kinds
         (state_with machine.old.stack lent machine.old.store) calls → machine.old.stack.ended ≡ None →
@@ -115,7 +147,7 @@ fn drive<'a>(machine: &mut Machine<'a>, calls: u64, gauge: &mut Gauge) -> Ended
         IsSmall machine.old.store.cells → machine.old.pushed ≡ [] → ReportsRun kinds (plain machine.old.stack.code.code)
         (state_with machine.old.stack lent machine.old.store) calls gauge.new }
 {
-    machine.run(calls, gauge)
+    machine.run_sure(is_safe, calls, gauge)
 }
 
 /// The words of the results of a run that ended with values, where they are open to be read.
@@ -138,6 +170,61 @@ pub fn results_in(task: &Option<Paused>, is_open: bool) -> Option<&[u64]>
     }
 }
 
+// Loads the arguments of a function from a text, and makes a cell for each of its credits.
+fn loaded(
+    alloc: Global,
+    verified: &Verified,
+    function: &Function,
+    text: &[u8],
+    loader: Loader,
+) -> Result<(Loader, Vec<u64>), LoadError>
+    requires table { IsSoundTable verified.now.code.types }
+    requires function { (n : ℕ) × (slice_get verified.now.code.functions.items n ≡ Some function.now) }
+    requires short { length text.now ≤ MOST_TEXT_BYTES }
+    ensures few { IfOk result (λ r. length r.1.items ≤ function.now.registers) }
+    ensures loads { IfOk result (λ r. IsLoaded verified.now.code.types (types_of function.now.params)
+        function.now.credits.items text.now loader r.0 r.1.items) }
+    ensures order { HasNoFree loader → IfOk result (λ r. IsInOrder verified.now.code.types
+        (types_of function.now.params) function.now.credits.items text.now loader r.0 r.1.items) }
+    ensures place { (at : ℕ) (l : Loading) → result ≡ Err (BadValue at l) → (l ≡ loader)
+        × IsPlace (SpellsValues verified.now.code.types (types_of function.now.params)) text.now at }
+    ensures full { (n given : ℕ) (l : Loading) → result ≡ Err (Full n given l) → (l ≡ loader) × (given ≡ loader.left)
+        × (given < n) × (vs : Values) × SpellsValues verified.now.code.types (types_of function.now.params) text.now vs
+        × (n ≡ needed loader function.now.credits.items vs) }
+    ensures store { IfOk result (λ r. IsStore (store_of r.0.cells r.0.released)) }
+{
+    let params = function.params.as_slice();
+    let credits = function.credits.as_slice();
+    let types = &verified.code().types;
+    match load_values(alloc, types, params, credits, text, loader) {
+        Ok((loader, words)) => {
+            let _left = loader.left();
+            Ok((loader, words))
+        }
+        Err(error) => Err(error),
+    }
+}
+
+/// A run of a function at its start, on words that are there, in memory that is there.
+pub fn begun(
+    verified: &Verified,
+    number: usize,
+    words: Vec<u64>,
+    spare: Vec<u64>,
+    frames: u64,
+) -> Result<Paused, NoMemory>
+    requires there { number < length verified.now.code.functions.items }
+    requires few { (g : a_function) → slice_get verified.now.code.functions.items number ≡ Some g →
+        length words.items ≤ g.registers }
+    ensures can { IfOk result (CanResume verified.now) }
+    ensures starts { IfOk result (λ p. (s : Store) → StandsAtStart verified.now number words.items frames s
+        (stand_of verified.now p)) }
+{
+    let frames = frames_for(verified, number, frames);
+    let stack = TaskStack::start_in(verified, number, words, spare, frames)?;
+    Ok(stack.pause())
+}
+
 impl Hosted {
     /// Starts a run of a function on the words of its arguments, with a cell for each of its credits, and so many
     /// frames where it isn't `fip`. A run that was there is given up, and its memory serves the new one. OutOfRange
@@ -152,22 +239,20 @@ impl Hosted {
     ) -> Result<(), Refusal>
         ensures code { self.new.code ≡ self.old.code }
         ensures kept { self.new.kept ≡ self.old.kept }
-        ensures starts { OnOk result (IsStarted number arguments.now self.new) }
+        ensures starts { OnOk result (IsStarted number arguments.now frames self.old self.new) }
     {
-        let Some(function) = self.verified.code().functions.get(number) else {
+        let Some(function) = function_in(&self.verified, number) else {
             return Err(Refusal::OutOfRange);
         };
-        if arguments.len() != function.params.as_slice().len() {
+        let params = function.params.as_slice();
+        if arguments.len() != params.len() {
             return Err(Refusal::OutOfRange);
         }
+        self.is_safe = false;
         let (mut words, spare) = memory_of(alloc, self.task.take());
         words.extend_from_slice(arguments)?;
-        add_credits(
-            alloc,
-            &mut self.cells,
-            function.credits.as_slice(),
-            &mut words,
-        )?;
+        let credits = function.credits.as_slice();
+        add_credits(alloc, &mut self.cells, credits, &mut words)?;
         self.begin(number, words, spare, frames)
     }
 
@@ -180,15 +265,17 @@ impl Hosted {
         frames: u64,
     ) -> Result<(), Refusal>
         requires there { number < length self.old.code.code.functions.items }
+        requires few { (g : a_function) → slice_get self.old.code.code.functions.items number ≡ Some g →
+            length words.items ≤ g.registers }
         ensures code { self.new.code ≡ self.old.code }
         ensures store { self.new.store ≡ self.old.store }
         ensures left { self.new.left ≡ self.old.left }
         ensures kept { self.new.kept ≡ self.old.kept }
-        ensures starts { OnOk result (IsAtStart number words.items self.new) }
+        ensures starts { OnOk result (IsAtStart number words.items frames self.new) }
     {
-        let frames = frames_for(&self.verified, number, frames);
-        let stack = TaskStack::start_in(&self.verified, number, words, spare, frames)?;
-        self.task = Some(stack.pause());
+        let task = begun(&self.verified, number, words, spare, frames)?;
+        self.task = Some(task);
+        self.is_safe = false;
         self.entry = number;
         self.is_open = true;
         self.gauge = Gauge::new();
@@ -197,7 +284,8 @@ impl Hosted {
 
     /// Starts a run of a function on the text of its arguments, a line each, as `start` does. BadInput where the text
     /// is none of the parameters' types; TooSmall where its cells and the credits need more words than the store has
-    /// left; both leave the store as it was. NoMemory, after which the store has no word.
+    /// left; OutOfRange where no function has the number; these leave the store as it was. NoMemory, after which the
+    /// store has no word.
     pub fn start_text(
         &mut self,
         alloc: Global,
@@ -205,22 +293,30 @@ impl Hosted {
         text: &[u8],
         frames: u64,
     ) -> Result<(), Refusal>
+        requires short { length text.now ≤ MOST_TEXT_BYTES }
         ensures code { self.new.code ≡ self.old.code }
         ensures kept { self.new.kept ≡ self.old.kept }
-        ensures starts { OnOk result (IsTextStarted number self.new) }
+        ensures starts { OnOk result (IsTextStarted number text.now frames self.old self.new) }
+        ensures keeps { IfErr result (KeepsFromText number text.now self.old self.new) }
     {
-        let Some(function) = self.verified.code().functions.get(number) else {
+        let Some(function) = function_in(&self.verified, number) else {
             return Err(Refusal::OutOfRange);
         };
-        let types = &self.verified.code().types;
-        let params = function.params.as_slice();
-        let credits = function.credits.as_slice();
+        self.is_safe = false;
         let (_, spare) = memory_of(alloc, self.task.take());
         let loader = std::mem::replace(&mut self.cells, no_cells(alloc)).reopen();
-        match load_values(alloc, types, params, credits, text, loader) {
+        match loaded(alloc, &self.verified, function, text, loader) {
             Ok((loader, words)) => {
+                let Ok(task) = begun(&self.verified, number, words, spare, frames) else {
+                    return Err(Refusal::NoMemory);
+                };
                 self.cells = sealed(loader);
-                self.begin(number, words, spare, frames)
+                self.task = Some(task);
+                self.is_safe = true;
+                self.entry = number;
+                self.is_open = true;
+                self.gauge = Gauge::new();
+                Ok(())
             }
             Err(LoadError::BadValue { at, loader }) => {
                 self.cells = sealed(loader);
@@ -229,15 +325,12 @@ impl Hosted {
             Err(
                 LoadError::Full {
                     needed,
-                    words,
+                    words: given,
                     loader,
                 },
             ) => {
                 self.cells = sealed(loader);
-                Err(Refusal::TooSmall {
-                    needed,
-                    given: words,
-                })
+                Err(Refusal::TooSmall { needed, given })
             }
             Err(LoadError::NoMemory) => Err(Refusal::NoMemory),
         }
@@ -253,6 +346,7 @@ impl Hosted {
         match self.task.take() {
             Some(paused) => {
                 let mut stack = paused.resume(&self.verified);
+                self.is_safe = false;
                 let stepped = stack.step(&mut self.cells);
                 self.task = Some(stack.pause());
                 end_of(ended_by(stepped))
@@ -271,9 +365,11 @@ impl Hosted {
     {
         match self.task.take() {
             Some(paused) => {
+                let is_safe = is_sure(&self.verified, self.is_safe, &paused);
                 let cells = std::mem::replace(&mut self.cells, no_cells(alloc));
                 let mut machine = Machine::of(paused.resume(&self.verified), cells);
-                let ended = drive(&mut machine, calls, &mut self.gauge);
+                let ended = drive(&mut machine, is_safe, calls, &mut self.gauge);
+                self.is_safe = is_safe;
                 let (stack, cells) = machine.into_parts();
                 self.cells = sealed(cells.reopen());
                 self.task = Some(stack.pause());

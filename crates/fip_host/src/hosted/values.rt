@@ -1,22 +1,27 @@
 // Values that a machine keeps between runs, by number, and printing.
-ghost use Rattle.std.specs.Prelude.{◌≡◌, ◌≢◌, ◌<◌, ◌≤◌, ◌++◌, None, Some, IfOk, IfSome, IfNone, OnOk, OnErr, Err};
-ghost use Rattle.std.specs.Prelude.{false, [], length, map};
+ghost use Rattle.std.specs.Prelude.{◌≡◌, ◌≢◌, ◌≤◌, ◌++◌, None, Some, IfOk, IfSome, IfNone, OnOk, OnErr, Err};
+ghost use Rattle.std.specs.Prelude.{false, [], length, map, take, drop};
 ghost use Rattle.std.specs.Prelude.{slice_get, slice_set};
-ghost use Rattle.fip_language.specs.Store.{Placed, value_of, word_of};
-ghost use Rattle.fip_language.specs.PrintedText.{printed};
-ghost use Rattle.value_text.specs.Standing.{Stands};
-ghost use Rattle.fip_host.specs.Hosting.{IsStarted};
+ghost use Rattle.fip_language.specs.Store.{Parts, Placed, value_of, values_of, word_of, words_of};
+ghost use Rattle.fip_language.specs.PrintedText.{printed, printed_lines};
+ghost use Rattle.value_text.specs.Standing.{Stands, StandAll};
+ghost use Rattle.fip_machine.specs.machine_cells.Small.{IsSmall};
+ghost use Rattle.fip_host.specs.Hosting.{IsStarted, results_of};
+ghost use Rattle.fip_host.specs.Keeping.{ArePut, HasKept, IsUsedUp, count_free, typed_words, used_by, used_up};
+ghost use Rattle.fip_host.specs.Printing.{ArePrintable, printed_results};
 ghost use Rattle.fip_host.specs.Telling.{kept_at, argument_word};
 ghost use Rattle.fip_host.specs.declared.answer.FipArgument.{FipArgument as an_argument};
 ghost use Rattle.fip_host.specs.declared.answer.Refusal.{Refusal};
-ghost use Rattle.fip_host.specs.declared.answer.Refusal.TheVariants.{OutOfRange};
+ghost use Rattle.fip_host.specs.declared.answer.Refusal.TheVariants.{NotReady, OutOfRange};
 
 use super::cells::add_credits;
-use super::runs::{memory_of, results_in};
-use super::{Hosted, Kept};
+use super::runs::{begun, memory_of, results_in};
+use super::{Hosted, Kept, function_in};
 use crate::answer::{FipArgument, Refusal};
+use cell_store::Sealed;
 use fip_base::plain::{NoMemory, Param};
 use fip_base::table::TypeTable;
+use fip_machine::Gauge;
 use machine_cells::{SIZES, release_tree};
 use std::alloc::Global;
 use value_text::{print_after, print_value};
@@ -118,16 +123,24 @@ fn add_words(
 }
 
 // How many numbers are free.
-fn free_numbers(kept: &[Option<Kept>]) -> usize {
-    kept.iter().filter(|slot| slot.is_none()).count()
+fn free_numbers(kept: &[Option<Kept>]) -> usize
+    ensures is { result ≡ count_free kept.now }
+{
+    let mut free = 0usize;
+    for slot in kept {
+        if slot.is_none() {
+            free += 1;
+        }
+    }
+    free
 }
 
 // Keeps a value under the first free number.
 fn put(kept: &mut [Option<Kept>], value: Kept) -> Option<usize>
-    ensures some { IfSome result (λ n. n < length kept.old) }
-    ensures free { IfSome result (λ n. kept_at kept.old n ≡ None) }
+    ensures free { IfSome result (λ n. slice_get kept.old n ≡ Some None) }
     ensures put { IfSome result (λ n. kept.new ≡ slice_set kept.old n (Some value)) }
-    ensures none { IfNone result (kept.new ≡ kept.old) }
+    ensures none { IfNone result (count_free kept.old ≡ 0) }
+    ensures same { IfNone result (kept.new ≡ kept.old) }
 {
     for number in 0..kept.len() {
         if kept[number].is_none() {
@@ -151,12 +164,21 @@ fn can_take(
     Ok(())
 }
 
+// Nothing is kept from now on under the number of an argument that is used up.
+fn use_one(kept: &mut [Option<Kept>], param: &Param, argument: &FipArgument)
+    ensures is { kept.new ≡ used_by param.now argument.now kept.old }
+{
+    if argument.kept && !param.lent {
+        forget_number(kept, argument.value);
+    }
+}
+
 // Nothing is kept from now on under the numbers of the arguments that are used up.
-fn use_up(kept: &mut [Option<Kept>], params: &[Param], arguments: &[FipArgument]) {
+fn use_up(kept: &mut [Option<Kept>], params: &[Param], arguments: &[FipArgument])
+    ensures is { kept.new ≡ used_up params.now arguments.now kept.old }
+{
     for (param, argument) in params.iter().zip(arguments.iter()) {
-        if argument.kept && !param.lent {
-            forget_number(kept, argument.value);
-        }
+        use_one(kept, param, argument);
     }
 }
 
@@ -171,23 +193,46 @@ fn put_all(
     requires types { count ≤ length types.now }
     requires words { count ≤ length words.now }
     requires numbers { count ≤ length numbers.old }
+    requires free { count ≤ count_free kept.old }
+    ensures put { ArePut (take count (typed_words types.now words.now)) (take count numbers.new) kept.old kept.new }
+    ensures rest { drop count numbers.new ≡ drop count numbers.old }
 {
     for i in 0..count {
         let value = Kept {
             ty: types[i],
             word: words[i],
         };
-        if let Some(free) = put(kept, value) {
-            numbers[i] = free;
+        match put(kept, value) {
+            Some(free) => numbers[i] = free,
+            None => {}
         }
     }
 }
 
+// The lines of the values of these types that words stand for.
+fn lines_text(
+    alloc: Global,
+    table: &TypeTable,
+    cells: &Sealed,
+    types: &[u32],
+    words: &[u64],
+) -> Result<Vec<u8>, NoMemory>
+    ensures lines { (xs : Parts) → IsSmall cells.now.cells → StandAll table.now cells.now.cells types.now xs →
+        words.now ≡ words_of xs → IfOk result (λ text. text.items ≡ printed_lines table.now types.now (values_of xs)) }
+{
+    let mut text = Vec::new(alloc);
+    for (ty, word) in types.iter().zip(words.iter()) {
+        text = print_after(alloc, table, cells, *ty, *word, text)?;
+        text.push(b'\n')?;
+    }
+    Ok(text)
+}
+
 impl Hosted {
     /// Starts a run of a function, as `start` does, on values that were kept, on ints and on constructors without
-    /// fields. A kept value is used up, unless the parameter is borrowed. WrongValue where an argument is no value of
-    /// its parameter's type, or a kept value that is used up is given twice; OutOfRange where nothing is kept under a
-    /// number.
+    /// fields. A kept value is used up, unless the parameter is borrowed; where no run starts, all stay. WrongValue
+    /// where an argument is no value of its parameter's type, or a kept value that is used up is given twice;
+    /// OutOfRange where nothing is kept under a number.
     pub fn start_kept(
         &mut self,
         alloc: Global,
@@ -196,9 +241,12 @@ impl Hosted {
         frames: u64,
     ) -> Result<(), Refusal>
         ensures code { self.new.code ≡ self.old.code }
-        ensures starts { OnOk result (IsStarted number (map (argument_word self.old.kept) arguments.now) self.new) }
+        ensures starts { OnOk result (IsStarted number (map (argument_word self.old.kept) arguments.now) frames self.old
+            self.new) }
+        ensures uses { OnOk result (IsUsedUp number arguments.now self.old self.new) }
+        ensures kept { OnErr result (self.new.kept ≡ self.old.kept) }
     {
-        let Some(function) = self.verified.code().functions.get(number) else {
+        let Some(function) = function_in(&self.verified, number) else {
             return Err(Refusal::OutOfRange);
         };
         let params = function.params.as_slice();
@@ -208,13 +256,19 @@ impl Hosted {
         let types = &self.verified.code().types;
         let kept = self.kept.as_slice();
         can_take(types, kept, params, arguments)?;
+        self.is_safe = false;
         let (mut words, spare) = memory_of(alloc, self.task.take());
         words.reserve(arguments.len())?;
         add_words(types, kept, params, arguments, &mut words)?;
         let credits = function.credits.as_slice();
         add_credits(alloc, &mut self.cells, credits, &mut words)?;
+        let task = begun(&self.verified, number, words, spare, frames)?;
         use_up(self.kept.as_mut_slice(), params, arguments);
-        self.begin(number, words, spare, frames)
+        self.task = Some(task);
+        self.entry = number;
+        self.is_open = true;
+        self.gauge = Gauge::new();
+        Ok(())
     }
 
     /// Keeps the results of a run that ended with values, and answers how many they are; their numbers are put into
@@ -225,17 +279,21 @@ impl Hosted {
         ensures task { self.new.task ≡ self.old.task }
         ensures store { self.new.store ≡ self.old.store }
         ensures taken { OnOk result (self.new.is_open ≡ false) }
+        ensures keeps { IfOk result (λ n. HasKept self.old self.new (take n numbers.new)) }
+        ensures rest { IfOk result (λ n. drop n numbers.new ≡ drop n numbers.old) }
+        ensures ready { result ≡ Err NotReady → results_of self.old ≡ None }
         ensures same { OnErr result (self.new ≡ self.old) }
     {
-        let (Some(words), Some(function)) = (
-            results_in(&self.task, self.is_open),
-            self.verified.code().functions.get(self.entry),
-        ) else {
+        let Some(words) = results_in(&self.task, self.is_open) else {
             return Err(Refusal::NotReady);
+        };
+        let Some(function) = function_in(&self.verified, self.entry) else {
+            return Err(Refusal::OutOfRange);
         };
         let types = function.results.as_slice();
         let count = words.len().min(types.len());
-        if numbers.len() < count || free_numbers(self.kept.as_slice()) < count {
+        let free = free_numbers(self.kept.as_slice());
+        if numbers.len() < count || free < count {
             return Err(Refusal::OutOfRange);
         }
         put_all(self.kept.as_mut_slice(), types, words, numbers, count);
@@ -265,6 +323,7 @@ impl Hosted {
         };
         let mut freed = [0; SIZES];
         let types = &self.verified.code().types;
+        self.is_safe = false;
         release_tree(types, &mut self.cells, &mut freed, value.ty, value.word);
         forget_number(self.kept.as_mut_slice(), number as u64);
         Ok(())
@@ -280,19 +339,19 @@ impl Hosted {
     }
 
     /// The lines of the results; NotReady where there are none.
-    pub fn results_text(&self, alloc: Global) -> Result<Vec<u8>, Refusal> {
-        let (Some(words), Some(function)) = (
-            results_in(&self.task, self.is_open),
-            self.verified.code().functions.get(self.entry),
-        ) else {
+    pub fn results_text(&self, alloc: Global) -> Result<Vec<u8>, Refusal>
+        ensures lines { (xs : Parts) → ArePrintable self.now xs →
+            IfOk result (λ text. text.items ≡ printed_results self.now xs) }
+        ensures ready { result ≡ Err NotReady → results_of self.now ≡ None }
+    {
+        let Some(words) = results_in(&self.task, self.is_open) else {
             return Err(Refusal::NotReady);
         };
+        let Some(function) = function_in(&self.verified, self.entry) else {
+            return Err(Refusal::OutOfRange);
+        };
         let types = &self.verified.code().types;
-        let mut text = Vec::new(alloc);
-        for (ty, word) in function.results.as_slice().iter().zip(words.iter()) {
-            text = print_after(alloc, types, &self.cells, *ty, *word, text)?;
-            text.push(b'\n')?;
-        }
-        Ok(text)
+        let results = function.results.as_slice();
+        Ok(lines_text(alloc, types, &self.cells, results, words)?)
     }
 }

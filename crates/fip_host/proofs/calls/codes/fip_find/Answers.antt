@@ -1,4 +1,4 @@
-use Rattle.std.proofs.Common.{◌≡◌, ◌∙◌, ℕ, refl, sym, ap, subst}
+use Rattle.std.proofs.Common.{◌≡◌, ◌∙◌, refl, sym, ap, subst}
 use Rattle.cell_code.specs.Naming.{IsNamed}
 use Rattle.cell_code.specs.declared.code.Code.{Code}
 use Rattle.code_verify.specs.Checked.{Checked}

@@ -1,4 +1,4 @@
-use Rattle.std.proofs.Common.{◌≡◌, ◌∙◌, ℕ, ◌+◌, ◌*◌, ap, subst}
+use Rattle.std.proofs.Common.{◌≡◌, ◌∙◌, ◌+◌, ◌*◌, ap, subst}
 use Rattle.cell_code.specs.declared.code.Code.{Code}
 use Rattle.code_verify.specs.Checked.{Checked}
 use Rattle.cell_code.specs.Plain.{plain}

@@ -1,21 +1,37 @@
-use Rattle.std.proofs.Common.{◌≡◌, ◌∙◌, ◌++◌, ℕ, List, Some, refl, ap, subst, slice_get, length}
-use Rattle.std.proofs.lemmas.Option.{slice_get_read}
-use Rattle.cell_code.specs.declared.code.Code.{Code}
-use Rattle.cell_code.specs.declared.code.Function.{Function}
-use Rattle.fip_host.specs.Hosting.{IsAtStart, IsStarted}
-use Rattle.fip_host.specs.Telling.{HasMore}
-use Rattle.fip_host.proofs.Beginning.{on_ok, started}
+use Rattle.std.proofs.Common.{◌≡◌, ◌∙◌, ◌++◌, ℕ, List, sym, ap, subst, length}
+use Rattle.std.proofs.lemmas.Option.{slice_get_within}
+use Rattle.cell_store.specs.Made.{loading}
+use Rattle.fip_host.specs.Hosting.{Seen, IsAtStart, IsStarted, loading_of}
+use Rattle.fip_host.specs.Making.{HasMade}
+use Rattle.fip_host.proofs.Beginning.{on_ok, few_words, same_loading, started}
 use Rattle.fip_host.proofs.hosted.Hosted.start.Goals as goal
+
+pub begin-requires : goal.begin-requires
+begin-requires c =
+    let v = c.self.inside.verified in
+    let n = c.args.number in
+    let words = c.args.arguments.now in
+    let function = c.in-Some.function.now in
+    let at = c.in-Some.ensures.some in
+    let same : c.extend_from_slice.new.self.items ≡ words = c.in_ok-extend_from_slice.ensures.items ∙ ap (λ (xs : List ℕ). xs ++ words) c.memory_of-words.ensures.none in
+    let made = subst (λ (ks : List ℕ). HasMade ks c.extend_from_slice.new.self.items c.add_credits.new.words.items (loading c.self.inside.cells) (loading c.add_credits.new.cells)) c.as_slice-credits.ensures.value c.in_ok-add_credits.ensures.made in
+    let as_many : length words ≡ length function.params = c.if-arguments-params.false ∙ ap length c.as_slice-params.ensures.same in
+    record {
+      there = slice_get_within v.code.functions.items n function at;
+      few = λ g here. few_words v.code n function g words c.extend_from_slice.new.self.items c.add_credits.new.words.items (loading c.self.inside.cells) (loading c.add_credits.new.cells) c.in-Some.ensures.sound at here as_many same made;
+    }
 
 pub returns-clause-starts : goal.returns-clause-starts
 returns-clause-starts c =
+    let v = c.self.inside.verified in
+    let n = c.args.number in
     let words = c.args.arguments.now in
     let all = c.add_credits.new.words.items in
+    let old = c.args.self.now in
     let m = c.begin.new.self in
+    let k = c.add_credits.new.cells in
     let function = c.in-Some.function.now in
-    let read = slice_get_read c.deref.result.now _ c.args.number function refl c.in-Some.ensures.lookup.3.0 c.in-Some.ensures.lookup.1 in
-    let listed = subst (λ (xs : List Function). slice_get xs c.args.number ≡ Some function) c.deref.ensures.value read in
-    let at = subst (λ (k : Code). slice_get k.functions.items c.args.number ≡ Some function) c.code.ensures.same listed in
     let same : c.extend_from_slice.new.self.items ≡ words = c.in_ok-extend_from_slice.ensures.items ∙ ap (λ (xs : List ℕ). xs ++ words) c.memory_of-words.ensures.none in
-    let more = subst (λ (xs : List ℕ). HasMore c.extend_from_slice.new.self.items all (length xs)) c.as_slice-2.ensures.value c.in_ok-add_credits.ensures.words in
-    on_ok c.begin.result (IsAtStart c.args.number all m) (IsStarted c.args.number words m) (started c.self.inside.verified c.args.number function words c.extend_from_slice.new.self.items all m at c.begin.ensures.code same more) c.begin.ensures.starts
+    let made = subst (λ (ks : List ℕ). HasMade ks c.extend_from_slice.new.self.items all (loading c.self.inside.cells) (loading k)) c.as_slice-credits.ensures.value c.in_ok-add_credits.ensures.made in
+    let after : loading k ≡ loading_of m = same_loading _ _ _ _ (sym c.begin.ensures.store) (sym c.begin.ensures.left) in
+    on_ok c.begin.result (IsAtStart n all c.args.frames m) (IsStarted n words c.args.frames old m) (started v n c.args.frames function words c.extend_from_slice.new.self.items all old m (loading c.self.inside.cells) (loading k) c.in-Some.ensures.some (ap (λ (x : Seen). x.code) c.self.view_is) same made (ap loading_of c.self.view_is) after) c.begin.ensures.starts

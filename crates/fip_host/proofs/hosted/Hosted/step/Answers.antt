@@ -1,10 +1,9 @@
-use Rattle.std.proofs.Common.{◌≡◌, ◌∙◌, [], Option, Some, None, refl, sym, ap, subst}
+use Rattle.std.proofs.Common.{◌≡◌, ◌∙◌, Option, Some, refl, sym, ap, subst}
 use Rattle.std.specs.Prelude.{option_map, IfSome}
 use Rattle.fip_machine.specs.machine_cells.machine_semantics.Cells.{Store}
 use Rattle.fip_machine.specs.machine_cells.Small.{store_of}
 use Rattle.fip_machine.specs.declared.stack.paused.Paused.{Paused}
 use Rattle.fip_machine.specs.Pausing.{CanResume, stand_of}
-use Rattle.fip_machine.specs.Tasks.{ended_by}
 use Rattle.fip_host.specs.Hosting.{Seen}
 use Rattle.fip_host.specs.Statuses.{end_by}
 use Rattle.fip_host.proofs.Stepping.{resumed, stands, has_stepped, Steps, Stays}
@@ -22,6 +21,7 @@ invariant_of-self c = record {
   resumes = resumed c.self.inside.verified c.in-Some.paused c.pause.result c.resume-stack.result c.step-stepped.new.self c.resume-stack.ensures.same c.step-stepped.ensures.code c.pause.ensures.can;
   empty = c.step-stepped.ensures.pushed c.self.invariant.empty;
   small = c.step-stepped.ensures.small c.self.invariant.small;
+  safe = tt;
 }
 
 pub returns-in-Some-clause-steps : goal.returns-in-Some-clause-steps

@@ -132,7 +132,26 @@ fn is_sure(verified: &Verified, is_safe: bool, paused: &Paused) -> bool
     is_safe && paused.ended().is_none()
 }
 
-// Runs a machine to the end. It is no part of its caller's code, so that the registers of the processor are the loop's.
+// Runs a machine whose run is safe to the end. It is no part of its caller's code, so that the registers of the processor
+// are the loop's.
+#[inline(never)]
+fn drive_sure<'a>(machine: &mut Machine<'a>, calls: u64, gauge: &mut Gauge) -> Ended
+    requires safe { IsSafeRun machine.old calls }
+    ensures code { machine.new.stack.code ≡ machine.old.stack.code }
+    ensures run { (kinds : Kinds) (lent : List Typed) → KnowsRun machine.old.stack.code kinds
+        (state_with machine.old.stack lent machine.old.store) calls → machine.old.stack.ended ≡ None →
+        IsSmall machine.old.store.cells → machine.old.pushed ≡ [] → RunsTo kinds (plain machine.old.stack.code.code)
+        (state_with machine.old.stack lent machine.old.store) calls result
+        (state_with machine.new.stack lent machine.new.store) machine.new.stack.given }
+    ensures gauge { IsUnseen gauge.old → (kinds : Kinds) (lent : List Typed) → KnowsRun machine.old.stack.code kinds
+        (state_with machine.old.stack lent machine.old.store) calls → IsFresh machine.old.stack →
+        IsSmall machine.old.store.cells → machine.old.pushed ≡ [] → ReportsRun kinds (plain machine.old.stack.code.code)
+        (state_with machine.old.stack lent machine.old.store) calls gauge.new }
+{
+    machine.run_sure(true, calls, gauge)
+}
+
+// Runs a machine to the end.
 #[inline(never)]
 fn drive<'a>(machine: &mut Machine<'a>, is_safe: bool, calls: u64, gauge: &mut Gauge) -> Ended
     requires safe { is_safe ≡ true → IsSafeRun machine.old calls }
@@ -147,7 +166,11 @@ fn drive<'a>(machine: &mut Machine<'a>, is_safe: bool, calls: u64, gauge: &mut G
         IsSmall machine.old.store.cells → machine.old.pushed ≡ [] → ReportsRun kinds (plain machine.old.stack.code.code)
         (state_with machine.old.stack lent machine.old.store) calls gauge.new }
 {
-    machine.run_sure(is_safe, calls, gauge)
+    if is_safe {
+        drive_sure(machine, calls, gauge)
+    } else {
+        machine.run(calls, gauge)
+    }
 }
 
 /// The words of the results of a run that ended with values, where they are open to be read.

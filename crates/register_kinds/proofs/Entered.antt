@@ -8,7 +8,7 @@ use Rattle.kind_domain.specs.cell_code.declared.kind.Kind.{Kind}
 use Rattle.kind_domain.specs.cell_code.declared.kind.Kind.TheVariants.{Gone, Scalar, Owned, Lent, Credit}
 use Rattle.kind_domain.specs.cell_code.Plain.{LabelMap, PlainFunction}
 use Rattle.kind_domain.specs.code_rules.Types.{all, count, is_scalar_type}
-use Rattle.kind_domain.specs.code_rules.Kinds.{at, set_of, from_of, is_lent_of}
+use Rattle.kind_domain.specs.code_rules.Kinds.{at, set_of, from_of, is_gone, is_lent_of}
 use Rattle.kind_domain.specs.code_rules.Entry.{entry, gones, param_kind}
 use Rattle.kind_domain.specs.code_rules.Headers.{is_formed, are_good_maps, are_good_kinds, is_good_kind, is_set, are_rising}
 use Rattle.kind_domain.specs.code_rules.Headers.{are_params, are_sizes, are_types}
@@ -31,6 +31,7 @@ use Rattle.register_kinds.proofs.Keeps.{unled}
 use Rattle.kind_domain.proofs.Subsets.{numbers_rise}
 use Rattle.kind_domain.proofs.fip_language.Facts.{both_left as and_left, both_right as and_right, less_or_not as below_or, same_number}
 use Rattle.kind_domain.proofs.AskedMaps.{some_map as some_is}
+use Rattle.kind_domain.proofs.Places.{set_same}
 
 -- lists that grow or are replaced
 
@@ -38,6 +39,16 @@ pub gones_step : (ks : List Known) (n i : ℕ) → i < n →
     kinds_of (ks ++ N.Gone ∷ []) ++ gones (n - (i + 1)) ≡ kinds_of ks ++ gones (n - i)
 gones_step [] n i h = let e : suc (n - (i + 1)) ≡ n - i = (omega arith) in ap gones e
 gones_step (k ∷ ks) n i h = ap (λ r. kind_of k ∷ r) (gones_step ks n i h)
+
+gone_is : (k : Kind) → is_gone k ≡ true → k ≡ Gone
+gone_is Gone h = refl
+gone_is (Scalar t) h = absurd (cc)
+gone_is (Owned t s) h = absurd (cc)
+gone_is (Lent t s root from) h = absurd (cc)
+gone_is (Credit k) h = absurd (cc)
+
+pub set_gone : (ks : List Kind) (r : ℕ) (k : Kind) → is_gone k ≡ true → is_gone (at ks r) ≡ true → ks ≡ set ks r k
+set_gone ks r k h g = sym (set_same ks r) ∙ ap (λ k. set ks r k) (gone_is (at ks r) g ∙ sym (gone_is k h))
 
 pub set_next : (ms ks : List Kind) (i : ℕ) (k d : Kind) → i < length ms → length ms ≡ length ks →
     k ≡ get_or ms i d → set (take i ms ++ drop i ks) i k ≡ take (i + 1) ms ++ drop (i + 1) ks

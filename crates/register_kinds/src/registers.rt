@@ -123,11 +123,25 @@ impl<'a> Registers<'a> {
         self.sets.start();
         let mut register = 0u16;
         for kind in kinds {
-            let origin = Origin { label, register };
-            self.change(register, Known::of(kind), Some(origin));
+            self.adopt_one(label, register, Known::of(kind));
             register += 1;
         }
         self.find_held(held);
+    }
+
+    // What a label map says of one register holds. Most registers are Gone in both, and take no work then.
+    fn adopt_one(&mut self, label: usize, register: u16, known: Known<'a>)
+        requires rises { Rise (set_of (kind_of known)) }
+        requires origin { set_of (kind_of known)
+            ≡ set_at self.now.maps (record { label = label; register = register }) }
+        ensures kinds { self.new.kinds ≡ set self.old.kinds register (kind_of known.entry) }
+        ensures maps { self.new.maps ≡ self.old.maps }
+    {
+        if known.is_gone() && self.known(register).is_gone() {
+            return;
+        }
+        let origin = Origin { label, register };
+        self.change(register, known, Some(origin));
     }
 }
 

@@ -325,6 +325,14 @@ fn longest_front(constructors: &[Constructor], text: &[u8]) -> usize
     longest
 }
 
+// Whether four bytes are alike, compared at once.
+#[inline(always)]
+fn four_alike(text: [u8; 4], other: [u8; 4]) -> bool
+    ensures { IsTrue result → text ≡ other }
+{
+    u32::from_le_bytes(text) == u32::from_le_bytes(other)
+}
+
 // Whether two texts of the same length are alike.
 #[inline(always)]
 fn alike(text: &[u8], other: &[u8]) -> bool
@@ -333,7 +341,7 @@ fn alike(text: &[u8], other: &[u8]) -> bool
 {
     match text {
         [a, b, c, d] => match other {
-            [x, y, z, w] => *a == *x && *b == *y && *c == *z && *d == *w,
+            [x, y, z, w] => four_alike([*a, *b, *c, *d], [*x, *y, *z, *w]),
             _ => false,
         },
         [a, b, c] => match other {
@@ -372,14 +380,12 @@ fn stands(name: &[u8], bytes: &[u8], at: usize) -> bool
     if size == 0 || size > bytes.len() - at {
         return false;
     }
-    if name[0] != bytes[at] {
-        return false;
-    }
     let end = at + size;
     alike(name, &bytes[at..end]) && (end == bytes.len() || !name_byte(bytes[end]))
 }
 
-// The constructor whose name stands at a place, and the place after the name.
+// The constructor whose name stands at a place, and the place after the name. The last one is tried first: a list has
+// more cells than ends.
 #[inline(always)]
 fn constructor_here(constructors: &[Constructor], bytes: &[u8], at: usize) -> Option<(usize, usize)>
     requires { at ≤ length bytes.now }
@@ -388,7 +394,7 @@ fn constructor_here(constructors: &[Constructor], bytes: &[u8], at: usize) -> Op
     ensures following { IfSome result (λ r. r.1 < length bytes.now →
         is_name_byte (slice_index_or bytes.now r.1 0) ≡ false) }
 {
-    for i in 0..constructors.len() {
+    for i in (0..constructors.len()).rev() {
         let name = constructors[i].name();
         if stands(name, bytes, at) {
             return Some((i, at + name.len()));

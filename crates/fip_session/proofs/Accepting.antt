@@ -1,6 +1,9 @@
 -- The arguments of a call, one after another: what is right or wrong of the rest is so of all.
-use Rattle.std.proofs.Common.{◌≡◌, ◌∙◌, ℕ, zero, suc, ◌+◌, ◌<◌, ◌≤◌, Bool, true, false, List, [], ◌∷◌, ◌++◌, length, map, drop, get_or, Option, Some, None, if◌then◌else◌, append-nil, append_assoc, refl, sym, ap, subst, arith}
+use Rattle.std.proofs.Common.{◌≡◌, ◌∙◌, ℕ, zero, suc, ◌+◌, ◌<◌, ◌≤◌, Bool, true, false, List, [], ◌∷◌, ◌++◌, length, map, drop, get_or, Option, Some, None, if◌then◌else◌, append-nil, append_assoc, refl, sym, ap, subst, arith, ◌⊎◌, inl, inr}
+use Rattle.std.specs.BTreeMap.{BTreeMap}
 use Rattle.std.specs.Prelude.{slice_get}
+use Rattle.std.specs.declared.alloc.Global.{Global}
+use Rattle.std.specs.declared.vec.Vec.{Vec}
 use Rattle.std.proofs.lemmas.Option.{none-some, same_Some}
 use Rattle.fip_base.specs.declared.plain.Param.{Param}
 use Rattle.fip_language.specs.Core.{Name}
@@ -15,7 +18,8 @@ use Rattle.value_text.specs.Loaded.{types_of}
 use Rattle.value_text.specs.Machine.{join, snoc}
 use Rattle.session_values.specs.Read.{Adds}
 use Rattle.session_values.proofs.OneValue.{adds_none, adds_both, join_end, join_snoc}
-use Rattle.fip_session.specs.Planned.{CanTake, CanTakeAll, TakesIn, TakesAll, IsRefused, names_given, names_used}
+use Rattle.fip_session.specs.Planned.{CanTake, CanTakeAll, TakesIn, TakesAll, IsRefused, IsHeld, AreHeldTo, AreHeld, names_given, names_used}
+use Rattle.fip_session.specs.declared.book.Held.{Held as Holds}
 use Rattle.fip_session.specs.declared.plan.Arguments.{Arguments}
 
 -- ---- what is given at a place
@@ -126,3 +130,31 @@ all_taken tb held qs gs first now i le same l =
     let a : drop i qs ≡ [] = none_left i qs le in
     let b : drop i gs ≡ [] = none_left i gs (omega (arith, le, same)) in
     ends tb held qs gs first now i (subst (λ xs. Leads tb held qs gs first now [] xs i) b (subst (λ xs. Leads tb held qs gs first now xs (drop i gs) i) a l))
+
+-- ---- the names that are written
+
+abbrev Bound : Type 0
+Bound = BTreeMap (Vec ℕ Global) Holds
+
+less_or_same : (j i : ℕ) → j < suc i → (j < i) ⊎ (j ≡ i)
+less_or_same zero zero lt = inr refl
+less_or_same zero (suc i) lt = inl (omega arith)
+less_or_same (suc j) zero lt = absurd (omega (arith, lt))
+less_or_same (suc j) (suc i) lt = by (less_or_same j i (omega (arith, lt)))
+  where
+    by : (j < i) ⊎ (j ≡ i) → (suc j < suc i) ⊎ (suc j ≡ suc i)
+    by (inl less) = inl (omega (arith, less))
+    by (inr same) = inr (ap suc same)
+
+pub one_more_held : (held : Bound) (as' : List Argument) (i : ℕ) (a : Argument) → slice_get as' i ≡ Some a → AreHeldTo i held as' → IsHeld held a → AreHeldTo (i + 1) held as'
+one_more_held held as' i a at first last j b lt is = both (less_or_same j i (omega (arith, lt)))
+  where
+    both : (j < i) ⊎ (j ≡ i) → IsHeld held b
+    both (inl less) = first j b less is
+    both (inr same) = subst (IsHeld held) (same_Some a b (sym at ∙ ap (slice_get as') (sym same) ∙ is)) last
+
+pub first_held : (held : Bound) (a : Argument) (as' : List Argument) → AreHeld held (a ∷ as') → IsHeld held a
+first_held held a as' h = h 0 a (omega arith) refl
+
+pub others_held : (held : Bound) (a : Argument) (as' : List Argument) → AreHeld held (a ∷ as') → AreHeld held as'
+others_held held a as' h = λ j b lt is. h (suc j) b (omega (arith, lt)) is

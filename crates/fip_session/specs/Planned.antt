@@ -1,7 +1,7 @@
 -- For private contracts alone: what of a call's arguments is noted, against what a session holds.
 --
 -- Where a holds Cons(1, Nil), `b = rev(a, Cons(2, Nil))` notes that a is given and used up, and one cell of size 2.
-use Rattle.std.specs.Prelude.{◌≡◌, ℕ, suc, ◌+◌, ◌<◌, ◌≤◌, ◌^◌, slice_index_or, List, [], ◌∷◌, ◌++◌, length, map, Option, option_map, if◌then◌else◌}
+use Rattle.std.specs.Prelude.{◌≡◌, ℕ, suc, ◌+◌, ◌<◌, ◌≤◌, ◌^◌, slice_index_or, List, [], ◌∷◌, ◌++◌, length, map, Option, Some, None, option_map, slice_get, if◌then◌else◌}
 use Rattle.std.specs.BTreeMap.{BTreeMap}
 use Rattle.std.specs.Borrow.{Bor}
 use Rattle.std.specs.declared.alloc.Global.{Global}
@@ -14,6 +14,8 @@ use Rattle.fip_language.specs.Table.{Table}
 use Rattle.fip_language.specs.Values.{Value, Values, End, More}
 use Rattle.fip_language.specs.declared.limits.TheConstants.{MOST_FIELDS}
 use Rattle.value_text.specs.declared.counts.Counts.{Counts}
+use Rattle.session_lines.specs.declared.line.Written.{Written as Argument}
+use Rattle.session_lines.specs.declared.line.Written.TheVariants as A
 use Rattle.session_lines.specs.session_semantics.Lines.{Given as Written}
 use Rattle.session_lines.specs.session_semantics.Talk.{Holding, IsTaken, AreTaken, IsWrong, named_by, used_by, written}
 use Rattle.session_values.specs.Read.{Adds}
@@ -31,6 +33,19 @@ held_by l = record { ty = l.type; word = word_of l.tree }
 -- Under each name just that is found which it holds.
 abbrev pub Finds : BTreeMap (Vec ℕ Global) Held → List Lodged → Type 0
 Finds held ls = (name : Name) → found held name ≡ option_map held_by (lodged_as name ls)
+
+-- a name that is written as an argument holds something,
+abbrev pub IsHeld : BTreeMap (Vec ℕ Global) Held → Argument → Type 0
+IsHeld held (A.Name name) = found held name.now ≡ None → ⊥
+IsHeld held (A.Value span) = Unit {0}
+
+-- as each of the first n does
+abbrev pub AreHeldTo : ℕ → BTreeMap (Vec ℕ Global) Held → List Argument → Type 0
+AreHeldTo n held as' = (j : ℕ) (a : Argument) → j < n → slice_get as' j ≡ Some a → IsHeld held a
+
+-- or each of all of them
+abbrev pub AreHeld : BTreeMap (Vec ℕ Global) Held → List Argument → Type 0
+AreHeld held as' = AreHeldTo (length as') held as'
 
 -- What is asked of a parameter's type and of a line: a sound table, a type of it, and bytes of one line.
 pub record CanTake (tb : Table) (ty : ℕ) (bytes : List ℕ) : Type 0 where

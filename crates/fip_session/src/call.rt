@@ -14,7 +14,7 @@ ghost use Rattle.cell_store.specs.Cells.{cell_at};
 ghost use Rattle.value_text.specs.Loaded.{cell_words};
 ghost use Rattle.value_text.specs.Standing.{Stands};
 ghost use Rattle.fip_session.specs.Gone.{AreStanding, IsAny, IsLent, all_uses, lent_of, uses_in, named_uses};
-ghost use Rattle.fip_session.specs.Planned.{Finds, names_used};
+ghost use Rattle.fip_session.specs.Planned.{Finds, AreHeld, names_used};
 ghost use Rattle.cell_code.specs.declared.code.Function.{Function as a_function};
 ghost use Rattle.fip_machine.specs.machine_cells.Small.{store_of};
 ghost use Rattle.cell_code.specs.Plain.{plain};
@@ -428,6 +428,7 @@ fn call_planned<'l>(
     line: &CallLine<'l>,
     store: Store,
 ) -> Result<(Store, Reply<'l>), NoMemory>
+    requires held { AreHeld book.old.held line.now.arguments.items }
     requires there { plan.now.entry < length book.old.verified.now.code.functions.items }
     ensures answers { (o : Setting) (s : a_state) → IsSession o (record { book = book.old; store = store }) s →
         IsLine bytes.now → (name : Name) (names : List Name) (gs : List a_given) →

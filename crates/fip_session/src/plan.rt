@@ -18,7 +18,7 @@ ghost use Rattle.value_text.specs.Counting.{count_at};
 ghost use Rattle.value_text.specs.Loaded.{types_of, AreCredits, AreSizes, free_in, words_up_to};
 ghost use Rattle.value_text.specs.Single.{AreCellsOf};
 ghost use Rattle.session_correctness.specs.Lodging.{Lodged, holding_of};
-ghost use Rattle.fip_session.specs.Planned.{Finds, CanTake, CanTakeAll, TakesIn, TakesAll};
+ghost use Rattle.fip_session.specs.Planned.{Finds, CanTake, CanTakeAll, TakesIn, TakesAll, IsHeld, AreHeldTo, AreHeld};
 ghost use Rattle.fip_session.specs.Planned.{IsBadAt, IsRefused, names_given, names_used};
 ghost use Rattle.fip_session.specs.Refused.{IsPlanned, Refuses};
 ghost use Rattle.fip_session.specs.Planned.{IsWeighed};
@@ -119,6 +119,7 @@ impl<'l> Arguments<'l> {
         ensures refuses { CanTake book.now.table.now param.ty bytes.now → (ls : List Lodged) → Finds book.now.held ls →
             (g : a_given) → IsGiven bytes.now written.entry g → IfOk result (λ ok. ok ≡ false →
             IsRefused book.now.table.now (map holding_of ls) self.old param g) }
+        ensures held { IfOk result (λ ok. ok ≡ true → IsHeld book.now.held written.entry) }
     {
         match written {
             Written::Value(span) => {
@@ -140,6 +141,7 @@ impl<'l> Arguments<'l> {
         ensures refuses { param.ty ≤ length book.now.table.now → (ls : List Lodged) → Finds book.now.held ls →
             IfOk result (λ ok. ok ≡ false →
             IsRefused book.now.table.now (map holding_of ls) self.old param (held_name name.now)) }
+        ensures held { IfOk result (λ ok. ok ≡ true → found book.now.held name.now ≡ None → ⊥) }
     {
         match book.find(name) {
             None => Ok(false),
@@ -195,6 +197,7 @@ impl<'l> Arguments<'l> {
             Finds book.now.held ls → (gs : List a_given) → AreGiven bytes.now arguments.now gs →
             length gs ≡ length params.now → IfOk result (λ o. IfSome o (IsBadAt book.now.table.now (map holding_of ls)
             (names_given self.old.given.items) params.now gs)) }
+        ensures held { IfOk result (λ o. o ≡ None → AreHeldTo (length params.now) book.now.held arguments.now) }
     {
         for (i, param) in params.iter().enumerate() {
             let Some(written) = argument_at(arguments, i) else {
@@ -340,6 +343,7 @@ pub fn plan_of<'a, 'l>(
     line: &CallLine<'l>,
 ) -> Result<Plan<'a, 'l>, Stop<'l>>
     ensures there { IfOk result (λ p. p.entry < length book.now.verified.now.code.functions.items) }
+    ensures held { IfOk result (λ p. AreHeld book.now.held line.now.arguments.items) }
     ensures planned { (o : Setting) (s : State) (ls : List Lodged) → IsBook o book.now ls → s.held ≡ map holding_of ls →
         IsLine bytes.now → (gs : List a_given) → AreGiven bytes.now line.now.arguments.items gs →
         IfOk result (IsPlanned o s book.now (names_of line.now.results.items) line.now.entry.now gs) }

@@ -9,7 +9,7 @@ ghost use Rattle.session_lines.specs.session_semantics.Typed.{IsValue};
 ghost use Rattle.session_lines.specs.session_semantics.Talk.{IsTaken, AreTaken};
 ghost use Rattle.session_correctness.specs.Lodging.{Lodged, holding_of};
 ghost use Rattle.value_text.specs.Loaded.{types_of, AreCredits};
-ghost use Rattle.fip_session.specs.Planned.{Finds, CanTake, CanTakeAll};
+ghost use Rattle.fip_session.specs.Planned.{Finds, CanTake, CanTakeAll, IsHeld, AreHeld};
 ghost use Rattle.fip_session.specs.Readied.{Lie, IsPut, ArePut, IsReady};
 
 use crate::book::{Book, Held};
@@ -61,6 +61,7 @@ impl Ready {
         written: Written,
         loader: Loader,
     ) -> Result<Loader, NoMemory>
+        requires held { IsHeld book.now.held written }
         ensures put { CanTake book.now.table.now param.ty bytes.now → (ls : List Lodged) → Finds book.now.held ls →
             Lie book.now.table.now ls loader → (before : List Name) (g : a_given) (v : Value) →
             IsGiven bytes.now written.entry g → IsTaken book.now.table.now (map holding_of ls) before param g v →
@@ -68,9 +69,8 @@ impl Ready {
     {
         match written {
             Written::Name(name) => {
-                // The name was found before.
                 let Some(held) = book.find(name) else {
-                    return Err(NoMemory);
+                    unreachable!()
                 };
                 self.words.push(held.word)?;
                 Ok(loader)
@@ -116,6 +116,7 @@ impl Ready {
         arguments: &[Written],
         loader: Loader,
     ) -> Result<Loader, NoMemory>
+        requires held { AreHeld book.now.held arguments.now }
         ensures put { self.old.words.items ≡ [] → self.old.values.items ≡ [] →
             CanTakeAll book.now.table.now (types_of params.now) bytes.now → (ls : List Lodged) → Finds book.now.held ls →
             Lie book.now.table.now ls loader → (gs : List a_given) → AreGiven bytes.now arguments.now gs →
@@ -138,6 +139,7 @@ pub fn make_ready(
     line: &CallLine,
     loader: Loader,
 ) -> Result<(Loader, Ready), NoMemory>
+    requires held { AreHeld book.now.held line.now.arguments.items }
     ensures made { AreCredits plan.now.function.now.credits.items →
         CanTakeAll book.now.table.now (types_of plan.now.function.now.params) bytes.now → (ls : List Lodged) →
         Finds book.now.held ls → Lie book.now.table.now ls loader → (gs : List a_given) →

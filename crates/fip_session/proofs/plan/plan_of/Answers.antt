@@ -4,7 +4,7 @@ use Rattle.session_lines.specs.Said.{AreGiven, names_of}
 use Rattle.session_lines.specs.session_semantics.Talk.{AreFree, IsTakenName}
 use Rattle.session_correctness.specs.Lodging.{holding_of}
 use Rattle.value_text.specs.Loaded.{types_of}
-use Rattle.fip_session.specs.Planned.{CanTakeAll, TakesAll, IsBadAt, names_given, names_used}
+use Rattle.fip_session.specs.Planned.{AreHeldTo, CanTakeAll, TakesAll, IsBadAt, names_given, names_used}
 use Rattle.fip_session.proofs.Deciding.{no_entry, wrong_number, bad_argument, bad_result, planned, beyond, given_many, can_take_all, is_right, none_of}
 use Rattle.fip_session.proofs.Resulting.{as_many}
 use Rattle.fip_session.proofs.plan.plan_of.Goals as goal
@@ -89,3 +89,10 @@ returns-clause-planned c = λ o s ls book held line gs given.
     planned o s b ls book held (names_of ns) c.args.line.now.entry.now gs c.in-Some.entry f there has many (as_many ns ∙ right.1) c.none-arguments.result c.accept_all.new.self c.none-arguments.ensures.given all'
     (record { entry = c.in-Some.entry; function = c.in-Some-function.function; arguments = c.accept_all.new.self }) refl refl refl c.none-arguments.ensures.fresh
     (subst (λ xs. AreFree hs (names_used c.accept_all.new.self.given.items) [] (names_of xs)) c.as_slice-2.ensures.value free)
+
+pub returns-clause-held : goal.returns-clause-held
+returns-clause-held c =
+    let right = is_right c.has_right_numbers.result c.has_right_numbers.ensures c.if-not-has_right_numbers.false in
+    let many = right.0 ∙ sym (ap length c.as_slice-params.ensures.same) in
+    let held = c.in_ok-bad.ensures.held (none_of c.in_ok-bad.bad c.in_default-bad.not-Some) in
+    subst (λ n. AreHeldTo n c.args.book.now.held c.args.line.now.arguments.items) (sym many) (subst (AreHeldTo (length c.as_slice-params.result.now) c.args.book.now.held) c.as_slice.ensures.value held)

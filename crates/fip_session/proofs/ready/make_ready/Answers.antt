@@ -4,10 +4,13 @@ use Rattle.session_lines.specs.Said.{AreGiven}
 use Rattle.session_lines.specs.session_semantics.Talk.{AreTaken}
 use Rattle.value_text.specs.Loaded.{types_of, AreCredits}
 use Rattle.value_text.specs.Single.{AreCreditsMade}
-use Rattle.fip_session.specs.Planned.{CanTakeAll}
+use Rattle.fip_session.specs.Planned.{CanTakeAll, AreHeld}
 use Rattle.fip_session.specs.Readied.{ArePut}
 use Rattle.fip_session.proofs.Readying.{credited}
 use Rattle.fip_session.proofs.ready.make_ready.Goals as goal
+
+pub add_arguments-requires : goal.add_arguments-requires
+add_arguments-requires c = record { held = subst (AreHeld c.args.book.now.held) (sym c.as_slice-arguments.ensures.value) c.requires.held }
 
 pub returns : goal.returns
 returns c = record {

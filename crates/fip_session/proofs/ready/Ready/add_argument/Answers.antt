@@ -2,11 +2,15 @@ use Rattle.std.proofs.Common.{◌≡◌, refl, sym, map, subst}
 use Rattle.session_correctness.specs.Lodging.{holding_of}
 use Rattle.session_lines.specs.Said.{IsGiven}
 use Rattle.session_lines.specs.session_semantics.Talk.{IsTaken}
+use Rattle.fip_session.specs.Planned.{IsHeld}
 use Rattle.fip_session.specs.Readied.{IsPut}
 use Rattle.fip_session.specs.declared.ready.Ready.{Ready}
 use Rattle.fip_session.proofs.Planning.{given_name}
 use Rattle.fip_session.proofs.Readying.{name_put}
 use Rattle.fip_session.proofs.ready.Ready.add_argument.Goals as goal
+
+pub unreachable-requires : goal.unreachable-requires
+unreachable-requires c = subst (IsHeld c.args.book.now.held) c.in-Name.is c.requires.held (sym c.in_default.ensures.held)
 
 pub returns-in_ok-push-in-Name : goal.returns-in_ok-push-in-Name
 returns-in_ok-push-in-Name c = record {

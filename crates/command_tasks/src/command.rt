@@ -65,7 +65,7 @@ fn run(
 {
     let loader = Loader::new(alloc, room.words);
     let (loader, starts) = list.starts(alloc, verified, room, loader)?;
-    let mut tasks = Tasks::new(alloc, verified, loader, starts.as_slice())?;
+    let mut tasks = Tasks::uncounted(alloc, verified, loader, starts.as_slice())?;
     take_turns(&mut tasks, seed, turns);
     answers(alloc, verified.code(), &mut tasks, starts.as_slice())
 }

@@ -181,7 +181,9 @@ impl<'a> Machine<'a> {
         if calls == 0 {
             return Ended::Out;
         }
-        let over = self.stack.run::<Sealed, SURE>(&mut self.cells, calls - 1);
+        let over = self
+            .stack
+            .run::<Sealed, true, SURE>(&mut self.cells, calls - 1);
         let highest = self.stack.highest();
         gauge.see(&held(&self.cells), highest.frames, highest.words);
         ended_of(over)

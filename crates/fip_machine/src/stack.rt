@@ -176,7 +176,7 @@ enum Pause {
 // Runs until the words must reach further, no call is left, or the run is over. The parts of a task are in variables
 // here, so that the cursor and the calls that are left are registers of the processor.
 #[inline(always)]
-fn burst<'a, C: Cells, const SURE: bool>(
+fn burst<'a, C: Cells, const IN_LOOP: bool, const SURE: bool>(
     verified: &'a Verified,
     bounds: Bounds,
     cells: &mut C,
@@ -202,6 +202,10 @@ fn burst<'a, C: Cells, const SURE: bool>(
     ensures short { result ≡ Pause.Short → left.new < left.old }
     ensures spent { result ≡ Pause.Spent → left.new ≡ 0 }
     ensures over { (s : _) → result ≡ Pause.Over s → s ≢ Stepped.Went }
+    ensures small { IsSmall (C.cells cells.old) → IsSmall (C.cells cells.new) }
+    ensures pushed { C.pushed cells.old ≡ [] → C.pushed cells.new ≡ [] }
+    ensures counted { IN_LOOP ≡ false → CountsReleased (C.cells cells.old) (C.released cells.old) beside.old.freed
+        (C.cells cells.new) (C.released cells.new) beside.new.freed }
     ensures along { (o : Origin) → IsAlong o (task_of verified.now bounds words.old cursor.old beside.old)
         (stored (C.cells cells.old) (C.released cells.old) (C.pushed cells.old)) left.old → HasPaused o result
         (task_of verified.now bounds words.new cursor.new beside.new)
@@ -216,7 +220,7 @@ fn burst<'a, C: Cells, const SURE: bool>(
         usize::MAX
     };
     let pause = 'steps: loop {
-        match advance::<C, true, SURE>(verified, bounds, cells, words, beside, &mut here) {
+        match advance::<C, IN_LOOP, SURE>(verified, bounds, cells, words, beside, &mut here) {
             Stepped::Went => {}
             Stepped::Entered => {
                 calls -= 1;
@@ -358,8 +362,10 @@ impl<'a> TaskStack<'a> {
         stepped
     }
 
-    // Runs to the end, or until a call would come and none of so many is left.
-    pub(crate) fn run<C: Cells, const SURE: bool>(
+    /// Runs to the end, or until a call would come and none of so many is left; none there, and the run isn't over. It
+    /// does two instructions at once where they come often, unless what is released is counted. Where it is sure, no
+    /// cell is looked for: that asks a run that never comes to an instruction that can't be done.
+    pub fn run<C: Cells, const IN_LOOP: bool, const SURE: bool>(
         &mut self,
         cells: &mut C,
         calls: u64,
@@ -367,6 +373,10 @@ impl<'a> TaskStack<'a> {
         requires sure { SURE ≡ true → IsSafe self.old (stored (C.cells cells.old) (C.released cells.old)
             (C.pushed cells.old)) calls }
         ensures code { self.new.code ≡ self.old.code }
+        ensures small { IsSmall (C.cells cells.old) → IsSmall (C.cells cells.new) }
+        ensures pushed { C.pushed cells.old ≡ [] → C.pushed cells.new ≡ [] }
+        ensures counted { IN_LOOP ≡ false → CountsReleased (C.cells cells.old) (C.released cells.old) self.old.freed
+            (C.cells cells.new) (C.released cells.new) self.new.freed }
         ensures run { (o : Origin) → IsAlong o self.old (stored (C.cells cells.old) (C.released cells.old)
             (C.pushed cells.old)) calls → HasRun o (end_after result) self.new (stored (C.cells cells.new)
             (C.released cells.new) (C.pushed cells.new)) }
@@ -377,7 +387,7 @@ impl<'a> TaskStack<'a> {
         let mut left = calls;
         while left > 0 {
             make_room(&mut self.words, self.bounds, &self.cursor);
-            let pause = burst::<C, SURE>(
+            let pause = burst::<C, IN_LOOP, SURE>(
                 self.verified,
                 self.bounds,
                 cells,
@@ -397,6 +407,10 @@ impl<'a> TaskStack<'a> {
     // Runs to the end, or to where a call would come.
     fn run_to_call<C: Cells>(&mut self, cells: &mut C) -> Option<Stepped>
         ensures code { self.new.code ≡ self.old.code }
+        ensures small { IsSmall (C.cells cells.old) → IsSmall (C.cells cells.new) }
+        ensures pushed { C.pushed cells.old ≡ [] → C.pushed cells.new ≡ [] }
+        ensures counted { CountsReleased (C.cells cells.old) (C.released cells.old) self.old.freed (C.cells cells.new)
+            (C.released cells.new) self.new.freed }
         ensures run { (o : Origin) → IsAlong o self.old (stored (C.cells cells.old) (C.released cells.old)
             (C.pushed cells.old)) 0 → HasRun o (end_after result) self.new (stored (C.cells cells.new)
             (C.released cells.new) (C.pushed cells.new)) }

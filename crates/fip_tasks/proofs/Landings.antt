@@ -35,7 +35,7 @@ pub use Rattle.fip_language.proofs.Facts.{none_of as not_some}
 -- ---- the cells of a run
 
 -- the state of a task over other cells
-at_cells : (u : Stand) (s : State) (cells : Store) → state_with u s.lent s.store ≡ s → state_with u s.lent cells ≡ record s { store = cells }
+pub at_cells : (u : Stand) (s : State) (cells : Store) → state_with u s.lent s.store ≡ s → state_with u s.lent cells ≡ record s { store = cells }
 at_cells u s cells e = ap (λ (q : State). record q { store = cells }) e
 
 pub over_cells : (v : Checked) (t : Standing) (cells : Store) (r : Run) → StandsAt v t r → StandsAt v t (in_store cells r)
@@ -117,7 +117,7 @@ came v s (suc l) k call TooDeep r u cells h known calls none code ends fits =
     record { stands = f; cells = same_cells s u cells h.1 }
 came v s l k call Stuck r u cells h known calls none code ends fits = absurd (known refl)
 
-not_ended : {A : Type 0} (t : Standing) (e : End) → HasEnded t e → t.ended ≡ None → A
+pub not_ended : {A : Type 0} (t : Standing) (e : End) → HasEnded t e → t.ended ≡ None → A
 not_ended t (Value ws) h e = let f = h.0 in absurd cc
 not_ended t (Trap kind line col) h e = absurd cc
 not_ended t Out h e = absurd cc

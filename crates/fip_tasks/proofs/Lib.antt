@@ -1,4 +1,5 @@
 pub mod Called
+pub mod Finishing
 pub mod Landings
 pub mod Lists
 pub mod Reached

@@ -1,5 +1,5 @@
 // A task: frames, and what is known of its run.
-ghost use Rattle.std.specs.Prelude.{◌≡◌, ℕ, ◌+◌, ◌<◌, ◌≤◌, ◌^◌, ◌++◌, List, IfOk, OnOk, None, Some};
+ghost use Rattle.std.specs.Prelude.{◌≡◌, ℕ, ◌+◌, ◌<◌, ◌≤◌, ◌^◌, ◌++◌, List, IfOk, OnOk, None, Some, true};
 ghost use Rattle.std.specs.Prelude.{length, map, slice_index_or};
 ghost use Rattle.fip_language.specs.declared.limits.TheConstants.{MOST_FIELDS};
 ghost use Rattle.fip_tasks.specs.Turns.{CanStart};
@@ -10,6 +10,7 @@ ghost use Rattle.fip_language.specs.Values as V;
 ghost use Rattle.value_text.specs.Standing.{Stands, StandAll};
 ghost use Rattle.store_trees.specs.Added.{places_of};
 ghost use Rattle.store_trees.specs.declared.trees.TheConstants.{MOST_CELLS};
+ghost use Rattle.fip_machine.specs.Along.{end_after};
 ghost use Rattle.fip_machine.specs.machine_cells.Counting.{CountsOne};
 ghost use Rattle.fip_tasks.specs.Gauged.{IsGaugeOf, left_of, AddsCells, HoldsAtStart, sized};
 ghost use Rattle.fip_tasks.specs.Landing.{standing, end_by, Lands, Goes, IsNew, Begins};
@@ -166,6 +167,35 @@ fn held_at_start(
     Ok(held)
 }
 
+// The same where they are to be counted, else none.
+fn held_if(
+    counts: bool,
+    alloc: Global,
+    verified: &Verified,
+    cells: &Sealed,
+    start: &Start,
+) -> Result<[u64; SIZES], NoMemory>
+    ensures held { IfOk result (λ h. counts ≡ true → HoldsAtStart verified.now cells.now.cells start.now h) }
+{
+    if !counts {
+        return Ok([0; SIZES]);
+    }
+    let held = held_at_start(alloc, verified, cells, start)?;
+    Ok(held)
+}
+
+// How a run ended that was run to its end; out of calls where none was left for a call that would come.
+fn ended_of(over: Option<Stepped>) -> Ended
+    ensures is { result ≡ end_after over }
+{
+    match over {
+        Some(Stepped::Value) => Ended::Value,
+        Some(Stepped::Trap { kind, line, col }) => Ended::Trap { kind, line, col },
+        Some(Stepped::Deep) => Ended::Deep,
+        _ => Ended::Out,
+    }
+}
+
 // What a step of a task came to.
 #[derive(Clone, Copy, PartialEq, Eq)]
 pub enum Advanced {
@@ -189,19 +219,21 @@ pub struct Task<'a> {
 }
 
 impl<'a> Task<'a> {
-    /// The task at its start. All its memory is taken.
+    /// The task at its start, whose cells are counted if so wanted. All its memory is taken.
     pub fn new(
         alloc: Global,
         verified: &'a Verified,
         cells: &Sealed,
         start: &Start,
+        counts: bool,
     ) -> Result<Task<'a>, NoMemory>
         requires can { CanStart verified.now start.now }
         ensures new { IfOk result (λ t. IsNew verified.now start.now (standing t)) }
-        ensures held { IfOk result (λ t. HoldsAtStart verified.now cells.now.cells start.now t.started) }
+        ensures held { IfOk result (λ t. counts ≡ true →
+            HoldsAtStart verified.now cells.now.cells start.now t.started) }
         ensures begins { IfOk result (λ t. Begins verified.now start.now (standing t)) }
     {
-        let held = held_at_start(alloc, verified, cells, start)?;
+        let held = held_if(counts, alloc, verified, cells, start)?;
         let words = start.words.copy(alloc)?.into_vec();
         let stack = TaskStack::start(alloc, verified, start.entry, words, start.frames)?;
         let _frames = stack.frames();
@@ -304,30 +336,20 @@ impl<'a> Task<'a> {
         }
     }
 
-    // Goes on to the end, or until a call is done; none there.
-    fn run_to_call(&mut self, cells: &mut Sealed) -> Option<Ended>
-        ensures goes { Goes (standing self.old) cells.old (standing self.new) cells.new }
-        ensures ended { self.new.ended ≡ result }
-        ensures fewer { result ≡ None → self.new.calls_left < self.old.calls_left }
-    {
-        loop {
-            match self.advance(cells) {
-                Advanced::Went => {}
-                Advanced::Called => return None,
-                Advanced::Over(ended) => return Some(ended),
-            }
-        }
-    }
-
     /// Takes turns to the end.
     pub fn finish(&mut self, cells: &mut Sealed) -> Ended
         ensures goes { Goes (standing self.old) cells.old (standing self.new) cells.new }
         ensures ended { self.new.ended ≡ Some result }
     {
-        loop {
-            if let Some(ended) = self.run_to_call(cells) {
-                return ended;
-            }
+        if let Some(ended) = self.ended {
+            return ended;
         }
+        let _frames = self.stack.frames();
+        let over = self
+            .stack
+            .run::<Sealed, false, false>(cells, self.calls_left);
+        let ended = ended_of(over);
+        self.ended = Some(ended);
+        ended
     }
 }

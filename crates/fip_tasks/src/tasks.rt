@@ -1,5 +1,5 @@
 // Tasks in one store.
-ghost use Rattle.std.specs.Prelude.{◌≡◌, ◌≢◌, ℕ, ◌<◌, List, [], ◌∷◌, ◌++◌, length, IfOk, All, Some, slice_get, replicate};
+ghost use Rattle.std.specs.Prelude.{◌≡◌, ◌≢◌, ℕ, ◌<◌, List, [], ◌∷◌, ◌++◌, length, IfOk, All, Some, slice_get, replicate, true};
 ghost use Rattle.code_verify.specs.cell_code.Plain.{plain};
 ghost use Rattle.task_semantics.specs.machine_semantics.Steps.{Kinds};
 ghost use Rattle.code_verify.specs.Checked.{Checked};
@@ -62,11 +62,50 @@ impl<'a> Tasks<'a> {
         ensures started { IfOk result (λ t. (k : ℕ) (b : Start) (a : Standing) → slice_get starts.now k ≡ Some b →
             slice_get t.tasks k ≡ Some a → HoldsAtStart verified.now loader.cells b a.started) }
     {
+        Tasks::begin(alloc, verified, loader, starts, true)
+    }
+
+    /// The tasks at their starts, as `new` has them, for who asks for no gauge: the cells of their arguments and credits
+    /// aren't counted, so that a gauge has none of them.
+    pub fn uncounted(
+        alloc: Global,
+        verified: &'a Verified,
+        loader: Loader,
+        starts: &[Start],
+    ) -> Result<Tasks<'a>, NoMemory>
+        requires can { All (CanStart verified.now) starts.now }
+        ensures number { IfOk result (λ t. length t.tasks ≡ length starts.now) }
+        ensures first { IfOk result (λ t. (shared : Shared) → AreStarted verified.now
+            (store_of loader.cells loader.released) starts.now shared → Shows verified.now t shared) }
+        ensures followed { IfOk result (λ t. (kinds : Kinds) (first : Shared) → AreStarted verified.now
+            (store_of loader.cells loader.released) starts.now first → HaveFollowed verified.now kinds first [] t) }
+    {
+        Tasks::begin(alloc, verified, loader, starts, false)
+    }
+
+    // The tasks at their starts, whose cells are counted if so wanted.
+    fn begin(
+        alloc: Global,
+        verified: &'a Verified,
+        loader: Loader,
+        starts: &[Start],
+        counts: bool,
+    ) -> Result<Tasks<'a>, NoMemory>
+        requires can { All (CanStart verified.now) starts.now }
+        ensures number { IfOk result (λ t. length t.tasks ≡ length starts.now) }
+        ensures first { IfOk result (λ t. (shared : Shared) → AreStarted verified.now
+            (store_of loader.cells loader.released) starts.now shared → Shows verified.now t shared) }
+        ensures followed { IfOk result (λ t. (kinds : Kinds) (first : Shared) → AreStarted verified.now
+            (store_of loader.cells loader.released) starts.now first → HaveFollowed verified.now kinds first [] t) }
+        ensures started { IfOk result (λ t. counts ≡ true → (k : ℕ) (b : Start) (a : Standing) →
+            slice_get starts.now k ≡ Some b → slice_get t.tasks k ≡ Some a →
+            HoldsAtStart verified.now loader.cells b a.started) }
+    {
         let _left = loader.left();
         let cells = seal(loader);
         let mut tasks = Vec::new(alloc);
         for start in starts {
-            tasks.push(Task::new(alloc, verified, &cells, start)?)?;
+            tasks.push(Task::new(alloc, verified, &cells, start, counts)?)?;
         }
         Ok(Tasks { tasks, cells })
     }

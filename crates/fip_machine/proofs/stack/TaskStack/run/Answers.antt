@@ -2,6 +2,7 @@
 use Rattle.std.proofs.Common.{◌≡◌, ◌≤◌, ◌∙◌, ℕ, List, Some, rules, sym, subst, arith, length, refl}
 use Rattle.std.specs.Vec.{with_items}
 use Rattle.std.proofs.lemmas.List.{with_items_is}
+use Rattle.machine_cells.proofs.Counts.{counts_on}
 use Rattle.machine_step.specs.Placed.{IsPlaced, Waiting}
 use Rattle.machine_step.proofs.Stacked.{keeps_less, waiting_keeps}
 use Rattle.fip_machine.specs.Tasks.{Stand}
@@ -45,6 +46,9 @@ loop-left-preserved g c =
       };
       going = inv.going;
       code = inv.code;
+      small = λ h. reported.small (inv.small h);
+      empty = λ h. reported.pushed (inv.empty h);
+      counted = λ e. counts_on (g.C.Cells.cells c.args.cells.now) (g.C.Cells.cells c.loop-left.cells) (g.C.Cells.cells c.burst-pause.new.cells) (g.C.Cells.released c.args.cells.now) (g.C.Cells.released c.loop-left.cells) (g.C.Cells.released c.burst-pause.new.cells) c.args.self.now.freed i.beside.freed beside.freed (inv.counted e) (reported.counted e);
       along = λ o a.
           let before : IsAlong o (task_of v b c.as_mut_slice.result.now i.cursor i.beside) s c.loop-left.left = subst (λ (t : Stand). IsAlong o t s c.loop-left.left) (sym (task_same v b i.words.items c.make_room.new.words.items i.cursor i.beside inv.task.placed.room c.make_room.ensures.more c.make_room.ensures.keeps) ∙ sym (λ j. task_of v b (c.as_mut_slice.ensures.value j) i.cursor i.beside)) (inv.along o a) in
           subst (λ (xs : List ℕ). IsAlong o (task_of v b xs after beside) w c.burst-pause.new.left) (sym items) (paused_along o c.burst-pause.result (task_of v b us after beside) w c.burst-pause.new.left c.in_default.not-Over (reported.along o before));
@@ -63,8 +67,12 @@ returns-in-Over g c =
     let items : all.items ≡ us = with_items_is c.make_room.new.words us (search rules) in
     let s = stored (g.C.Cells.cells c.loop-left.cells) (g.C.Cells.released c.loop-left.cells) (g.C.Cells.pushed c.loop-left.cells) in
     let w = stored (g.C.Cells.cells c.burst-pause.new.cells) (g.C.Cells.released c.burst-pause.new.cells) (g.C.Cells.pushed c.burst-pause.new.cells) in
+    let reported = c.burst-pause.ensures in
     record {
       code = inv.code;
+      small = λ h. reported.small (inv.small h);
+      pushed = λ h. reported.pushed (inv.empty h);
+      counted = λ e. counts_on (g.C.Cells.cells c.args.cells.now) (g.C.Cells.cells c.loop-left.cells) (g.C.Cells.cells c.burst-pause.new.cells) (g.C.Cells.released c.args.cells.now) (g.C.Cells.released c.loop-left.cells) (g.C.Cells.released c.burst-pause.new.cells) c.args.self.now.freed i.beside.freed beside.freed (inv.counted e) (reported.counted e);
       run = λ o a.
           let before : IsAlong o (task_of v b c.as_mut_slice.result.now i.cursor i.beside) s c.loop-left.left = subst (λ (t : Stand). IsAlong o t s c.loop-left.left) (sym (task_same v b i.words.items c.make_room.new.words.items i.cursor i.beside inv.task.placed.room c.make_room.ensures.more c.make_room.ensures.keeps) ∙ sym (λ j. task_of v b (c.as_mut_slice.ensures.value j) i.cursor i.beside)) (inv.along o a) in
           let e = end_after (Some c.in-Over.stepped) in
@@ -81,6 +89,9 @@ returns g c =
     let none : c.loop-left.left ≡ 0 = omega (arith, over) in
     record {
       code = c.run_to_call.ensures.code ∙ inv.code;
+      small = λ h. c.run_to_call.ensures.small (inv.small h);
+      pushed = λ h. c.run_to_call.ensures.pushed (inv.empty h);
+      counted = λ e. counts_on (g.C.Cells.cells c.args.cells.now) (g.C.Cells.cells c.loop-left.cells) (g.C.Cells.cells c.run_to_call.new.cells) (g.C.Cells.released c.args.cells.now) (g.C.Cells.released c.loop-left.cells) (g.C.Cells.released c.run_to_call.new.cells) c.args.self.now.freed i.beside.freed c.run_to_call.new.self.freed (inv.counted e) c.run_to_call.ensures.counted;
       run = λ o a. c.run_to_call.ensures.run o (along_ended o task i.ended s 0 inv.going refl (subst (λ (n : ℕ). IsAlong o task s n) none (inv.along o a)));
     }
 

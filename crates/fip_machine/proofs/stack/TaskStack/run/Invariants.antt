@@ -1,6 +1,8 @@
 -- The task stays along the run, with as many calls left.
-use Rattle.std.proofs.Common.{◌≡◌, None, vec_len}
+use Rattle.std.proofs.Common.{◌≡◌, nat_eq, not, false, [], None, vec_len}
 use Rattle.std.specs.Vec.{vec_capacity}
+use Rattle.machine_cells.specs.Counting.{CountsReleased}
+use Rattle.machine_cells.specs.Small.{IsSmall}
 use Rattle.fip_machine.specs.Tasks.{IsTask}
 use Rattle.fip_machine.specs.Along.{Origin, IsAlong, task_of, stored}
 use Rattle.fip_machine.proofs.stack.TaskStack.run.Given as goal
@@ -15,6 +17,9 @@ invariant-loop-left g l =
       task : IsTask i.verified.now i.bounds i.words.items (vec_capacity i.words) (vec_len i.beside.spare) i.cursor i.ended;
       going : i.ended ≡ None;
       code : i.verified.now ≡ l.fn.self.code;
+      small : IsSmall (cells l.fn.cells) → IsSmall (cells l.cells);
+      empty : pushed l.fn.cells ≡ [] → pushed l.cells ≡ [];
+      counted : not (nat_eq g.row.IN_LOOP 0) ≡ false → CountsReleased (cells l.fn.cells) (released l.fn.cells) l.fn.self.freed (cells l.cells) (released l.cells) i.beside.freed;
       along : (o : Origin) → IsAlong o l.fn.self (stored (cells l.fn.cells) (released l.fn.cells) (pushed l.fn.cells)) l.calls → IsAlong o (task_of i.verified.now i.bounds i.words.items i.cursor i.beside) (stored (cells l.cells) (released l.cells) (pushed l.cells)) l.left;
     }
 

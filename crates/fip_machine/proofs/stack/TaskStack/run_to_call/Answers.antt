@@ -1,5 +1,6 @@
 -- Where no call is next, a step enters no function; where one is, the run is out of calls.
 use Rattle.std.proofs.Common.{◌∙◌, Bool, false, refl, sym, subst}
+use Rattle.machine_cells.proofs.Counts.{counts_on}
 use Rattle.machine_step.specs.declared.rows.Stepped.{Stepped}
 use Rattle.fip_machine.specs.Along.{CameTo, calls_next, stored}
 use Rattle.fip_machine.proofs.Alongs.{stepped, has_gone_on, has_ended_late, is_out}
@@ -8,6 +9,9 @@ use Rattle.fip_machine.proofs.stack.TaskStack.run_to_call.Goals as goal
 pub loop-self-preserved : goal.loop-self-preserved
 loop-self-preserved g c = record {
   code = c.step.ensures.code ∙ c.loop-self.invariant.code;
+  small = λ h. c.step.ensures.small (c.loop-self.invariant.small h);
+  empty = λ h. c.step.ensures.pushed (c.loop-self.invariant.empty h);
+  counted = counts_on (g.C.Cells.cells c.args.cells.now) (g.C.Cells.cells c.loop-self.cells) (g.C.Cells.cells c.step.new.cells) (g.C.Cells.released c.args.cells.now) (g.C.Cells.released c.loop-self.cells) (g.C.Cells.released c.step.new.cells) c.args.self.now.freed c.loop-self.self.freed c.step.new.self.freed c.loop-self.invariant.counted c.step.ensures.counted;
   along = λ o a.
       let t = c.loop-self.self in
       let s = stored (g.C.Cells.cells c.loop-self.cells) (g.C.Cells.released c.loop-self.cells) (g.C.Cells.pushed c.loop-self.cells) in
@@ -19,6 +23,9 @@ loop-self-preserved g c = record {
 pub returns-in-Entered : goal.returns-in-Entered
 returns-in-Entered g c = record {
   code = c.step.ensures.code ∙ c.loop-self.invariant.code;
+  small = λ h. c.step.ensures.small (c.loop-self.invariant.small h);
+  pushed = λ h. c.step.ensures.pushed (c.loop-self.invariant.empty h);
+  counted = counts_on (g.C.Cells.cells c.args.cells.now) (g.C.Cells.cells c.loop-self.cells) (g.C.Cells.cells c.step.new.cells) (g.C.Cells.released c.args.cells.now) (g.C.Cells.released c.loop-self.cells) (g.C.Cells.released c.step.new.cells) c.args.self.now.freed c.loop-self.self.freed c.step.new.self.freed c.loop-self.invariant.counted c.step.ensures.counted;
   run = λ o a.
       let t = c.loop-self.self in
       let s = stored (g.C.Cells.cells c.loop-self.cells) (g.C.Cells.released c.loop-self.cells) (g.C.Cells.pushed c.loop-self.cells) in
@@ -33,6 +40,9 @@ returns-in-Entered g c = record {
 pub returns-in_default : goal.returns-in_default
 returns-in_default g c = record {
   code = c.step.ensures.code ∙ c.loop-self.invariant.code;
+  small = λ h. c.step.ensures.small (c.loop-self.invariant.small h);
+  pushed = λ h. c.step.ensures.pushed (c.loop-self.invariant.empty h);
+  counted = counts_on (g.C.Cells.cells c.args.cells.now) (g.C.Cells.cells c.loop-self.cells) (g.C.Cells.cells c.step.new.cells) (g.C.Cells.released c.args.cells.now) (g.C.Cells.released c.loop-self.cells) (g.C.Cells.released c.step.new.cells) c.args.self.now.freed c.loop-self.self.freed c.step.new.self.freed c.loop-self.invariant.counted c.step.ensures.counted;
   run = λ o a.
       let t = c.loop-self.self in
       let s = stored (g.C.Cells.cells c.loop-self.cells) (g.C.Cells.released c.loop-self.cells) (g.C.Cells.pushed c.loop-self.cells) in
@@ -47,6 +57,9 @@ returns-in_default g c = record {
 pub returns : goal.returns
 returns g c = record {
   code = c.loop-self.invariant.code;
+  small = c.loop-self.invariant.small;
+  pushed = c.loop-self.invariant.empty;
+  counted = c.loop-self.invariant.counted;
   run = λ o a.
       let t = c.loop-self.self in
       let s = stored (g.C.Cells.cells c.loop-self.cells) (g.C.Cells.released c.loop-self.cells) (g.C.Cells.pushed c.loop-self.cells) in

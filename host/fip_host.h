@@ -259,7 +259,7 @@ uint32_t fip_release(FipMachine *machine, uint64_t word);
  * this one: where that was a run of the same function, no memory is asked for. Status 12: there is no such
  * function, or it takes another number of arguments; 6: the store has no room for the credits; 10: there is no
  * memory. That the words stand for values of the parameters' types, each cell once, is the caller's affair;
- * where they don't, the run still ends. Proved: code, kept, starts. */
+ * where they don't, the run still ends. Proved: code, kept, starts, full, range, same, status. */
 uint32_t fip_start(FipMachine *machine, size_t number, const uint64_t *arguments, size_t arguments_count,
                    uint64_t frames);
 
@@ -307,7 +307,7 @@ uint32_t fip_gauge(const FipMachine *machine, size_t size, FipGauge *gauge);
 /* Keeps the results of a run that ended with values, each under the first number that is free: how many they
  * are, and their numbers in `numbers`. They can't be read or kept again. It takes no memory. Status 13: there
  * are none; 12: `numbers` is too short, or too few numbers are free. Proved: code, task, store, taken, keeps,
- * rest, closed, same. */
+ * rest, closed, range, status, same. */
 uint32_t fip_keep(FipMachine *machine, size_t *numbers, size_t numbers_count, size_t *count);
 
 /* What is kept under a number. Status 12: nothing is. The machine stays as it is. Proved: same, reports, none. */
@@ -321,7 +321,7 @@ uint32_t fip_forget(FipMachine *machine, size_t number);
  * kept value is used up, unless its parameter is borrowed; where no run starts, all stay. Status 12: there is no
  * such function, it takes another number of arguments, or nothing is kept under a number; 14: an argument is no
  * value of its parameter's type, or one that is used up is given twice; 6: the store has no room for the
- * credits; 10: there is no memory. Proved: code, starts, uses, kept. */
+ * credits; 10: there is no memory. Proved: code, starts, uses, kept, full, range, status. */
 uint32_t fip_start_kept(FipMachine *machine, size_t number, const FipArgument *arguments, size_t arguments_count,
                         uint64_t frames);
 

@@ -9,3 +9,5 @@ pub mod Putting
 pub mod Lines
 pub mod Loading
 pub mod Refusing
+pub mod Unstarted
+pub mod Unmade

@@ -8,5 +8,7 @@ pub mod Handing
 pub mod Needing
 pub mod Telling
 pub mod Starting
+pub mod Driving
 pub mod Keeping
+pub mod Unkept
 pub mod Printing

@@ -8,7 +8,7 @@ ghost use Rattle.fip_host.specs.Hosting.{StepsTo, RunsOn, IsIdle, IsStarted, end
 ghost use Rattle.fip_host.specs.Hosting.{count_of};
 ghost use Rattle.fip_host.specs.Statuses.{loaded_by, refusal_number};
 ghost use Rattle.fip_host.specs.Printing.{ArePrintable, printed_results};
-ghost use Rattle.fip_host.specs.Starting.{IsTextStarted, IsBadText, IsTooLarge, IsLost};
+ghost use Rattle.fip_host.specs.Starting.{IsTextStarted, IsBadText, IsTooLarge, IsLost, LacksCredits, TakesOthers};
 
 use super::{fill, status_of};
 use crate::answer::{FipEnd, FipGauge, FipLoaded, Refusal};
@@ -33,6 +33,10 @@ pub extern "C" fn fip_start(
     ensures code { machine.new.held.code ≡ machine.old.held.code }
     ensures kept { machine.new.held.kept ≡ machine.old.held.kept }
     ensures starts { result ≡ 0 → IsStarted number arguments.now frames machine.old.held machine.new.held }
+    ensures full { result ≡ 6 → LacksCredits number arguments.now machine.old.held }
+    ensures range { result ≡ 12 → TakesOthers number (length arguments.now) machine.old.held }
+    ensures same { result ≡ 12 → machine.new.held ≡ machine.old.held }
+    ensures status { (result ≡ 0) ⊎ (result ≡ 6) ⊎ (result ≡ 10) ⊎ (result ≡ 12) }
 {
     status_of(machine.machine().start(alloc, number, arguments, frames))
 }
@@ -89,8 +93,8 @@ fn told(refusal: Refusal, loaded: &mut FipLoaded) -> u32
     refusal.number()
 }
 
-/// Does one instruction of the run, and reports where it is then. It takes no memory. Once the run has ended, it reports
-/// the same again and changes nothing.
+/// Does one instruction of the run, and reports where it is then. It takes no memory. Once the run has ended, it
+/// reports the same again and changes nothing.
 #[unsafe(no_mangle)]
 pub extern "C" fn fip_step(machine: &mut Handle, end: &mut FipEnd) -> u32
     ensures code { machine.new.held.code ≡ machine.old.held.code }

@@ -1,10 +1,12 @@
 // Values that are kept from run to run, and their text.
-ghost use Rattle.std.specs.Prelude.{◌≡◌, ◌≢◌, Some, None, [], false, drop, map, slice_set, take};
+ghost use Rattle.std.specs.Prelude.{◌≡◌, ◌≢◌, ◌⊎◌, Some, None, [], false, drop, length, map, slice_set, take};
 ghost use Rattle.fip_language.specs.Store.{Placed, value_of, word_of};
 ghost use Rattle.fip_language.specs.PrintedText.{printed};
 ghost use Rattle.value_text.specs.Standing.{Stands};
 ghost use Rattle.fip_host.specs.Hosting.{IsStarted, results_of};
 ghost use Rattle.fip_host.specs.Keeping.{HasKept, IsUsedUp};
+ghost use Rattle.fip_host.specs.Starting.{LacksCredits, TakesOthers};
+ghost use Rattle.fip_host.specs.Unkept.{HasTooFew, NamesNothing};
 ghost use Rattle.fip_host.specs.Telling.{argument_word, byte_count, filled, kept_at};
 
 use super::{fill, status_of};
@@ -24,6 +26,8 @@ pub extern "C" fn fip_keep(machine: &mut Handle, numbers: &mut [usize], count: &
     ensures keeps { result ≡ 0 → HasKept machine.old.held machine.new.held (take count.new numbers.new) }
     ensures rest { result ≡ 0 → drop count.new numbers.new ≡ drop count.new numbers.old }
     ensures closed { result ≡ 13 → results_of machine.old.held ≡ None }
+    ensures range { result ≡ 12 → HasTooFew numbers.old machine.old.held }
+    ensures status { (result ≡ 0) ⊎ (result ≡ 12) ⊎ (result ≡ 13) }
     ensures same { result ≢ 0 → machine.new.held ≡ machine.old.held }
 {
     match machine.machine().keep(numbers) {
@@ -88,6 +92,11 @@ pub extern "C" fn fip_start_kept(
         machine.old.held machine.new.held }
     ensures uses { result ≡ 0 → IsUsedUp number arguments.now machine.old.held machine.new.held }
     ensures kept { result ≢ 0 → machine.new.held.kept ≡ machine.old.held.kept }
+    ensures full { result ≡ 6 →
+        LacksCredits number (map (argument_word machine.old.held.kept) arguments.now) machine.old.held }
+    ensures range { result ≡ 12 → TakesOthers number (length arguments.now) machine.old.held
+        ⊎ NamesNothing machine.old.held.kept arguments.now }
+    ensures status { (result ≡ 0) ⊎ (result ≡ 6) ⊎ (result ≡ 10) ⊎ (result ≡ 12) ⊎ (result ≡ 14) }
 {
     status_of(
         machine

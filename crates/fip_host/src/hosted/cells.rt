@@ -1,12 +1,14 @@
 // The cells of a machine's store: making, reading and releasing them.
-ghost use Rattle.std.specs.Prelude.{◌≡◌, ◌≢◌, ℕ, ◌+◌, ◌*◌, ◌<◌, ◌⊎◌, [], None, Some, Err, OnErr, OnOk, IfOk, IfSome};
+ghost use Rattle.std.specs.Prelude.{◌≡◌, ◌≢◌, ℕ, ◌+◌, ◌*◌, ◌<◌, ◌⊎◌, [], None, Some, Err, OnErr, OnOk, IfErr, IfOk, IfSome};
 ghost use Rattle.std.specs.Prelude.{length};
 ghost use Rattle.fip_language.specs.declared.limits.TheConstants.{MOST_FIELDS};
 ghost use Rattle.cell_store.specs.Cells.{cell_at, count_live};
 ghost use Rattle.fip_machine.specs.machine_cells.Small.{IsSmall};
 ghost use Rattle.cell_store.specs.Made.{loading};
 ghost use Rattle.fip_host.specs.Hosting.{loading_of};
+ghost use Rattle.value_text.specs.Loaded.{AreSizes};
 ghost use Rattle.fip_host.specs.Making.{HasMade, IsMade};
+ghost use Rattle.fip_host.specs.Starting.{AreUnmade, IsUnmade};
 ghost use Rattle.fip_host.specs.Telling.{IsNamedBy, IsCell, IsField, IsNext, IsLast, IsReleased};
 ghost use Rattle.fip_host.specs.declared.answer.Refusal.{Refusal};
 ghost use Rattle.fip_host.specs.declared.answer.Refusal.TheVariants.{OutOfRange, TooSmall};
@@ -38,6 +40,7 @@ fn made(loader: &mut Loader, tag: u32, fields: &[u64]) -> Result<u64, Refusal>
         (needed ≡ length fields.now + 1) × (given ≡ loader.old.left) × (given < needed) }
     ensures range { result ≡ Err OutOfRange → (length fields.now ≡ 0) ⊎ (MOST_FIELDS < length fields.now) }
     ensures same { OnErr result (loader.new ≡ loader.old) }
+    ensures refused { IfErr result (IsUnmade fields.now loader.old) }
 {
     if fields.is_empty() || fields.len() > MOST_FIELDS {
         return Err(Refusal::OutOfRange);
@@ -56,6 +59,8 @@ fn made(loader: &mut Loader, tag: u32, fields: &[u64]) -> Result<u64, Refusal>
 // Makes a cell for each of these credits, with tag and fields 0, and puts its word after the others; stops where one
 // can't be made.
 fn made_for(loader: &mut Loader, credits: &[u8], words: &mut Vec<u64>) -> Result<(), Refusal>
+    requires sizes { AreSizes credits.now }
+    ensures refused { IfErr result (AreUnmade credits.now words.old.items loader.old) }
     ensures made { OnOk result (HasMade credits.now words.old.items words.new.items loader.old loader.new) }
 {
     let zeros = [0; MOST_FIELDS];
@@ -90,8 +95,10 @@ pub fn add_credits(
     credits: &[u8],
     words: &mut Vec<u64>,
 ) -> Result<(), Refusal>
+    requires sizes { AreSizes credits.now }
     requires pushed { cells.old.pushed ≡ [] }
     requires small { IsSmall cells.old.cells }
+    ensures refused { IfErr result (AreUnmade credits.now words.old.items (loading cells.old)) }
     ensures pushed { cells.new.pushed ≡ [] }
     ensures small { IsSmall cells.new.cells }
     ensures made { OnOk result (HasMade credits.now words.old.items words.new.items (loading cells.old)

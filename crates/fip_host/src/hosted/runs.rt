@@ -1,6 +1,6 @@
 // Runs over a machine's store: starting, stepping, running to the end, and what came of them.
 ghost use Rattle.std.specs.Prelude.{◌≡◌, ◌≢◌, ◌≤◌, ◌<◌, ◌+◌, ◌*◌, ℕ, [], Option, Some, None, Err, length, true};
-ghost use Rattle.std.specs.Prelude.{List, option_map, slice_get, IfSome, IfNone, IfOk, IfErr, OnOk};
+ghost use Rattle.std.specs.Prelude.{option_map, slice_get, IfSome, IfNone, IfOk, IfErr, OnOk};
 ghost use Rattle.fip_base.specs.declared.plain.Stack.{Stack as a_stack};
 ghost use Rattle.fip_language.specs.declared.limits.TheConstants.{MOST_FRAMES};
 ghost use Rattle.fip_language.specs.Prefix.{IsPlace};
@@ -16,18 +16,18 @@ ghost use Rattle.value_text.specs.declared.load.LoadError.TheVariants.{BadValue,
 ghost use Rattle.value_text.specs.FirstStore.{IsInOrder};
 ghost use Rattle.value_text.specs.Loaded.{types_of, needed, HasNoFree, IsLoaded};
 ghost use Rattle.fip_machine.specs.Pausing.{CanResume, stand_of};
-ghost use Rattle.fip_machine.specs.Tasks.{ended_by, state_with, IsFresh};
-ghost use Rattle.fip_machine.specs.Ending.{KnowsRun, RunsTo, IsSafeRun};
-ghost use Rattle.fip_machine.specs.GaugeView.{IsUnseen, ReportsRun};
-ghost use Rattle.fip_machine.specs.machine_cells.Small.{IsSmall, store_of};
+ghost use Rattle.fip_machine.specs.Tasks.{ended_by};
+ghost use Rattle.fip_machine.specs.Ending.{IsSafeRun};
+ghost use Rattle.fip_machine.specs.machine_cells.Small.{store_of};
 ghost use Rattle.fip_machine.specs.machine_cells.machine_semantics.Cells.{IsStore, Store};
 ghost use Rattle.cell_code.specs.Plain.{plain};
-ghost use Rattle.fip_machine.specs.machine_cells.machine_semantics.States.{Typed};
-ghost use Rattle.fip_machine.specs.machine_cells.machine_semantics.Steps.{Kinds};
 ghost use Rattle.fip_host.specs.declared.hosted.runs.TheConstants.{MOST_TEXT_BYTES};
+ghost use Rattle.fip_host.specs.Driving.{IsDriven, IsGauged};
 ghost use Rattle.fip_host.specs.Hosting.{StepsTo, RunsOn, IsAtStart, IsStarted, IsIdle, end_now, frames_of, results_of};
 ghost use Rattle.fip_host.specs.Hosting.{StandsAtStart, words_given};
-ghost use Rattle.fip_host.specs.Starting.{IsTextStarted, KeepsFromText};
+ghost use Rattle.fip_host.specs.Starting.{IsTextStarted, IsUnstarted, KeepsFromText};
+ghost use Rattle.fip_host.specs.declared.answer.Refusal.{Refusal};
+ghost use Rattle.fip_host.specs.declared.answer.Refusal.TheVariants as R;
 ghost use Rattle.fip_host.specs.Needing.{IsNeed, capped, largest_frame, places_bytes, store_bytes, words_held};
 ghost use Rattle.fip_host.specs.Statuses.{end_at, end_by, end_by_run};
 
@@ -132,21 +132,14 @@ fn is_sure(verified: &Verified, is_safe: bool, paused: &Paused) -> bool
     is_safe && paused.ended().is_none()
 }
 
-// Runs a machine whose run is safe to the end. It is no part of its caller's code, so that the registers of the processor
-// are the loop's.
+// Runs a machine whose run is safe to the end. It is no part of its caller's code, so that the registers of the
+// processor are the loop's.
 #[inline(never)]
 fn drive_sure<'a>(machine: &mut Machine<'a>, calls: u64, gauge: &mut Gauge) -> Ended
     requires safe { IsSafeRun machine.old calls }
     ensures code { machine.new.stack.code ≡ machine.old.stack.code }
-    ensures run { (kinds : Kinds) (lent : List Typed) → KnowsRun machine.old.stack.code kinds
-        (state_with machine.old.stack lent machine.old.store) calls → machine.old.stack.ended ≡ None →
-        IsSmall machine.old.store.cells → machine.old.pushed ≡ [] → RunsTo kinds (plain machine.old.stack.code.code)
-        (state_with machine.old.stack lent machine.old.store) calls result
-        (state_with machine.new.stack lent machine.new.store) machine.new.stack.given }
-    ensures gauge { IsUnseen gauge.old → (kinds : Kinds) (lent : List Typed) → KnowsRun machine.old.stack.code kinds
-        (state_with machine.old.stack lent machine.old.store) calls → IsFresh machine.old.stack →
-        IsSmall machine.old.store.cells → machine.old.pushed ≡ [] → ReportsRun kinds (plain machine.old.stack.code.code)
-        (state_with machine.old.stack lent machine.old.store) calls gauge.new }
+    ensures run { IsDriven machine.old calls machine.new result }
+    ensures gauge { IsGauged machine.old calls gauge.old gauge.new }
 {
     machine.run_sure(true, calls, gauge)
 }
@@ -156,15 +149,8 @@ fn drive_sure<'a>(machine: &mut Machine<'a>, calls: u64, gauge: &mut Gauge) -> E
 fn drive<'a>(machine: &mut Machine<'a>, is_safe: bool, calls: u64, gauge: &mut Gauge) -> Ended
     requires safe { is_safe ≡ true → IsSafeRun machine.old calls }
     ensures code { machine.new.stack.code ≡ machine.old.stack.code }
-    ensures run { (kinds : Kinds) (lent : List Typed) → KnowsRun machine.old.stack.code kinds
-        (state_with machine.old.stack lent machine.old.store) calls → machine.old.stack.ended ≡ None →
-        IsSmall machine.old.store.cells → machine.old.pushed ≡ [] → RunsTo kinds (plain machine.old.stack.code.code)
-        (state_with machine.old.stack lent machine.old.store) calls result
-        (state_with machine.new.stack lent machine.new.store) machine.new.stack.given }
-    ensures gauge { IsUnseen gauge.old → (kinds : Kinds) (lent : List Typed) → KnowsRun machine.old.stack.code kinds
-        (state_with machine.old.stack lent machine.old.store) calls → IsFresh machine.old.stack →
-        IsSmall machine.old.store.cells → machine.old.pushed ≡ [] → ReportsRun kinds (plain machine.old.stack.code.code)
-        (state_with machine.old.stack lent machine.old.store) calls gauge.new }
+    ensures run { IsDriven machine.old calls machine.new result }
+    ensures gauge { IsGauged machine.old calls gauge.old gauge.new }
 {
     if is_safe {
         drive_sure(machine, calls, gauge)
@@ -263,6 +249,7 @@ impl Hosted {
         ensures code { self.new.code ≡ self.old.code }
         ensures kept { self.new.kept ≡ self.old.kept }
         ensures starts { OnOk result (IsStarted number arguments.now frames self.old self.new) }
+        ensures refused { IfErr result (IsUnstarted number arguments.now self.old self.new) }
     {
         let Some(function) = function_in(&self.verified, number) else {
             return Err(Refusal::OutOfRange);
@@ -295,6 +282,7 @@ impl Hosted {
         ensures left { self.new.left ≡ self.old.left }
         ensures kept { self.new.kept ≡ self.old.kept }
         ensures starts { OnOk result (IsAtStart number words.items frames self.new) }
+        ensures memory { (e : Refusal) → result ≡ Err e → e ≡ R.NoMemory }
     {
         let task = begun(&self.verified, number, words, spare, frames)?;
         self.task = Some(task);

@@ -1,5 +1,5 @@
 // Values that a machine keeps between runs, by number, and printing.
-ghost use Rattle.std.specs.Prelude.{◌≡◌, ◌≢◌, ◌≤◌, ◌++◌, None, Some, IfOk, IfSome, IfNone, OnOk, OnErr, Err};
+ghost use Rattle.std.specs.Prelude.{◌≡◌, ◌≢◌, ◌≤◌, ◌++◌, None, Some, IfErr, IfOk, IfSome, IfNone, OnOk, OnErr, Err};
 ghost use Rattle.std.specs.Prelude.{false, [], length, map, take, drop};
 ghost use Rattle.std.specs.Prelude.{slice_get, slice_set};
 ghost use Rattle.fip_language.specs.Store.{Parts, Placed, value_of, values_of, word_of, words_of};
@@ -8,11 +8,12 @@ ghost use Rattle.value_text.specs.Standing.{Stands, StandAll};
 ghost use Rattle.fip_machine.specs.machine_cells.Small.{IsSmall};
 ghost use Rattle.fip_host.specs.Hosting.{IsStarted, results_of};
 ghost use Rattle.fip_host.specs.Keeping.{ArePut, HasKept, IsUsedUp, count_free, typed_words, used_by, used_up};
+ghost use Rattle.fip_host.specs.Unkept.{AreNoWords, IsNoWord, IsUnkept, IsUnstartedOn};
 ghost use Rattle.fip_host.specs.Printing.{ArePrintable, printed_results};
 ghost use Rattle.fip_host.specs.Telling.{kept_at, argument_word};
 ghost use Rattle.fip_host.specs.declared.answer.FipArgument.{FipArgument as an_argument};
 ghost use Rattle.fip_host.specs.declared.answer.Refusal.{Refusal};
-ghost use Rattle.fip_host.specs.declared.answer.Refusal.TheVariants.{NotReady, OutOfRange};
+ghost use Rattle.fip_host.specs.declared.answer.Refusal.TheVariants.{NotReady, OutOfRange, WrongValue};
 
 use super::cells::add_credits;
 use super::runs::{begun, memory_of, results_in};
@@ -40,6 +41,7 @@ fn is_bare(types: &TypeTable, ty: u32, word: u64) -> bool {
 // The word of an argument that isn't kept: an int, or a constructor without fields.
 fn bare_word(types: &TypeTable, ty: u32, word: u64) -> Result<u64, Refusal>
     ensures same { IfOk result (λ w. w ≡ word) }
+    ensures wrong { (e : Refusal) → result ≡ Err e → e ≡ WrongValue }
 {
     if ty == 0 || is_bare(types, ty, word) {
         Ok(word)
@@ -90,6 +92,7 @@ fn word_of(
 ) -> Result<u64, Refusal>
     ensures is { IfOk result (λ w. (a : an_argument) × (slice_get arguments.now i ≡ Some a)
         × (w ≡ argument_word kept.now a)) }
+    ensures refused { IfErr result (IsNoWord kept.now params.now arguments.now i) }
 {
     let (Some(param), Some(argument)) = (params.get(i), arguments.get(i)) else {
         return Err(Refusal::OutOfRange);
@@ -114,7 +117,9 @@ fn add_words(
     arguments: &[FipArgument],
     words: &mut Vec<u64>,
 ) -> Result<(), Refusal>
+    requires many { length arguments.now ≡ length params.now }
     ensures words { OnOk result (words.new.items ≡ words.old.items ++ map (argument_word kept.now) arguments.now) }
+    ensures refused { IfErr result (AreNoWords kept.now arguments.now) }
 {
     for i in 0..arguments.len() {
         words.push(word_of(types, kept, params, arguments, i)?)?;
@@ -157,7 +162,10 @@ fn can_take(
     kept: &[Option<Kept>],
     params: &[Param],
     arguments: &[FipArgument],
-) -> Result<(), Refusal> {
+) -> Result<(), Refusal>
+    requires many { length arguments.now ≡ length params.now }
+    ensures refused { IfErr result (AreNoWords kept.now arguments.now) }
+{
     for i in 0..arguments.len() {
         word_of(types, kept, params, arguments, i)?;
     }
@@ -245,6 +253,7 @@ impl Hosted {
             self.new) }
         ensures uses { OnOk result (IsUsedUp number arguments.now self.old self.new) }
         ensures kept { OnErr result (self.new.kept ≡ self.old.kept) }
+        ensures refused { IfErr result (IsUnstartedOn number arguments.now self.old) }
     {
         let Some(function) = function_in(&self.verified, number) else {
             return Err(Refusal::OutOfRange);
@@ -282,6 +291,7 @@ impl Hosted {
         ensures keeps { IfOk result (λ n. HasKept self.old self.new (take n numbers.new)) }
         ensures rest { IfOk result (λ n. drop n numbers.new ≡ drop n numbers.old) }
         ensures ready { result ≡ Err NotReady → results_of self.old ≡ None }
+        ensures refused { IfErr result (IsUnkept numbers.old self.old) }
         ensures same { OnErr result (self.new ≡ self.old) }
     {
         let Some(words) = results_in(&self.task, self.is_open) else {

@@ -1,6 +1,6 @@
--- What `eval`, `exec` and `gen` come to, by what an evaluation gives.
--- The idea: a command's end is one of its source once the file is there; a source that has the entry isn't refused; and what
--- is then done ends with one thing.
+-- What `eval`, `exec` and `gen` end in, by what an evaluation gives.
+-- The idea: a command's end is one of its source once the file is there; a source that has the entry isn't refused; and
+-- what is then done ends with one thing.
 use Rattle.std.proofs.Common.{◌≡◌, ◌∙◌, ◌≤◌, ℕ, Bool, false, List, Option, Some, length, refl, sym, subst, arith}
 use Rattle.std.specs.Prelude.{Ok, Err}
 use Rattle.command_answers.specs.fip_outside.Files.{File}
@@ -33,7 +33,7 @@ use Rattle.answer_correctness.specs.Evaluations.{IsEvaluated, IsExecuted}
 
 -- ---- on the source
 
--- what is done once a source that has what is wanted is there, and the input isn't too long
+-- what is done once a source that has what is required is there, and the input isn't too long
 done : (source input : List ℕ) (c : Command) (w : Wanted) (e : End) → IsReady source w → length input ≤ MOST_FILE_BYTES → OnSource source input c w e → Does source input c e
 done source input c w _ ready short (A.Refused r h) = absurd (refused_not_ready source w r h ready)
 done source input c w _ ready short (A.LongInput again reads more) = absurd (omega (arith, more, short))

@@ -1,4 +1,4 @@
--- What a command comes to: by the constructors of what it does, after the file that it fetches.
+-- What a command ends in: by the constructors of what it does, after the file that it fetches.
 use Rattle.std.proofs.Common.{◌≡◌, ◌<◌, ℕ, List, Some, None, refl, sym, subst, inl, length}
 use Rattle.std.specs.Prelude.{Option, Err}
 use Rattle.command_answers.specs.command_library.fip_language.declared.limits.TheConstants.{MOST_SOURCE_BYTES}
@@ -23,7 +23,7 @@ fetched files input name c f o e k h =
 pub missing : (files : List File) (input : List ℕ) (c : Command) (name : List ℕ) → fetched_name c ≡ Some name → file_of name files ≡ None → ComesTo files input c (Err (F.Fault O.Folder))
 missing files input c name e k = fetched files input name c None _ e k refl
 
--- a source of which all rules are asked
+-- a source of which all rules are checked
 on_source : (files : List File) (bytes input : List ℕ) (c : Command) (w : Wanted) (o : End) → wanted c ≡ Some w → OnSource bytes input c w o → OnFile files bytes input c o
 on_source files bytes input (Check file) w o e h = subst (λ x. OnWanted bytes input (Check file) x o) (sym e) h
 on_source files bytes input (Compile file out) w o e h = subst (λ x. OnWanted bytes input (Compile file out) x o) (sym e) h

@@ -1,4 +1,4 @@
--- Each source is refused or has what a command wants, and so each command is never without an end.
+-- Each source is refused or has what a command requires, and so each command is never without an end.
 -- The idea: a source that has no report is accepted; and of an accepted one its roots are searched for the entry.
 use Rattle.std.proofs.Common.{◌≡◌, ◌≤◌, ◌<◌, inl, inr, ℕ, List, Option, Some, None, length, refl, sym, ◌∙◌}
 use Rattle.std.specs.Prelude.{◌⊎◌, Ok, Err}
@@ -37,7 +37,7 @@ use Rattle.answer_correctness.proofs.TracedRuns.{traced}
 abbrev IsAnswered : List ℕ → Wanted → Type 0
 IsAnswered source w = ((r : Refusal) × Refuses source w r) ⊎ IsReady source w
 
--- an accepted program has what is wanted, or misses it
+-- an accepted program has what is required, or misses it
 misses_or_has : (w : Wanted) (p : Program) → ((r : Refusal) × Misses w p r) ⊎ Has w p
 misses_or_has Lawful p = inr tt
 misses_or_has (Root name) p = by (root_named name p.instances)

@@ -1,8 +1,8 @@
--- What `run` reports of the file of a code is what `exec` reports of the source of which it is the code, by what is asked of a
--- code alone.
--- The idea: `run` reports one thing, wherever the cells of the arguments lie; so the run may be that from the state in which
--- they are loaded, which ends as the program means, with its peak; and its cells are counted by trees, as of every sound
--- code.
+-- What `run` reports of the file of a code is what `exec` reports of the source of which it is the code, by what is
+-- required of a code alone.
+-- The idea: `run` reports one thing, wherever the cells of the arguments lie; so the run may be that from the state in
+-- which they are loaded, which ends as the program means, with its peak; and its cells are counted by trees, as of
+-- every sound code.
 use Rattle.std.proofs.Common.{◌≡◌, ◌∙◌, ◌<◌, ◌≤◌, ◌+◌, ℕ, Bool, true, List, [], ◌++◌, length, Some, slice_get, refl, sym, ap, subst, arith}
 use Rattle.std.specs.Prelude.{Ok, Err}
 use Rattle.std.proofs.lemmas.Option.{same_Some}

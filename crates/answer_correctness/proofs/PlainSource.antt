@@ -1,6 +1,6 @@
 -- A source whose functions are all plain has a code, which has no functions.
--- The idea: no instance of its program has a header or a function, so what is asked of these is asked of none; its types are
--- sound and have a text, as those of each accepted source.
+-- The idea: no instance of its program has a header or a function, so what is required of these is required of none;
+-- its types are sound and have a text, as those of each accepted source.
 use Rattle.std.proofs.Common.{◌≡◌, ◌∙◌, ℕ, zero, suc, Bool, true, false, List, [], ◌∷◌, map, Some, None, slice_get, get_or, is_some, refl, sym, ap}
 use Rattle.std.proofs.lemmas.Option.{none-some}
 use Rattle.command_answers.specs.command_library.fip_language.declared.FunKind.TheVariants.{Fun}

@@ -1,4 +1,4 @@
--- A refused source comes to its refusal alone: a source has one refusal at most, and one that is ready has none.
+-- A refused source ends in its refusal alone: a source has one refusal at most, and one that is ready has none.
 use Rattle.std.proofs.Common.{◌≡◌, ℕ, List, ap}
 use Rattle.std.specs.Prelude.{Err}
 use Rattle.command_answers.specs.command_library.fip_base.declared.refusal.Refusal.{Refusal}

@@ -1,4 +1,4 @@
--- A command on a source that is there has an end, where the source is refused or has what the command wants.
+-- A command on a source that is there has an end, where the source is refused or has what the command requires.
 use Rattle.std.proofs.Common.{◌≡◌, ◌∙◌, ◌≤◌, ◌<◌, inl, inr, ℕ, List, Some, length, refl, sym, subst}
 use Rattle.std.specs.Prelude.{◌⊎◌, Ok, Err}
 use Rattle.std.proofs.lemmas.Option.{same_Some}
@@ -31,7 +31,7 @@ use Rattle.answer_correctness.proofs.SomeTurns.{some_turns}
 use Rattle.answer_correctness.proofs.SomeVerdict.{some_audit}
 use Rattle.answer_correctness.proofs.SomeSource.{evaluated, executed, listed, derivable, named_text, generated}
 
--- ---- on a source that has what is wanted
+-- ---- on a source that has what is required
 
 listing_end : (source : List ℕ) → IsReady source Lawful → (e : End) × A.ListsRoots source e
 listing_end source h = let l = listed source h in (Ok l.0, l.1)

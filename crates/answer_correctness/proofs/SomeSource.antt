@@ -1,7 +1,7 @@
--- A source that has what a command wants: its roots are listed, its derivation is made or too long, and its entry is
+-- A source that has what a command requires: its roots are listed, its derivation is made or too long, and its entry is
 -- evaluated and run, whatever the input is.
--- The idea: a text is one of the entry's arguments or goes wrong at a place; an accepted source is never stuck; and a root
--- is one instance, whose stack number is the least.
+-- The idea: a text is one of the entry's arguments or goes wrong at a place; an accepted source is never stuck; and a
+-- root is one instance, whose stack number is the least.
 use Rattle.std.proofs.Common.{◌≡◌, ◌∙◌, ◌≤◌, ◌<◌, ◌++◌, inl, inr, ℕ, Bool, List, Option, Some, None, length, refl, sym, ap, subst}
 use Rattle.std.specs.Prelude.{◌⊎◌, Ok, Err, codes, option_and_then}
 use Rattle.command_answers.proofs.command_library.fip_language.Search.{le_or_less}
@@ -149,7 +149,7 @@ module _ (source name : List ℕ) (p : Program) (accepted : IsAccepted source p)
         by (inl (vs, spelt)) = fitting vs spelt
         by (inr (at, place)) = (Err (F.BadInput at), X.Misspelt y at place)
 
--- ---- what is wanted
+-- ---- what is required
 
 root_in : (o : Option Instance) → IsRoot o → (d : Instance) × (o ≡ Some d)
 root_in None h = absurd h

@@ -1,5 +1,5 @@
 -- A session of a source that breaks no rule replies to each line.
--- Idea: where no other cause holds the next is asked; what is held has its type, so no call is stuck.
+-- Idea: where no other cause holds the next is checked; what is held has its type, so no call is stuck.
 use Rattle.std.proofs.Common.{◌≡◌, ◌≢◌, ◌∙◌, ◌<◌, ◌≤◌, ◌++◌, inl, inr, ℕ, zero, suc, Bool, true, false, List, [], ◌∷◌, length, map, Option, Some, None, slice_get, if◌then◌else◌, refl, sym, subst, arith}
 use Rattle.std.specs.Prelude.{◌⊎◌, Ok, Err, codes}
 use Rattle.std.specs.Fmt.{decimal}

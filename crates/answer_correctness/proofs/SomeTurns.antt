@@ -1,5 +1,5 @@
--- A list of tasks of a source that breaks no rule comes to something: each line is a task, or one is the first that is none;
--- the store has the words, or too few; and each task has an answer, since no accepted source is stuck.
+-- A list of tasks of a source that breaks no rule ends in something: each line is a task, or one is the first that is
+-- none; the store has the words, or too few; and each task has an answer, since no accepted source is stuck.
 use Rattle.std.proofs.Common.{◌≡◌, ◌+◌, ◌<◌, ◌≤◌, ◌++◌, inl, inr, ℕ, suc, List, [], ◌∷◌, length, map, Some, slice_get, refl, arith}
 use Rattle.std.specs.Prelude.{◌⊎◌, Ok, Err, codes}
 use Rattle.std.specs.Fmt.{decimal}

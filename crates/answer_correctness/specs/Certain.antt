@@ -1,6 +1,7 @@
--- The commands on a source of which an end is shown wherever the source is refused or has what they want, whatever the
--- input is: `check`, `exec`, `eval` and `derive`. And what `compile` and `trace` want besides, since they store or run a code
--- of their source: that there is one, where the source is accepted. The other commands want nothing besides.
+-- The commands on a source of which an end is shown wherever the source is refused or has what they require, whatever
+-- the input is: `check`, `exec`, `eval` and `derive`. And what `compile` and `trace` require besides, since they store
+-- or run a code of their source: that there is one, where the source is accepted. The other commands require nothing
+-- besides.
 use Rattle.std.specs.Prelude.{◌≡◌, ℕ, List, Some}
 use Rattle.command_answers.specs.fip_outside.Files.{File, file_of}
 use Rattle.command_answers.specs.command_library.command_source.Wanted.{Lawful, IsReady}

@@ -1,5 +1,5 @@
--- That `eval` and `exec` are asked for what is asked of a source: the source is the command's file, its entry is the name,
--- and the input isn't too long. `exec` prints no gauge, and its entry isn't plain.
+-- That `eval` and `exec` are asked for what is required of a source: the source is the command's file, its entry is the
+-- name, and the input isn't too long. `exec` prints no gauge, and its entry isn't plain.
 use Rattle.std.specs.Prelude.{◌≡◌, ◌≤◌, ℕ, false, List, Some, length}
 use Rattle.command_answers.specs.fip_outside.Files.{File, file_of}
 use Rattle.command_answers.specs.command_library.fip_language.declared.FunKind.TheVariants.{Fun}

@@ -1,5 +1,5 @@
-// What commands come to on a source without any text, and on the file of its code: nothing is asked for them. Each theorem
-// is the contract of a function that does nothing.
+// What commands end in on a source without any text, and on the file of its code: nothing is asked for them. Each
+// theorem is the contract of a function that does nothing.
 ghost use Rattle.std.specs.Prelude.{◌≡◌, ℕ, List, [], ◌∷◌, Some, Ok, Err, codes};
 ghost use Rattle.command_answers.specs.command_library.fip_language.declared.rule.Rule.TheVariants.{E70};
 ghost use Rattle.command_answers.specs.fip_outside.Files.{File, file_of};

@@ -1,6 +1,6 @@
-// What `eval` and `exec` come to by what the evaluation of an instance gives, so that what is proved of an evaluation holds
-// of both commands; and what `gen` comes to. Theorems on what the words of a call come to, each the contract of a function
-// that does nothing.
+// What `eval` and `exec` end in by what the evaluation of an instance gives, so that what is proved of an evaluation
+// holds of both commands; and what `gen` ends in. Theorems on what the words of a call end in, each the contract of a
+// function that does nothing.
 ghost use Rattle.std.specs.Prelude.{◌≡◌, ◌≤◌, ℕ, List, Ok};
 ghost use Rattle.command_answers.specs.fip_outside.Files.{File};
 ghost use Rattle.command_answers.specs.command_library.fip_language.declared.TrapKind.{TrapKind as a_trap};

@@ -19,7 +19,7 @@ ghost use Rattle.worked_examples.specs.fip_trees.Tree.{Instance, Program};
 ghost use Rattle.worked_examples.specs.source_report.Report.{bare, IsAccepted};
 ghost use Rattle.answer_correctness.specs.Certain.{IsCertain, IsCoded};
 
-/// `check`, `exec`, `eval` and `derive` have an answer on a source that is refused, or has what the command wants,
+/// `check`, `exec`, `eval` and `derive` have an answer on a source that is refused, or has what the command requires,
 /// whatever the input is. For who asks whether a command may be without one.
 pub fn a_source_has_an_answer()
     ensures theorem { (files : List File) (source input name : List ℕ) (c : Command) (w : Wanted) →
@@ -50,8 +50,8 @@ pub fn a_plain_source_has_a_code()
         (code : PlainCode) × IsSourceCode source code }
 {}
 
-/// Each source is refused or has what is wanted, for whatever is wanted: no source is without both (`some`) or has both
-/// (`apart`), and it has one refusal at most (`one`). For who asks whether some source is left without a verdict.
+/// Each source is refused or has what is required, for whatever is required: no source is without both (`some`) or has
+/// both (`apart`), and it has one refusal at most (`one`). For who asks whether some source is left without a verdict.
 pub fn each_source_is_refused_or_ready()
     ensures some { (source : List ℕ) (w : Wanted) → ((r : a_refusal) → Refuses source w r → ⊥) →
         (IsReady source w → ⊥) → ⊥ }
@@ -60,15 +60,15 @@ pub fn each_source_is_refused_or_ready()
 {}
 
 /// No command is without an answer, whatever the files and the input are. Of `compile` and `trace` it is so where an accepted
-/// source has a code (`IsCoded`). For who asks whether a call may come to nothing.
+/// source has a code (`IsCoded`). For who asks whether a call may end in nothing.
 pub fn each_command_has_an_answer()
     ensures theorem { (words : List (List ℕ)) (files : List File) (input : List ℕ) (c : Command) → IsCommand words c →
         IsCoded files c → ((e : an_end) → ComesTo files input c e → ⊥) → ⊥ }
 {}
 
-/// An end has a whole answer, whatever stood on out and err before: it is shown, and where it is a text what the command
-/// makes is put under its name. So what was said of ends holds of status, texts and files. For who asks whether a command
-/// may be without an answer.
+/// An end has a whole answer, whatever was on out and err before: it is shown, and where it is a text what the command
+/// makes is put under its name. So what was said of ends holds of status, texts and files. For who asks whether a
+/// command may be without an answer.
 pub fn an_end_has_a_whole_answer()
     ensures theorem { (c : Command) (files : List File) (input out err : List ℕ) (e : an_end) → ComesTo files input c e →
         ((text : List ℕ) → e ≡ Ok text → (bytes : List ℕ) × IsMadeBy c (Some input) (Some files) bytes) →

@@ -63,8 +63,8 @@ pub fn a_source_is_answered()
         IsTaken c input → Does source input c e → ComesTo files input c e }
 {}
 
-/// What is asked of a listing, of a code, of an evaluation and of a derivation is enough. For who asks whether a command
-/// can be done.
+/// What is required of a listing, of a code, of an evaluation and of a derivation is enough. For who asks whether a
+/// command can be done.
 pub fn a_ready_source_is_used()
     ensures check { (source input text file : List ℕ) → IsListing source text → Does source input (Check file) (Ok text) }
     ensures compile { (source input text name out : List ℕ) → IsListing source text →
@@ -79,8 +79,8 @@ pub fn a_ready_source_is_used()
         Does source input (Derive name out) (Err (F.Refused (bare E74))) }
 {}
 
-/// What is asked of a run, of a trace and of tasks is enough; what keeps a run from its values keeps a trace from them. For
-/// who asks whether an entry can be run.
+/// What is required of a run, of a trace and of tasks is enough; what keeps a run from its values keeps a trace from
+/// them. For who asks whether an entry can be run.
 pub fn a_ready_entry_is_run()
     ensures misspelt { (source input : List ℕ) (r : Request) (y : an_entry source r.entry) (at : ℕ) →
         IsPlace (Spells y) input at → Does source input (Exec r) (Err (F.BadInput at)) }

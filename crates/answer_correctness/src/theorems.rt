@@ -42,7 +42,7 @@ ghost use Rattle.answer_correctness.specs.Alike.{Finds, AreAlike};
 ghost use Rattle.answer_correctness.specs.Example.{three_items, reversing, four_lines, increasing, increased_lines};
 ghost use Rattle.answer_correctness.specs.Example.{cons, nil, three_keys, weakened, weakened_in_vain, weakened_twice};
 
-/// Words that are no command are answered with status 2, or 10 for want of memory. For who calls the program with any
+/// Words that are no command are answered with status 2, or 10 where memory ran out. For who calls the program with any
 /// words.
 pub fn no_command_has_one_answer()
     ensures theorem { (words : List (List ℕ)) (files : List File) (input : List ℕ) (h : Host) → IsNoCommand words →
@@ -69,14 +69,14 @@ pub fn a_failure_leaves_out_and_files()
         Answered words files input h → h.status ≡ 0 → h.err' ≡ h.err }
 {}
 
-/// A source that is refused comes to nothing else, whatever the command does with accepted ones: the causes exclude
+/// A source that is refused ends in nothing else, whatever the command does with accepted ones: the causes exclude
 /// each other. For who reads a report.
 pub fn a_refused_source_is_reported()
     ensures theorem { (source input : List ℕ) (c : Command) (w : Wanted) (r : a_refusal) (e : an_end) →
         Refuses source w r → OnSource source input c w e → e ≡ Err (F.Refused r) }
 {}
 
-/// The reversal of three items, with the gauge, comes to its four lines; with 3 calls it is out of calls, and with 4 it
+/// The reversal of three items, with the gauge, ends in its four lines; with 3 calls it is out of calls, and with 4 it
 /// is not. An fbip function has no bound, and a call of it that waits holds a frame. For who wants to see the numbers.
 #[tactic(auto, using(crate::proofs::Examples::computed))]
 pub fn an_example_of_exec()
@@ -105,7 +105,7 @@ pub fn an_example_of_gen()
     ensures none { lines_of_tree 1 nil ≡ tree_text 1 0 None }
 {}
 
-/// A node of a derivation that leaves something out may stand, but not in vain, and not below another. For who reads
+/// A node of a derivation that leaves something out may occur, but not in vain, and not below another. For who reads
 /// derivations that were made.
 #[tactic(auto, using(crate::proofs::Examples::computed))]
 pub fn an_example_of_weakening()
@@ -130,7 +130,7 @@ pub fn a_code_is_no_longer_than_its_program_allows()
         MOST_FILE_BYTES < most_bytes p }
 {}
 
-/// What runs of a function of a program's code hold of the stack at the most is what the groups tell of its instance,
+/// What runs of a function of a program's code hold of the stack at the most is what the groups report of its instance,
 /// and a run that gives words held as many frames as the instance means. For who compares the gauge of `exec` with that
 /// of `run`.
 pub fn a_code_holds_what_its_program_does()
@@ -151,9 +151,9 @@ pub fn a_code_of_a_source_is_one_of_its_program()
     ensures theorem { (source : List ℕ) (code : PlainCode) → (h : IsCodeOfSource source code) → IsCodeOf h.program code }
 {}
 
-/// `run` on the file of a code of a source's program reports what `exec` reports of the source, with the same entry, input and
-/// options, gauge lines included, whatever code it is. It rests on what is asked of a code alone. For who ships a code
-/// file in place of its source, or writes another compiler.
+/// `run` on the file of a code of a source's program reports what `exec` reports of the source, with the same entry,
+/// input and options, gauge lines included, whatever code it is. It rests on what is required of a code alone. For who
+/// ships a code file in place of its source, or writes another compiler.
 pub fn a_file_of_a_code_runs_as_its_source()
     ensures theorem { (source file name input : List ℕ) (room : Room) (gauge : Bool) (p : Program) (code : PlainCode)
         (d e : an_end) → IsAccepted source p → IsCodeOf p code → IsSoundFile file code →

@@ -81,7 +81,7 @@ visits_rise_push vs u r h i j v w l a b = elim (at_push vs u j w b) [
   ]
 ]
 
--- a visit stands on the path
+-- a visit is on the path
 visit_within : (rs : List (List Call)) (ss : List Standing) (path pieces : List ℕ) (vs : List Visit) → Stands rs ss path pieces vs → (v : Visit) → In v vs → v.place < length path
 visit_within rs ss path pieces vs s v i = slice_get_within path v.place v.function (s.visited v i)
 

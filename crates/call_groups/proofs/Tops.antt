@@ -28,7 +28,7 @@ piece_place rs ss path pieces vs v s p h =
       | inr e ↦ let l : o.0.place ≡ v.place = ap (λ (w : Visit). w.place) e in let m : o.0.place ≡ p = o.2 in omega arith
     ]
 
--- the last visit comes to another of its calls
+-- the last visit reaches another of its calls
 rise_again : (vs : List Visit) (f p m n : ℕ) →
     ((i j : ℕ) (v w : Visit) → i < j → slice_get (vs ++ visit f p m ∷ []) i ≡ Some v → slice_get (vs ++ visit f p m ∷ []) j ≡ Some w → v.place < w.place) →
     (i j : ℕ) (v w : Visit) → i < j → slice_get (vs ++ visit f p n ∷ []) i ≡ Some v → slice_get (vs ++ visit f p n ∷ []) j ≡ Some w → v.place < w.place

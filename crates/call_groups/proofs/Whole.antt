@@ -312,7 +312,7 @@ joined_take old q n r c =
       rise = λ h i j x y l a b. h i j x y l (at_take n old i x a).1 (at_take n old j y b).1;
     }
 
--- a place that cuts: what stands before it is no greater than the element in front of it
+-- a place that cuts: what is before it is no greater than the element in front of it
 pub cuts_at : (pieces : List ℕ) (q n s : ℕ) → Rises pieces → slice_get pieces n ≡ Some s → s ≤ q → ((i x : ℕ) → n + 1 ≤ i → slice_get pieces i ≡ Some x → q < x) → Cuts pieces q (n + 1)
 cuts_at pieces q n s r at l h =
     let w : n < length pieces = slice_get_within pieces n s at in

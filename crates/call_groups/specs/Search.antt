@@ -56,7 +56,7 @@ pub record Found (rs : List (List Call)) (ss : List Standing) (order : List ℕ)
 abbrev pub Keeps : List ℕ → ℕ → ℕ → Type 0
 Keeps pieces p q = (s : ℕ) → In s pieces → s ≤ p → s ≤ q
 
--- What is known of a callee whose call was followed from place p of the path: it isn't new, and where it stands on the
+-- What is known of a callee whose call was followed from place p of the path: it isn't new, and where it is on the
 -- path, no piece begins after it and up to p.
 abbrev pub Settles : List ℕ → ℕ → Option Standing → Type 0
 Settles pieces p None = Unit {0}
@@ -176,7 +176,7 @@ pub record IsCalling (rs : List (List Call)) (s : Search) (f p callee next : ℕ
   pub sound : IsSound rs s (s.visits.items ++ visit f p at ∷ [])
   pub is_new : IsNew s.standings.items callee
 
--- what following a call of a function that stands so does to the pieces
+-- what following a call of a function that is so does to the pieces
 abbrev pub JoinsBy : Option Standing → List ℕ → List ℕ → Type 0
 JoinsBy None old new = new ≡ old
 JoinsBy (Some New) old new = new ≡ old

@@ -66,7 +66,7 @@ pub record AreStacks (rs : List (List Call)) (frames : List (Option ℕ)) (ss : 
   pub least_frames : LeastSolution (FramedCalls rs frames) base_frames own_frames (frames_in ss)
   pub least_words : LeastSolution (FramedCalls rs frames) (frame_words frames) (frame_words frames) (words_in ss)
 
--- What is asked: the groups are those of these calls, each function has a frame or none, one with a frame calls such
+-- What is required: the groups are those of these calls, each function has a frame or none, one with a frame calls such
 -- ones alone, and those that it waits for are of other groups.
 pub record AreAsked (rs : List (List Call)) (p : Partition) (frames : List (Option ℕ)) : Type 0 where
   pub groups : IsPartition rs p

@@ -1,5 +1,5 @@
 // Groups of functions that call each other, by one search in depth. The functions on the way from where the search
-// began stand on a path, which is cut into pieces whose functions reach each other. A call back into the path joins
+// began are on a path, which is cut into pieces whose functions reach each other. A call back into the path joins
 // the pieces from there on. Where all calls of the last piece were followed, it is a group. (H. N. Gabow, Path-based
 // depth-first search for strong and biconnected components, Information Processing Letters 74, 2000.)
 ghost use Rattle.std.specs.Prelude.{◌≡◌, ◌↔◌, ◌+◌, ◌<◌, ◌≤◌, [], ◌∷◌, ◌++◌, length, set, slice_get, replicate};
@@ -26,7 +26,7 @@ pub struct Call {
 pub enum Standing {
     /// It wasn't met yet.
     New,
-    /// It stands on the path, in this place.
+    /// It is on the path, in this place.
     OnPath(usize),
     /// It belongs to the group of this number.
     Grouped(usize),
@@ -83,7 +83,7 @@ struct Visit {
     next: usize,
 }
 
-// Where the search stands.
+// Where the search is.
 #[derive(Drop)]
 struct Search {
     standings: Vec<Standing>,

@@ -13,8 +13,8 @@ use std::alloc::Global;
 
 /// What a run of each function holds of the stack at the most, given the words of its frame; none for a function
 /// without a frame. These are the least numbers such that a function holds its frame, and what each of its calls holds,
-/// together with its frame where that waits. `groups` are those of these calls; a function with a frame is asked to
-/// call such ones alone, and to wait for none of its group. There is one entry for each entry of `frames`. NoMemory: no
+/// together with its frame where that waits. `groups` are those of these calls; a function with a frame must
+/// call such ones alone, and wait for none of its group. There is one entry for each entry of `frames`. NoMemory: no
 /// memory is left, or a number can't be held.
 pub fn stacks(
     alloc: Global,

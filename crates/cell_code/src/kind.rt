@@ -42,7 +42,7 @@ impl Constructors {
     }
 }
 
-/// Where a lent word came from: it is a field, from 0, of the cell in a register.
+/// Where a borrowed word came from: it is a field, from 0, of the cell in a register.
 #[derive(Clone, Copy, PartialEq, Eq)]
 pub struct From {
     pub register: u16,

@@ -86,7 +86,7 @@ kept_put ws ms ns ss n r l p v k there live e =
     let exact = k.counted.exact (size v) few in
     omega (arith, total, room, some, exact)
 
--- what taking a released cell again comes to
+-- what taking a released cell again gives
 pub record Retakes (ws ns : List ℕ) (p tag : ℕ) (fs : List ℕ) (cell : Cell) : Type 0 where
   pub is : cell_at (parse 0 ws) p ≡ Some cell
   pub size : size_of cell ≡ length fs

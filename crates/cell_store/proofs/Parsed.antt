@@ -273,7 +273,7 @@ over_head (w ∷ ws) zero h fs = refl
 over_head [] (suc p) h fs = refl
 over_head (w ∷ ws) (suc p) h fs = ap (λ xs. w ∷ xs) (over_head ws p h fs)
 
--- what is asked of a caller, as a cell
+-- what is required of a caller, as a cell
 pub there : (o : Option Cell) → o ≢ None → (c : Cell) × (o ≡ Some c)
 there None h = absurd (h refl)
 there (Some c) h = (c, refl)
@@ -297,7 +297,7 @@ pub record Known (n : ℕ) (ws : List ℕ) (p : ℕ) : Type 0 where
 pub known : (n : ℕ) (ws : List ℕ) (p : ℕ) → Laid n ws → cell_at (parse n ws) p ≢ None → Known n ws p
 known n ws p l h = let t = there (cell_at (parse n ws) p) h in record { cell = t.0; is = t.1; found = found n ws p t.0 l t.1 }
 
--- a header is read alike whatever stands past the words
+-- a header is read alike whatever is past the words
 pub read_twice : (ws : List ℕ) (p : ℕ) → Laid 0 ws → cell_at (parse 0 ws) p ≢ None → get_or ws p 0 ≡ get_or ws p (get_or ws p 0)
 read_twice ws p l h =
     let f = (known 0 ws p l h).found in

@@ -21,7 +21,7 @@ one_free_in k (Some c) (Some r) = one_free k c r
 abbrev pub free_at : ℕ → Cells → List Bool → ℕ → ℕ
 free_at k cells released p = one_free_in k (cell_at cells p) (slice_get released p)
 
--- Each released cell of size k stands in the stack once, and there is room for all cells of that size.
+-- Each released cell of size k is in the stack once, and there is room for all cells of that size.
 pub record IsFree (cells : Cells) (released : List Bool) (k : ℕ) (stack : Stack) : Type 0 where
   pub once : (p : ℕ) → count p stack.places ≡ free_at k cells released p
   pub total : length stack.places ≡ count_free k cells released

@@ -20,7 +20,7 @@ pub record IsRetaken (old new : Loading) (p : ℕ) (c : Cell) : Type 0 where
   pub released : new.released ≡ slice_set old.released p false
   pub left : new.left ≡ old.left
 
--- The cell stands after all others.
+-- The cell is after all others.
 pub record IsAppended (old new : Loading) (p : ℕ) (c : Cell) : Type 0 where
   pub place : p ≡ length old.cells
   pub cells : new.cells ≡ old.cells ++ Some c ∷ replicate (size_of c) None

@@ -111,7 +111,7 @@ fn put_within(words: &mut Vec<u64>, new: &[u64])
     }
 }
 
-// Puts the words of a cell after the others, for which there is room. The usual sizes are told apart, so that their
+// Puts the words of a cell after the others, for which there is room. The usual sizes are distinguished, so that their
 // words are moved at once.
 #[inline(always)]
 fn put_words(words: &mut Vec<u64>, header: u64, fields: &[u64])

@@ -111,7 +111,7 @@ impl Loader {
 
     /// Makes a cell of 1 to 16 fields and answers its place: a released cell of that size where there is one, else one
     /// after all others. `Full` exactly where no cell of that size is released and fewer words are left than one more
-    /// than the fields; `NoMemory` where the memory for a further cell is wanting, which a released one never needs.
+    /// than the fields; `NoMemory` where no memory is left for a further cell, which a released one never needs.
     #[inline(always)]
     pub fn cell(&mut self, tag: u32, fields: &[u64]) -> Result<u32, CellError>
         requires some { 0 < length fields.now }

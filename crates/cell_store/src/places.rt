@@ -68,7 +68,7 @@ impl Places {
     }
 }
 
-/// How many places stand in the stack of a size.
+/// How many places are in the stack of a size.
 pub fn count_of(stacks: &[Places], size: usize) -> usize
     ensures { result ≡ length (stack_at stacks.now size).places }
 {

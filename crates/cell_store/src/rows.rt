@@ -152,7 +152,7 @@ impl RowLoader {
     }
 
     /// Makes a cell of 1 to 16 fields and answers its place, the number of cells before it. `Full` exactly where fewer
-    /// words are left than one more than the fields; `NoMemory` where the memory for the cell is wanting.
+    /// words are left than one more than the fields; `NoMemory` where no memory is left for the cell.
     pub fn cell(&mut self, tag: u32, fields: &[u64]) -> Result<u32, CellError>
         requires some { 0 < length fields.now }
         requires few { length fields.now ≤ MOST_FIELDS }

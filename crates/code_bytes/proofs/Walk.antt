@@ -1,5 +1,5 @@
--- Each instruction of a function that is laid out as its instance's body asks lists no more registers than the body is
--- wide, twice for a call with its destinations, and the credits that a call hands over.
+-- Each instruction of a function that is laid out as its instance's body requires lists no more registers than the body
+-- is wide, twice for a call with its destinations, and the credits that a call hands over.
 use Rattle.std.proofs.Common.{◌≡◌, inl, inr, ℕ, zero, suc, ◌+◌, ◌*◌, ◌<◌, ◌≤◌, max, Bool, true, false, List, [], ◌∷◌, ◌++◌, slice_get, length, Some, refl, sym, ap, ◌∙◌, subst, arith, true≢false}
 use Rattle.std.proofs.lemmas.Option.{none-some, same_Some}
 use Rattle.std.proofs.lemmas.List.{length-append}

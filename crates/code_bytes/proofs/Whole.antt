@@ -1,4 +1,5 @@
--- The functions of a code that is laid out as a program asks list as few registers as the program's instances tell.
+-- The functions of a code that is laid out as a program requires list as few registers as the program's instances
+-- report.
 use Rattle.std.proofs.Common.{◌≡◌, ◌∙◌, ◌≤◌, ℕ, zero, suc, max, List, [], ◌∷◌, length, Some, slice_get, sym, ap, subst, arith}
 use Rattle.std.proofs.lemmas.Option.{none-some, same_Some}
 use Rattle.fip_trees.specs.Tree.{Instance, Program}

@@ -19,7 +19,7 @@ instr_bytes operands = 16 + 2 * operands
 abbrev pub label_bytes : ℕ → ℕ → ℕ
 label_bytes n registers = 4 + registers * (10 + 4 * n)
 
--- what stands before the instructions, with the numbers of instructions and of label maps
+-- what is before the instructions, with the numbers of instructions and of label maps
 abbrev pub header_bytes : Instance → ℕ
 header_bytes d = 19 + length d.name + 3 * length d.params + length d.credits + 2 * length d.results
 

@@ -1,5 +1,5 @@
 -- How wide an instance is: the most arguments of a call, a constructor or a tuple, parts of a pattern, and binders of a
--- let, that stand in its body; one at the least for a single result.
+-- let, that are in its body; one at the least for a single result.
 --
 -- `match! xs { Nil -> acc; Cons(x, t) -> rev(t, Cons(x, acc)) }` has width 2.
 use Rattle.std.specs.Prelude.{ℕ, suc, max, length}
@@ -16,7 +16,7 @@ abbrev pub count_patterns : Patterns → ℕ
 count_patterns NoPatterns = 0
 count_patterns (MorePatterns p ps) = suc (count_patterns ps)
 
--- arguments, and what stands in each of them
+-- arguments, and what is in each of them
 abbrev mutual
   pub argument_width : Argument → ℕ
   argument_width (Variable x n p) = 0

@@ -10,7 +10,7 @@ ghost use Rattle.lowering_relation.specs.Values.{Setting};
 ghost use Rattle.cell_code.specs.Plain.{PlainFunction, PlainCode, function_at};
 
 /// No instruction of a function, reached or not, lists more registers than its instance's width allows, where its code
-/// is laid out as the instances of a program ask. For who bounds a code file.
+/// is laid out as the instances of a program require. For who bounds a code file.
 pub fn laid_functions_list_few_registers()
     ensures theorem { (c : PlainCode) (st : Setting) (p : Program) → AreLaid c st p → (i n : ℕ) (d : Instance)
         (f : PlainFunction) → slice_get p.instances i ≡ Some d → function_of p.instances i ≡ Some n →

@@ -651,7 +651,7 @@ pub label_stop2 : (registers : ℕ) (b0 b1 : List ℕ) (at : ℕ) (left : ℕ) �
 unfolding label_reader
 label_stop2 registers b0 b1 at left h0 h1 = stop2_2 four_reader (times registers kind_reader) label_of b0 b1 at left h0 h1
 
--- where a lent word came from
+-- where a borrowed word came from
 pub from_none : (b0 b1 b2 : List ℕ) (z : ℕ) → read register_reader b0 ≡ Got None b1 → read (byte (is_in_range 0 0)) b1 ≡ Got z b2 → read from_reader b0 ≡ Got None b2
 unfolding from_reader
 from_none b0 b1 b2 z h0 h1 = bind_got register_reader from_body b0 None b1 h0 ∙ bind_got (byte (is_in_range 0 0)) (λ z. Give None) b1 z b2 h1

@@ -87,7 +87,7 @@ register_alive = alive1 two_reader two field_two register_at
 pub field_register : IsField register_reader register_text
 field_register = record { takes = register_takes; gives = register_gives; alive = register_alive }
 
--- where a lent word came from
+-- where a borrowed word came from
 zero_is : (b : ℕ) → is_in_range 0 0 b ≡ true → b ≡ 0
 zero_is b e = let k = in_range 0 0 b e in omega (arith, k.1)
 

@@ -170,7 +170,7 @@ on_gives zero front (y ∷ ys) rest h = absurd h
 on_gives (suc n) front [] rest h = absurd h
 on_gives (suc n) front (y ∷ ys) rest h = (h.0, subst (λ x. Takes (name_on n (front ++ y ∷ [])) (ys ++ rest) x rest) (append_assoc front (y ∷ []) ys) (on_gives n (front ++ y ∷ []) ys rest h.1))
 
--- what stands after a first byte
+-- what is after a first byte
 stand_bytes : (n c : ℕ) (front ys : List ℕ) → Stand n (c ∷ front) ys → are_name_bytes ys ≡ true
 stand_bytes zero c front [] h = refl
 stand_bytes zero c front (y ∷ ys) h = absurd h

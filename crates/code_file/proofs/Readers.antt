@@ -14,7 +14,7 @@ Takes (Give y) bs x rest = (bs ≡ rest) × (y ≡ x)
 Takes (Byte may next) [] x rest = ⊥
 Takes (Byte may next) (b ∷ bs) x rest = (may b ≡ true) × Takes (next b) bs x rest
 
--- each front that may stand can be completed
+-- each front that may occur can be completed
 abbrev pub Alive : {A : Type 0} → Reader A → Type 0
 Alive (Give x) = Unit {0}
 Alive (Byte may next) = ((b : ℕ) × (may b ≡ true)) × ((b : ℕ) → may b ≡ true → Alive (next b))
@@ -119,7 +119,7 @@ answer_is : {A : Type 0} → (a : Answer A) (x : A) (size : ℕ) → Agree a (Ac
 answer_is (Stop left) x size h = let e = h.2 in cc
 answer_is (Got y r) x size h = (r, cc)
 
--- What is spelled is read.
+-- What is encoded is read.
 pub spells_got : {A : Type 0} → (r : Reader A) → Alive r → (bs : List ℕ) (x : A) → Spells r bs x → (rest : List ℕ) × (read_all r bs ≡ Got x rest)
 spells_got r a bs x h =
     let e = accepts step final Alive Spells exact bs r 0 x a h in
@@ -160,7 +160,7 @@ bind_got r f bs x rest e = read_bind r f bs ∙ ap (λ a. and_then a (λ x rest.
 pub bind_stop : {A B : Type 0} → (r : Reader A) (f : A → Reader B) (bs : List ℕ) (left : ℕ) → read r bs ≡ Stop left → read (r >>= f) bs ≡ Stop left
 bind_stop r f bs left e = read_bind r f bs ∙ ap (λ a. and_then a (λ x rest. read (f x) rest)) e
 
--- What two readers, one after the other, come to.
+-- What two readers, one after the other, read.
 pub ruleset binds = (bind_got, bind_stop)
 
 -- a text after another

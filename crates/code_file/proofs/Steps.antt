@@ -1,4 +1,4 @@
--- What the functions of a reader come to: a byte, a number, a name, a loop, the whole.
+-- What the functions of a reader read: a byte, a number, a name, a loop, the whole.
 use Rattle.std.proofs.Common.{◌≡◌, ◌≢◌, ℕ, zero, suc, ◌+◌, ◌-◌, ◌<◌, ◌≤◌, List, [], ◌∷◌, ◌++◌, length, map, Option, Some, None, Bool, true, false, refl, sym, ap, ◌∙◌, subst, arith}
 use Rattle.std.specs.Prelude.{◌==◌, ◌&&◌, not, nat_lt, if◌then◌else◌, Result, Ok, Err, MatchResult}
 use Rattle.std.specs.Int.{w32, from_be_bytes, is_in_range}
@@ -307,7 +307,7 @@ got_same p q rest more e = cc
 got_code : (v w : Version) (c d : PlainCode) (rest more : List ℕ) → ◌≡◌ {A = Answer (Version × PlainCode)} (Got (v, c) rest) (Got (w, d) more) → c ≡ d
 got_code v w c d rest more e = ap (λ (p : Version × PlainCode). p.1) (got_same (v, c) (w, d) rest more e)
 
--- What is found is spelled so, and what is spelled so is found.
+-- What is found is encoded so, and what is encoded so is found.
 pub file_text : (bs : List ℕ) (c : Code) → ReadsFile (Ok c) bs → IsFileOf bs (plain c)
 file_text bs c h = (h.0, read_text bs [] (h.0, plain c) h.1)
 

@@ -54,7 +54,7 @@ pub after_missing : (w : Written) → after w None ≡ None
 unfolding after
 after_missing w = refl
 
--- Where the first text was written, the second stands after it.
+-- Where the first text was written, the second is after it.
 pub after_join : (w v : Written) (a b : Option (List ℕ)) → after w a ≡ Some v → after w (a +++ b) ≡ after v b
 unfolding after ◌+++◌
 after_join w v None b e = cc
@@ -105,7 +105,7 @@ join_8 w0 w1 w2 w3 w4 w5 w6 w7 a b c d e f g h h0 h1 h2 h3 h4 h5 h6 = after_join
 pub none_8 : (w0 w1 w2 w3 w4 w5 w6 : Written) (a b c d e f g h : Option (List ℕ)) → after w0 a ≡ Some w1 → after w1 b ≡ Some w2 → after w2 c ≡ Some w3 → after w3 d ≡ Some w4 → after w4 e ≡ Some w5 → after w5 f ≡ Some w6 → after w6 g ≡ None → after w0 (a +++ (b +++ (c +++ (d +++ (e +++ (f +++ (g +++ h))))))) ≡ None
 none_8 w0 w1 w2 w3 w4 w5 w6 a b c d e f g h h0 h1 h2 h3 h4 h5 h6 = after_join w0 w1 a (b +++ (c +++ (d +++ (e +++ (f +++ (g +++ h)))))) h0 ∙ after_join w1 w2 b (c +++ (d +++ (e +++ (f +++ (g +++ h))))) h1 ∙ after_join w2 w3 c (d +++ (e +++ (f +++ (g +++ h)))) h2 ∙ after_join w3 w4 d (e +++ (f +++ (g +++ h))) h3 ∙ after_join w4 w5 e (f +++ (g +++ h)) h4 ∙ after_join w5 w6 f (g +++ h) h5 ∙ after_none w6 g h h6
 
--- What several texts, one after the other, come to.
+-- What several texts, one after the other, give.
 pub ruleset joins = (after_missing, after_join, after_none, join_3, none_3, join_4, none_4, join_5, none_5, join_6, none_6, join_7, none_7, join_8, none_8)
 
 -- The first item of what is left of a list, and the items after it.
@@ -165,7 +165,7 @@ pub functions_are : (functions : List Function) → functions_text Second (map p
 unfolding functions_text
 functions_are functions = ap₂ (λ (n : ℕ) (t : Option (List ℕ)). two n +++ t) (length-map functions plain_function) (each_map plain_function (function_text Second) functions)
 
--- What stands where nothing was written before.
+-- What is there where nothing was written before.
 written_text : (limit : ℕ) (o : Option (List ℕ)) (w : Written) → after (record { bytes = []; limit = limit }) o ≡ Some w → (o ≡ Some w.bytes) × (length w.bytes ≤ limit)
 unfolding after
 written_text limit None w e = cc
@@ -193,5 +193,5 @@ unwritten limit o e t h = fails (nat_le (length t) (limit - 0)) refl (ap (after 
     fails true h e = cc
     fails false h e = let lt = leb-false (length t) (limit - 0) h in omega arith
 
--- What stands in the end.
+-- What is there in the end.
 pub ruleset ends = (written_is, written_short, unwritten)

@@ -1,4 +1,4 @@
--- The text of a code: the bytes of its code file, in version 1 or 2, or none where no file spells it.
+-- The text of a code: the bytes of its code file, in version 1 or 2, or none where no file encodes it.
 --
 -- A file is "FP2C", the version, the types after their count, and the functions after theirs. So the code without
 -- types and functions is, in version 2, the bytes 46 50 32 43 00 02 00 00 00 00 (in base 16).
@@ -51,7 +51,7 @@ unfoldable pub register_text : Option ℕ → Option (List ℕ)
 register_text None = Some (255 ∷ 255 ∷ [])
 register_text (Some r) = only (nat_lt r 65535) (two r)
 
--- Where a lent word came from: a register and a field. After none stands the field 0.
+-- Where a borrowed word came from: a register and a field. After none comes the field 0.
 unfoldable pub from_text : Option From → Option (List ℕ)
 from_text None = register_text None +++ mark 0
 from_text (Some from) = register_text (Some from.register) +++ one from.field
@@ -117,7 +117,7 @@ abbrev pub lent_text : Bool → Option (List ℕ)
 lent_text false = mark 0
 lent_text true = mark 1
 
--- a parameter: whether it is lent, and its type
+-- a parameter: whether it is borrowed, and its type
 unfoldable pub param_text : Param → Option (List ℕ)
 param_text param = lent_text param.lent +++ two param.ty
 
@@ -132,7 +132,7 @@ credit_count_text count = only (nat_le count MOST_CREDITS) (mark count)
 unfoldable pub size_text : ℕ → Option (List ℕ)
 size_text size = only (is_in_range 1 MOST_FIELDS size) (mark size)
 
--- The credits that a function states. In version 1 it states none, and nothing stands there.
+-- The credits that a function states. In version 1 it states none, and nothing is there.
 unfoldable pub credits_text : Version → List ℕ → Option (List ℕ)
 credits_text First [] = Some []
 credits_text First (size ∷ sizes) = None
@@ -161,10 +161,10 @@ code_text version code =
     Some (codes "FP2C") +++ Some (0 ∷ version_number version ∷ []) +++ table_text code.types
     +++ functions_text version code.functions
 
--- These bytes spell the code in this version.
+-- These bytes encode the code in this version.
 abbrev pub CodeText : List ℕ → Version → PlainCode → Type 0
 CodeText bytes version code = code_text version code ≡ Some bytes
 
--- These bytes spell the code in one of the versions.
+-- These bytes encode the code in one of the versions.
 abbrev pub IsFileOf : List ℕ → PlainCode → Type 0
 IsFileOf bytes code = (version : Version) × CodeText bytes version code

@@ -1,5 +1,5 @@
 -- Scaffolding of private contracts: how a code file is read, a byte after another. A reader takes a byte, as long as it
--- may stand there, and in the end gives a value. No public clause speaks of readers: what they read is said by the
+-- may occur there, and in the end gives a value. No public clause speaks of readers: what they read is said by the
 -- texts of `CodeText`.
 use Rattle.std.specs.Prelude.{◌≡◌, ℕ, zero, suc, ◌-◌, ℤ, Bool, true, ◌&&◌, ◌||◌, ◌==◌, not, nat_lt, if◌then◌else◌}
 use Rattle.std.specs.Prelude.{List, [], ◌∷◌, ◌++◌, length, Option, Some, None, Result, Ok, Err}
@@ -124,7 +124,7 @@ unfoldable pub upper_name_reader : Reader (List ℕ)
 upper_name_reader =
     length_reader >>= λ n. byte is_upper >>= λ b. times (n - 1) (byte is_name_byte) >>= λ bs. Give (b ∷ bs)
 
--- Whether a byte may stand in a function's name after others.
+-- Whether a byte may occur in a function's name after others.
 abbrev pub may_follow : List ℕ → ℕ → Bool
 may_follow [] b = is_lower b
 may_follow (c ∷ front) b = is_name_byte b

@@ -59,7 +59,7 @@ impl<T: Drop> From<AllocFailed<T>> for ReadStop {
 /// Why a code gave no bytes.
 #[derive(Clone, Copy, Debug, PartialEq, Eq, Error)]
 pub enum WriteError {
-    /// No code file of version 2 of at most the given number of bytes spells the code.
+    /// No code file of version 2 of at most the given number of bytes encodes the code.
     #[error("no code file spells the code")]
     NotSpelled,
     /// No memory was left.

@@ -80,7 +80,7 @@ impl<'a> Reader<'a> {
         Ok(Kind::Credit { size: self.byte()? })
     }
 
-    // Where a lent word came from. After none stands the field 0.
+    // Where a borrowed word came from. After none comes the field 0.
     #[tactic(auto, using(crate::proofs::Got::of_from))]
     fn from(&mut self) -> Result<Option<From>, ReadStop>
         ensures { Reads same result self.new (read from_reader self.old) }

@@ -1,4 +1,4 @@
-// Code files: bytes that spell a code. All numbers are big-endian. A file is
+// Code files: bytes that encode a code. All numbers are big-endian. A file is
 //
 //     file     = "FP2C" version types:u16 type* functions:u16 function* end
 //     version  = 0001 | 0002
@@ -15,10 +15,10 @@
 //     kind     = 00 | 01 type set | 02 type set root:u16 from:u16 field:u8 | 03 type | 04 size:u8
 //     set      = count:u16 constructor:u32*
 //
-// The module `tags` has what a kind of function, a mark, an operator and an op stand for; the operands of each op stand
+// The module `tags` has what a kind of function, a mark, an operator and an op stand for; the operands of each op are
 // in the order in which `Reader::instr` reads them. A constructor's name is an upper-case name, a function's a
 // lower-case name that is no keyword, or empty. A root or a from of ffff is none, and then the field is 0. A code has
-// one spelling in each version at most.
+// one encoding in each version at most.
 #![tactic(auto)]
 
 mod error;

@@ -14,7 +14,7 @@ pub fn is_between(byte: u8, least: u8, greatest: u8) -> bool
     least <= byte && byte <= greatest
 }
 
-/// Whether a byte may stand in the name of a function after these ones.
+/// Whether a byte may occur in the name of a function after these ones.
 pub fn may_follow(front: &[u8], byte: u8) -> bool
     ensures { result ≡ R.may_follow front.now byte }
 {

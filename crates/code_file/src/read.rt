@@ -19,12 +19,12 @@ use fip_base::table::{Constructor, DataType, TypeTable};
 use fip_language::limits::{MOST_CREDITS, MOST_FIELDS};
 use std::alloc::Global;
 
-/// The code that the bytes spell, in version 1 or 2; in version 1 no function states a credit. It takes memory for what
-/// was read, not for what a count announces.
+/// The code that the bytes encode, in version 1 or 2; in version 1 no function states a credit. It takes memory for
+/// what was read, not for what a count announces.
 pub fn read_code(alloc: Global, bytes: &[u8]) -> Result<Code, ReadCodeError>
-    // What is read is spelled so.
+    // What is read is encoded so.
     ensures text { IfOk result (λ c. IsFileOf bytes.now (plain c)) }
-    // What is spelled so is read, unless memory runs out.
+    // What is encoded so is read, unless memory runs out.
     ensures only { (v : a_version) (c : PlainCode) → CodeText bytes.now v c →
         MatchResult result (λ d. plain d ≡ c) (λ e. e ≡ NoMemory) }
     // Else the place is the least with which no file begins.
@@ -39,7 +39,7 @@ pub fn read_code(alloc: Global, bytes: &[u8]) -> Result<Code, ReadCodeError>
     }
 }
 
-// The code that all of the bytes spell.
+// The code that all of the bytes encode.
 #[tactic(auto, using(crate::proofs::Steps::wholes))]
 fn whole(alloc: Global, bytes: &[u8]) -> Result<Code, ReadStop>
     ensures { ReadsFile result bytes.now }

@@ -32,7 +32,7 @@ pub const FBIP: u8 = 1;
 /// A parameter that is owned.
 pub const OWNED_PARAM: u8 = 0;
 
-/// A parameter that is lent.
+/// A parameter that is borrowed.
 pub const LENT_PARAM: u8 = 1;
 
 /// A register of which nothing is known.

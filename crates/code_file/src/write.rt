@@ -19,13 +19,13 @@ use fip_base::table::{Constructor, TypeTable};
 use fip_language::limits::{MOST_CREDITS, MOST_FIELDS};
 use std::alloc::Global;
 
-/// The code file of version 2 that spells the code, where it has at most `limit` bytes.
+/// The code file of version 2 that encodes the code, where it has at most `limit` bytes.
 #[tactic(auto, using(crate::proofs::Writing::ends))]
 pub fn write_code(alloc: Global, code: &Code, limit: usize) -> Result<Vec<u8>, WriteError>
-    // What is written spells the code.
+    // What is written encodes the code.
     ensures text { IfOk result (λ v. CodeText v.items Second (plain code.now)) }
     ensures short { IfOk result (λ v. length v.items ≤ limit) }
-    // It refuses only a code that no file spells, or too long a one.
+    // It refuses only a code that no file encodes, or too long a one.
     ensures refused { result ≡ Err NotSpelled → (bytes : List ℕ) → CodeText bytes Second (plain code.now) →
         limit < length bytes }
 {

@@ -99,7 +99,7 @@ impl Writer {
         self.u8(size)
     }
 
-    // Where a lent word came from. After none stands the field 0.
+    // Where a borrowed word came from. After none comes the field 0.
     #[tactic(auto, unfolding(crate::specs::CodeText::from_text), using(crate::proofs::Writing::joins))]
     fn from(&mut self, from: Option<From>) -> Result<(), WriteError>
         ensures { Writes result self.new (after self.old (from_text from)) }

@@ -40,17 +40,17 @@ abbrev pub Answers : (ℕ → ℕ → SoundRule → Type 0) → Option Violation
 Answers P None = (n i : ℕ) (rule : SoundRule) → P n i rule → ⊥
 Answers P (Some v) = IsLeastOf P v
 
--- a rule of an instruction was asked, and noted unless it is kept
+-- a rule of an instruction was checked, and noted unless it is kept
 abbrev pub noted_unless : ℕ → ℕ → Bool → SoundRule → Option Violation → Option Violation
 noted_unless n i true rule o = o
 noted_unless n i false rule o = better o (broken n i rule)
 
--- rules of an instruction were asked, one after another
+-- rules of an instruction were checked, one after another
 abbrev pub noted_all : ℕ → ℕ → Option Violation → List (Bool × SoundRule) → Option Violation
 noted_all n i o [] = o
 noted_all n i o (k ∷ ks) = noted_all n i (noted_unless n i k.0 k.1 o) ks
 
--- A rule that was asked isn't kept.
+-- A rule that was checked isn't kept.
 abbrev pub InKept : SoundRule → List (Bool × SoundRule) → Type 0
 InKept r [] = ⊥
 InKept r (k ∷ ks) = ((k.0 ≡ false) × (r ≡ k.1)) ⊎ InKept r ks

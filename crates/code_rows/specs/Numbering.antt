@@ -30,7 +30,7 @@ abbrev pub SaysAlike : List Label → ℕ → ℕ → Type 0
 SaysAlike labels j k =
     (m : Label) → slice_get labels j ≡ Some m → (n : Label) × (slice_get labels k ≡ Some n) × (n.kinds.items ≡ m.kinds.items)
 
--- The label maps stand at instructions below a number.
+-- The label maps are at instructions below a number.
 abbrev pub AreBelow : ℕ → List Label → Type 0
 AreBelow n labels = (j : ℕ) (m : Label) → slice_get labels j ≡ Some m → m.at < n
 
@@ -45,7 +45,7 @@ abbrev pub are_good_labels : Table → PlainFunction → ℕ → List Label → 
 are_good_labels w f low [] = true
 are_good_labels w f low (m ∷ ms) = is_good_label w f low m && are_good_labels w f m.at ms
 
--- parts of what is asked of a header
+-- parts of what is required of a header
 abbrev pub has_registers : PlainFunction → Bool
 has_registers f =
     not (length f.instrs == 0) &&

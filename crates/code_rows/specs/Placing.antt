@@ -1,5 +1,5 @@
 -- For the rows, and for what is proved of verify over them: an instruction's place, as the code and the function that
--- it belongs to, of which the table of types and the label maps stand in forms of their own.
+-- it belongs to, of which the table of types and the label maps are in forms of their own.
 use Rattle.std.specs.Prelude.{List, map}
 use Rattle.fip_language.specs.Table.{Table}
 use Rattle.cell_code.specs.declared.code.Function.{Function}

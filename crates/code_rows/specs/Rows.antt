@@ -1,5 +1,5 @@
--- For the rows, and for what is proved of verify over them: what a row asks of an instruction, rule by rule, and what
--- it goes on with.
+-- For the rows, and for what is proved of verify over them: what a row requires of an instruction, rule by rule, and
+-- what it goes on with.
 use Rattle.std.specs.Prelude.{◌≡◌, ◌⊎◌, ℕ, Bool, true, false, ◌&&◌, List, [], ◌∷◌, Option, Some, None}
 use Rattle.cell_code.specs.declared.code.Instr.{Instr}
 use Rattle.cell_code.specs.declared.code.Instr.TheVariants as I
@@ -15,7 +15,7 @@ use Rattle.code_rules.specs.Asked.{sources, destinations}
 use Rattle.code_rules.specs.Leaves.{Leaves}
 use Rattle.code_rules.specs.Endings.{is_end, spends_all}
 
--- a target, and the kinds that come to it
+-- a target, and the kinds that reach it
 pub record Arrival : Type 0 where
   pub target : ℕ
   pub kinds : List Kind
@@ -45,7 +45,7 @@ fit_map (Some m) ks = fit_all m ks
 abbrev pub fit_at : List LabelMap → ℕ → List Kind → Bool
 fit_at maps i ks = fit_map (label_at maps i) ks
 
--- S5 at a target, where the row is as asked
+-- S5 at a target, where the row is as required
 abbrev pub arrives : List LabelMap → Option Arrival → Bool → Bool
 arrives maps None asked = true
 arrives maps (Some a) false = true

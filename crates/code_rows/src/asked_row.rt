@@ -15,8 +15,8 @@ use cell_code::Instr;
 use code_rules::SoundRule;
 use register_kinds::Registers;
 
-/// Asks the row of an instruction that keeps S1, and changes what is known of the registers to what is known after it.
-/// Whether anything is.
+/// Checks the row of an instruction that keeps S1, and changes what is known of the registers to what is known after
+/// it. Whether anything is.
 pub fn row<'a>(
     place: &Place<'a>,
     registers: &mut Registers<'a>,
@@ -124,7 +124,7 @@ pub fn note_unless(place: &Place, kept: bool, rule: SoundRule, least: &mut Least
     }
 }
 
-/// Notes what isn't as an instruction asks. Whether all is.
+/// Notes what isn't as an instruction requires. Whether all is.
 pub fn judge(place: &Place, sources: bool, destinations: bool, least: &mut Least) -> bool
     ensures noted { least.new.first ≡ noted_all place.now.number place.now.at least.old.first
         ((sources, S2) ∷ (destinations, S3) ∷ []) }

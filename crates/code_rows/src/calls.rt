@@ -19,7 +19,7 @@ pub fn params_of<'a>(place: &Place<'a>, callee: u32) -> &'a [Param]
     }
 }
 
-/// The sizes of the credits that its header asks.
+/// The sizes of the credits that its header requires.
 pub fn credits_of<'a>(place: &Place<'a>, callee: u32) -> &'a [u8]
     ensures { result.now ≡ credits (code_of place.now) callee }
 {

@@ -1,4 +1,4 @@
-// What may stand last, and what a fip function may not do.
+// What may be last, and what a fip function may not do.
 ghost use Rattle.std.specs.Prelude.{◌≡◌};
 ghost use Rattle.code_rules.specs.Codes as codes;
 ghost use Rattle.code_rules.specs.Endings as endings;

@@ -95,7 +95,7 @@ fn is_size(size: u8) -> bool
     0 < size && size as usize <= MOST_FIELDS
 }
 
-// Whether label maps rise, stand after instruction 0 and within the function, and speak of its registers.
+// Whether label maps rise, are after instruction 0 and within the function, and speak of its registers.
 fn are_labels(table: &Table, function: &Function) -> bool
     ensures { result ≡ are_good_labels table.now (plain_function function.now) 0 function.now.labels.items }
 {
@@ -109,7 +109,7 @@ fn are_labels(table: &Table, function: &Function) -> bool
     true
 }
 
-// Whether a label map stands after a number and within the function, and speaks of its registers.
+// Whether a label map is after a number and within the function, and speaks of its registers.
 fn is_label(table: &Table, function: &Function, low: u32, label: &Label) -> bool
     ensures { result ≡ is_good_label table.now (plain_function function.now) low label.now }
 {
@@ -132,7 +132,7 @@ fn are_kinds(table: &Table, kinds: &[Kind]) -> bool
     true
 }
 
-// Whether what a label map says of one register may stand beside what it says of the others.
+// Whether what a label map says of one register may be beside what it says of the others.
 fn is_kind(table: &Table, kinds: &[Kind], register: usize, kind: &Kind) -> bool
     ensures { result ≡ h.is_good_kind table.now kinds.now register kind.now }
 {
@@ -201,7 +201,7 @@ fn is_owned(kinds: &[Kind], register: u16) -> bool
     }
 }
 
-// Whether a from names another register, owned or lent with this root, whose one constructor has that field.
+// Whether a from names another register, owned or borrowed with this root, whose one constructor has that field.
 fn is_from(
     table: &Table,
     kinds: &[Kind],

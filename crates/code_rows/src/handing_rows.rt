@@ -160,7 +160,7 @@ fn same_types(types: &[u32], others: &[u32]) -> bool
     others.get(place).is_none()
 }
 
-// Whether nothing owned and no credit is left behind registers that were handed over; also where they didn't fit.
+// Whether nothing owned and no credit is left after registers that were handed over; also where they didn't fit.
 fn is_spent(registers: &Registers, are_handed: bool) -> bool
     ensures { result ≡ nothing_owned (kept_if are_handed registers.now.kinds) }
 {

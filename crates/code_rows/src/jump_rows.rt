@@ -83,7 +83,7 @@ pub fn row_jump<'a>(
     false
 }
 
-/// What is known comes to an instruction, and is to fit its label map. Where a violation is known that comes before,
+/// What is known reaches an instruction, and is to fit its label map. Where a violation is known that comes before,
 /// this one needn't be looked for.
 pub fn arrive<'a>(
     place: &Place<'a>,

@@ -31,7 +31,7 @@ impl<'a> Model for Labels<'a> {
 }
 
 impl<'a> Labels<'a> {
-    /// Those of a function whose label maps stand within it. NoMemory: no memory is left.
+    /// Those of a function whose label maps are within it. NoMemory: no memory is left.
     pub fn of(alloc: Global, function: &'a Function) -> Result<Labels<'a>, NoMemory>
         requires within { AreBelow (length function.now.instrs.items) function.now.labels.items }
         ensures same { IfOk result (λ v. v ≡ (plain_function function.now).labels) }

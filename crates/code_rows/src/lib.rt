@@ -1,5 +1,6 @@
-// The rows of the rules of sound code: whether a function has the form that is asked of it, whether the numbers of an
-// instruction are in range, and what an instruction asks of registers and leaves behind it. What is broken is noted.
+// The rows of the rules of sound code: whether a function has the form that is required of it, whether the numbers of
+// an instruction are in range, and what an instruction requires of registers and leaves after it. What is broken is
+// noted.
 #![tactic(auto)]
 
 mod alike;

@@ -1,4 +1,4 @@
-// Where an instruction stands.
+// Where an instruction is.
 use crate::labels::Labels;
 use cell_code::Function;
 use register_kinds::Table;

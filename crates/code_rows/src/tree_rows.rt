@@ -72,7 +72,7 @@ fn are_places_beside(registers: &Registers, fields: &[u16], other: u16) -> bool
     registers.are_places(fields) && !has(fields, other)
 }
 
-// Whether a register stands in a list.
+// Whether a register is in a list.
 fn has(registers: &[u16], wanted: u16) -> bool
     ensures { result ≡ kinds.has registers.now wanted }
 {

@@ -278,7 +278,7 @@ waits_self_breaks (suc (suc (suc (suc (suc (suc (suc i))))))) r x = absurd x
 pub waits_self_just : BreaksJust waits_for_itself 5 S8
 waits_self_just = just_one waits_self 5 S8 refl waits_self_sure waits_self_breaks (record { callee = 0; calls = record { function = waits_self; is = refl; formed = refl; kinds = _; instr = I.Call 0 (3 ∷ 0 ∷ []) (4 ∷ []); reached = reached waits_self waits_self_sure 5 _ _ refl refl; call = (refl, refl); there = omega arith }; fip = refl; breaks = ((0, refl), (0, refl)) })
 
--- ---- S9 and S0, which are asked before
+-- ---- S9 and S0, which are checked before
 
 abbrev no_result : PlainFunction
 no_result = function_of [] (rev_with nil_taken acc_given cons_taken cons_put again) cons_known

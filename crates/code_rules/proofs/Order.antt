@@ -1,4 +1,4 @@
--- Violations stand in one order, so that there is one least.
+-- Violations are in one order, so that there is one least.
 use Rattle.std.proofs.Common.{◌≡◌, ℕ, zero, suc, ◌<◌, ◌≤◌, ◌⊎◌, inl, inr, refl, sym, ap, ◌∙◌, arith}
 use Rattle.code_rules.specs.declared.rule.SoundRule.{SoundRule}
 use Rattle.code_rules.specs.declared.rule.SoundRule.TheVariants.{S0, S1, S2, S3, S4, S5, S6, S7, S8, S9}

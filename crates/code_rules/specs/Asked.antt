@@ -1,7 +1,7 @@
--- S2 and S3: what an instruction asks of its sources and of its destinations, by the kinds before it. Each of the two
--- has a line for each instruction.
+-- S2 and S3: what an instruction requires of its sources and of its destinations, by the kinds before it. Each of the
+-- two has a line for each instruction.
 --
--- `Take 0 (2 ∷ 3 ∷ [])` asks that register 0 is owned with one constructor, which has two fields (S2), and that
+-- `Take 0 (2 ∷ 3 ∷ [])` requires that register 0 is owned with one constructor, which has two fields (S2), and that
 -- registers 2 and 3 may be overwritten (S3).
 use Rattle.std.specs.Prelude.{ℕ, Bool, true, false, ◌&&◌, not, is_some, List, [], ◌∷◌, Option, Some, None, length}
 use Rattle.std.specs.Prelude.{if◌then◌else◌, ◌==◌, nat_lt}
@@ -59,7 +59,7 @@ same_types [] (b ∷ ys) = false
 same_types (a ∷ xs) [] = false
 same_types (a ∷ xs) (b ∷ ys) = (a == b) && same_types xs ys
 
--- what is left behind the arguments of a tail call, where its results are those of the function and they fit
+-- what is left after the arguments of a tail call, where its results are those of the function and they fit
 abbrev pub tail_left : PlainCode → PlainFunction → List Kind → ℕ → List ℕ → Option (List Kind)
 tail_left c f ks g rs = if same_types (results c g) f.results then arguments c true ks g rs else None
 
@@ -87,7 +87,7 @@ abbrev pub are_places : List Kind → List ℕ → Bool
 are_places ks [] = true
 are_places ks (d ∷ ds) = is_free (at ks d) && (not (has ds d) && are_places ks ds)
 
--- One register for each of n results, asked after the arguments where these fit.
+-- One register for each of n results, checked after the arguments where these fit.
 abbrev pub can_receive : Option (List Kind) → ℕ → List ℕ → Bool
 can_receive None n ds = true
 can_receive (Some left) n ds = (length ds == n) && are_places left ds

@@ -1,8 +1,8 @@
 -- Sound code: what breaks each of its rules, the least violation, and that there is none.
 --
--- A code that breaks S0 is asked nothing else, and a function that breaks S9 is asked nothing else. An instruction that
--- is never reached is asked S1 alone, and one that breaks S1 neither S2 nor S3. S5 is named at the instruction that the
--- kinds come from, and S0 and S9 at instruction 0.
+-- A code that breaks S0 is checked for nothing else, and a function that breaks S9 is checked for nothing else. An
+-- instruction that is never reached is checked for S1 alone, and one that breaks S1 neither S2 nor S3. S5 is named at
+-- the instruction that the kinds come from, and S0 and S9 at instruction 0.
 use Rattle.std.specs.Prelude.{◌≡◌, ◌⊎◌, ℕ, suc, ◌<◌, ◌≤◌, true, false, List, Some, length}
 use Rattle.cell_code.specs.declared.code.Instr.{Instr}
 use Rattle.cell_code.specs.declared.kind.Kind.{Kind}
@@ -25,7 +25,7 @@ pub record BreaksRange (c : PlainCode) (f : PlainFunction) (i : ℕ) : Type 0 wh
   pub is : IsInstr f i instr
   pub breaks : in_range c f i instr ≡ false
 
--- a source that isn't as asked
+-- a source that isn't as required
 pub record BreaksSource (c : PlainCode) (f : PlainFunction) (i : ℕ) : Type 0 where
   pub kinds : List Kind
   pub instr : Instr
@@ -33,7 +33,7 @@ pub record BreaksSource (c : PlainCode) (f : PlainFunction) (i : ℕ) : Type 0 w
   pub ranged : in_range c f i instr ≡ true
   pub breaks : sources c f kinds instr ≡ false
 
--- a destination that isn't as asked
+-- a destination that isn't as required
 pub record BreaksDestination (c : PlainCode) (f : PlainFunction) (i : ℕ) : Type 0 where
   pub kinds : List Kind
   pub instr : Instr

@@ -3,7 +3,7 @@
 -- Whenever a register is written or becomes Gone, every from that names it becomes none, also that of its own new kind.
 -- Using up an owned register makes it and every register with it as root Gone.
 --
--- Where register 0 owns a tree and register 1 is lent as field 0 of its cell, `used_up ks 0` makes both Gone, and
+-- Where register 0 owns a tree and register 1 is borrowed as field 0 of its cell, `used_up ks 0` makes both Gone, and
 -- `written ks 0 k` only forgets where the word of register 1 came from.
 use Rattle.std.specs.Prelude.{ℕ, Bool, ◌||◌, List, [], ◌∷◌, Option, Some, None, map, length, if◌then◌else◌, ◌==◌}
 use Rattle.cell_code.specs.declared.kind.From.{From}
@@ -32,7 +32,7 @@ forget p (Credit k) = Credit k
 abbrev pub written : List Kind → ℕ → Kind → List Kind
 written ks d k = become ks (λ q. forget (λ r. r == d) (if q == d then k else at ks q))
 
--- register r, and what is lent of it
+-- register r, and what is borrowed from it
 abbrev pub goes : List Kind → ℕ → ℕ → Bool
 goes ks r q = (q == r) || is_lent_of r (at ks q)
 

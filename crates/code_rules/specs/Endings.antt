@@ -1,4 +1,4 @@
--- S4, S6 and S7: what may stand last, what may be left at an end, and what a fip function may not do.
+-- S4, S6 and S7: what may be last, what may be left at an end, and what a fip function may not do.
 --
 -- In a fip function `Drop 0` breaks S7, and so does a call of an fbip function. `Ret (1 ∷ [])` breaks S6 where register
 -- 0 still owns a tree or is a credit.
@@ -34,7 +34,7 @@ abbrev pub nothing_owned : Option (List Kind) → Bool
 nothing_owned None = true
 nothing_owned (Some left) = are_free left
 
--- Where the frame ends as asked, nothing owned and no credit is left.
+-- Where the frame ends as required, nothing owned and no credit is left.
 abbrev pub spends_all : PlainCode → PlainFunction → List Kind → Instr → Bool
 spends_all c f ks (I.Const d v) = true
 spends_all c f ks (I.Atom d t k) = true

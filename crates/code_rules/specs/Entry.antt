@@ -1,6 +1,6 @@
--- What is known of the registers where a function is entered. The parameters stand first: one of a scalar type is a
--- scalar, another is owned with any constructor, or, where it is lent, lies in a tree of a frame below. The credits of
--- the header follow, and all other registers are Gone.
+-- What is known of the registers where a function is entered. The parameters are first: one of a scalar type is a
+-- scalar, another is owned with any constructor, or, where it is borrowed, lies in a tree of a frame below. The credits
+-- of the header follow, and all other registers are Gone.
 use Rattle.std.specs.Prelude.{ℕ, zero, suc, ◌+◌, ◌-◌, List, [], ◌∷◌, ◌++◌, None, length, map, if◌then◌else◌}
 use Rattle.cell_code.specs.fip_language.Table.{Table}
 use Rattle.cell_code.specs.fip_base.declared.plain.Param.{Param}

@@ -2,7 +2,7 @@
 --
 -- Type 2 is `data ints { Nil; Cons(int, ints) }`. The function is
 -- fip fun rev(xs: ints, acc: ints): ints { match! xs { Nil -> acc; Cons(x, t) -> rev(t, Cons(x, acc)) } }
--- xs stands in register 0 and acc in register 1; x and t come into registers 2 and 3. The cell of Cons, which the Take
+-- xs is in register 0 and acc in register 1; x and t come into registers 2 and 3. The cell of Cons, which the Take
 -- leaves as a credit in register 0, holds the new Cons, and the frame goes on with t and that.
 use Rattle.std.specs.Prelude.{◌≡◌, ◌↔◌, ℕ, false, List, [], ◌∷◌, codes, pos}
 use Rattle.cell_code.specs.fip_language.Table.{Table, Shape}

@@ -1,6 +1,6 @@
 -- What is known on arrival fits a label map, register by register. Gone takes whatever is free. A scalar and a credit
--- take their equals. An owned tree takes one of the same type with no other constructors. A lent one takes such a one
--- with the same root, and the same from or, where the map has none, any.
+-- take their equals. An owned tree takes one of the same type with no other constructors. A borrowed one takes such a
+-- one with the same root, and the same from or, where the map has none, any.
 --
 -- `Owned 2 (0 ∷ 1 ∷ [])` takes `Owned 2 (1 ∷ [])`, and not the other way round. No constructor at all fits any set.
 use Rattle.std.specs.Prelude.{ℕ, Bool, true, false, ◌&&◌, List, [], ◌∷◌, Option, Some, None, ◌==◌}
@@ -9,7 +9,7 @@ use Rattle.cell_code.specs.declared.kind.Kind.{Kind}
 use Rattle.cell_code.specs.declared.kind.Kind.TheVariants.{Gone, Scalar, Owned, Lent, Credit}
 use Rattle.code_rules.specs.Kinds.{has, is_free, is_scalar_of, is_credit_of, same_root}
 
--- All of the first list stand in the second.
+-- All of the first list are in the second.
 abbrev pub is_subset : List ℕ → List ℕ → Bool
 is_subset [] b = true
 is_subset (c ∷ cs) b = has b c && is_subset cs b

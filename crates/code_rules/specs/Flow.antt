@@ -1,7 +1,7 @@
 -- What is known before each instruction of a function, and how one instruction goes on to another.
 --
 -- At a label the kinds of its map hold, whatever comes. Before instruction 0 the kinds at the entry are known. Before
--- another without a label those are known that the one before it leaves, where that is as asked. So an instruction
+-- another without a label those are known that the one before it leaves, where that is as required. So an instruction
 -- after Tail, Ret or Jump without a label is never reached, nor is one after an instruction that breaks S1, S2 or S3,
 -- up to the next label.
 use Rattle.std.specs.Prelude.{◌≡◌, ◌⊎◌, ℕ, zero, suc, Bool, true, ◌&&◌, List, Option, Some, None, slice_get}
@@ -26,7 +26,7 @@ abbrev pub Holds : Option (List Kind) → (List Kind → Type 0) → List Kind �
 Holds None Comes ks = Comes ks
 Holds (Some m) Comes ks = ks ≡ m
 
--- These kinds come to instruction i from the one before it.
+-- These kinds reach instruction i from the one before it.
 abbrev pub Comes : PlainCode → PlainFunction → ℕ → List Kind → Type 0
 Comes c f zero ks = ks ≡ entry c f
 Comes c f (suc i) ks =
@@ -42,7 +42,7 @@ pub record IsReachedAt (c : PlainCode) (f : PlainFunction) (i : ℕ) (ks : List 
   pub known : KnownAt c f i ks
   pub instr : IsInstr f i x
 
--- Instruction i, which is as asked, goes on to instruction j with these kinds.
+-- Instruction i, which is as required, goes on to instruction j with these kinds.
 pub record GoesTo (c : PlainCode) (f : PlainFunction) (i j : ℕ) (left : List Kind) : Type 0 where
   pub kinds : List Kind
   pub instr : Instr

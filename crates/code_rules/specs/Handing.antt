@@ -3,7 +3,7 @@
 --
 -- Arguments fit where there is one for each parameter of the callee, of its type, then one for each credit of its
 -- header. A scalar one is a scalar, an owned one owned and used up, and a credit's is a credit of that size. After that
--- the lent ones are owned or lent; in a tail call they are lent without a root, since the frame goes.
+-- the borrowed ones are owned or borrowed; in a tail call they are borrowed without a root, since the frame goes.
 --
 -- With register 0 owned of type 2, it may be given once as a field of type 2, and not twice.
 use Rattle.std.specs.Prelude.{ℕ, Bool, true, false, ◌&&◌, ◌||◌, not, is_some, List, [], ◌∷◌, Option, Some, None, ◌+◌}
@@ -30,7 +30,7 @@ give_all ks [] (t ∷ ts) = None
 give_all ks (s ∷ ss) [] = None
 give_all ks (s ∷ ss) (t ∷ ts) = option_and_then (λ left. give_all left ss ts) (give ks s t)
 
--- Register a is handed over for a parameter. What is lent stays, and is asked after all of these.
+-- Register a is handed over for a parameter. What is borrowed stays, and is checked after all of these.
 abbrev pub pass : Table → List Kind → Param → ℕ → Option (List Kind)
 pass w ks p a =
     if is_scalar_type w p.ty then (if is_scalar_of p.ty (at ks a) then Some ks else None) else
@@ -50,7 +50,7 @@ hand_all ks [] rs = Some ks
 hand_all ks (size ∷ sizes) [] = None
 hand_all ks (size ∷ sizes) (a ∷ rs) = option_and_then (λ left. hand_all left sizes rs) (hand ks size a)
 
--- It may be lent as a tree of type u.
+-- It may be borrowed as a tree of type u.
 abbrev pub is_lendable : Bool → ℕ → Kind → Bool
 is_lendable tail u Gone = false
 is_lendable tail u (Scalar t) = false

@@ -1,9 +1,9 @@
 -- S9: the form of a function. It has an instruction; its registers are at least its parameters and credits together,
 -- and at most 4,096; it has 1 to 8 results; the types of its header are there; it has at most 16 credits, of sizes 1 to
 -- 16. Its label maps have rising numbers, above 0 and in the function, and exactly one kind for each register, with
--- numbers that are there: a credit has a size of 1 to 16; a set isn't empty and rises; the root of a lent register is
--- owned in the map; and a from names another register, owned or lent with the same root, with one constructor, which
--- has that field.
+-- numbers that are there: a credit has a size of 1 to 16; a set isn't empty and rises; the root of a borrowed register
+-- is owned in the map; and a from names another register, owned or borrowed with the same root, with one constructor,
+-- which has that field.
 --
 -- A map of two registers `Owned 2 (1 ∷ [])` and `Lent 2 (0 ∷ []) (Some 0) (Some (record { register = 0; field = 1 }))`
 -- has this form where constructor 1 of type 2 has two fields.
@@ -49,7 +49,7 @@ abbrev pub is_good_root : List Kind → Option ℕ → Bool
 is_good_root ms None = true
 is_good_root ms (Some r) = is_owned (at ms r)
 
--- the from of register j, which is lent with this root; only a register with one known constructor has known fields
+-- the from of register j, which is borrowed with this root; only a register with one known constructor has known fields
 abbrev pub is_good_from : Table → List Kind → ℕ → Option ℕ → Option From → Bool
 is_good_from w ms j root None = true
 is_good_from w ms j root (Some f) =

@@ -1,5 +1,5 @@
 -- Kinds: what is known of a register. It is Gone; or it is a scalar of a type; or it owns a tree of a type whose root
--- has one of some constructors; or it is lent such a tree, which lies in that of a register, its root, or, without one,
+-- has one of some constructors; or it borrows such a tree, which lies in that of a register, its root, or, without one,
 -- in a tree of a frame below, and may have come from a field of the cell in a register; or it is a credit, a cell of a
 -- size whose fields are no longer owned.
 --
@@ -9,7 +9,7 @@ use Rattle.cell_code.specs.declared.kind.From.{From}
 use Rattle.cell_code.specs.declared.kind.Kind.{Kind}
 use Rattle.cell_code.specs.declared.kind.Kind.TheVariants.{Gone, Scalar, Owned, Lent, Credit}
 
--- a number stands in a list
+-- a number is in a list
 abbrev pub has : List ℕ → ℕ → Bool
 has [] x = false
 has (y ∷ ys) x = (y == x) || has ys x
@@ -109,7 +109,7 @@ same_root None (Some b) = false
 same_root (Some a) None = false
 same_root (Some a) (Some b) = a == b
 
--- It is lent, and its root is register r.
+-- It is borrowed, and its root is register r.
 abbrev pub is_lent_of : ℕ → Kind → Bool
 is_lent_of r Gone = false
 is_lent_of r (Scalar t) = false

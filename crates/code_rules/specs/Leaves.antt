@@ -1,4 +1,4 @@
--- What an instruction that is as asked leaves: the kinds at the next instruction, and those at its target.
+-- What an instruction that is as required leaves: the kinds at the next instruction, and those at its target.
 --
 -- Where register 0 owns a tree with constructor 0 or 1, `Test 0 0 3` leaves constructor 0 to the next instruction, and
 -- constructor 1 to instruction 3.

@@ -1,15 +1,15 @@
 -- After Take: the cell of register r, which has fields of the types ts, goes into the registers ds.
 --
 -- 1. Where field i is of a scalar type, its register is a scalar.
--- 2. Else, where that register was lent as field i of r, it owns the field, with the constructors that it was known to
---    have, and a from that names it stays. It is an heir. Each register that is none of the ds and that reached it
---    through its from, directly or through further froms, gets it as root.
+-- 2. Else, where that register was borrowed as field i of r, it owns the field, with the constructors that it was
+--    known to have, and a from that names it stays. It is an heir. Each register that is none of the ds and that
+--    reached it through its from, directly or through further froms, gets it as root.
 -- 3. Any other register of the ds gets what the field's type reports.
 -- 4. Every other register with root r is Gone.
 -- 5. r is a credit of the number of fields, or Gone where there is none.
 --
 -- Say register 1 was peeked as field 0 of register 0, and register 2 as field 0 of register 1. After register 0 is
--- taken into 1, register 1 owns its tree, and 2 is lent of 1. Taken into 3, both 1 and 2 are Gone.
+-- taken into 1, register 1 owns its tree, and 2 is borrowed from 1. Taken into 3, both 1 and 2 are Gone.
 use Rattle.std.specs.Prelude.{◌≡◌, ℕ, zero, suc, Bool, true, false, ◌&&◌, not, is_some, List, [], ◌∷◌, Option, Some}
 use Rattle.std.specs.Prelude.{None, length, if◌then◌else◌, ◌==◌}
 use Rattle.cell_code.specs.fip_language.Table.{Table}
@@ -40,7 +40,7 @@ abbrev pub is_field : ℕ → ℕ → Option From → Bool
 is_field r i None = false
 is_field r i (Some f) = (f.register == r) && (f.field == i)
 
--- A register of this kind, which gets the part, was lent as that part.
+-- A register of this kind, which gets the part, was borrowed as that part.
 abbrev pub is_heir_by : Table → ℕ → Kind → Option Part → Bool
 is_heir_by w r k None = false
 is_heir_by w r k (Some p) = not (is_scalar_type w p.ty) && is_field r p.field (from_of k)
@@ -63,7 +63,7 @@ abbrev pub IsReached : List Kind → (ℕ → Bool) → ℕ → Option ℕ → T
 IsReached ks heir q None = (d : ℕ) → Reaches ks heir q d → ⊥
 IsReached ks heir q (Some d) = Reaches ks heir q d
 
--- what was lent is owned
+-- what was borrowed is owned
 abbrev pub inherited : Kind → Kind
 inherited Gone = Gone
 inherited (Scalar t) = Scalar t

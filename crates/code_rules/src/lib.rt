@@ -1,4 +1,4 @@
-// What sound code is: the definition that a verifier meets. It stands in specs/; its theorems are in `theorems`.
+// What sound code is: the definition that a verifier meets. It is in specs/; its theorems are in `theorems`.
 #![tactic(auto)]
 
 mod rule;

@@ -11,9 +11,9 @@ pub enum SoundRule {
     /// A register, a type, a constructor or a function that isn't there; a target that isn't after the instruction,
     /// isn't in the function, or has no label.
     S1,
-    /// A source, a field's number, the arguments or a tail call's results aren't as the instruction asks.
+    /// A source, a field's number, the arguments or a tail call's results aren't as the instruction requires.
     S2,
-    /// A destination isn't as the instruction asks.
+    /// A destination isn't as the instruction requires.
     S3,
     /// The last instruction is none of Tail, Ret and Jump.
     S4,
@@ -28,9 +28,9 @@ pub enum SoundRule {
     /// Of instruction 0: no instruction; registers fewer than parameters and credits together, or more than 4,096; a
     /// number of results other than 1 to 8; a header with a type that isn't there, with more than 16 credits, or with
     /// one of a size other than 1 to 16; labels whose numbers don't rise, are 0 or past the end, that don't speak of
-    /// exactly each register, or that have a number that isn't there, an empty set, a set that doesn't rise, a lent
+    /// exactly each register, or that have a number that isn't there, an empty set, a set that doesn't rise, a borrowed
     /// register whose root isn't owned there, or a from that names the register itself, or a register that isn't owned
-    /// or lent with the same root and one constructor, which has that field.
+    /// or borrowed with the same root and one constructor, which has that field.
     S9,
 }
 

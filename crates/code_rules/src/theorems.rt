@@ -52,7 +52,7 @@ pub fn an_example_is_sound()
 {}
 
 /// A code that differs from the reversal in one place breaks just the rule that speaks of it, at one instruction. For
-/// who reads what a rule refuses. Bool's constructors stand the other way round (S0); a register isn't there (S1); what
+/// who reads what a rule refuses. Bool's constructors are the other way round (S0); a register isn't there (S1); what
 /// is gone is given (S2); a tree is overwritten (S3); nothing follows the last instruction (S4).
 pub fn turned_examples_break_one_rule()
     ensures of_tables { BreaksJust bool_is_turned 0 S0 }

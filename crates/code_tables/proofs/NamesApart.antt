@@ -1,4 +1,4 @@
--- Names of a list that count stand apart where the test along the list says so.
+-- Names of a list that count are apart where the test along the list says so.
 use Rattle.std.proofs.Common.{◌≡◌, ℕ, zero, suc, Bool, true, false, ◌&&◌, ◌||◌, not, List, [], ◌∷◌, cond, Some, slice_get, if◌then◌else◌, refl, sym, ap, ◌∙◌, true≢false, arith}
 use Rattle.std.proofs.lemmas.Bool.{and_parts, and_from, or_parts, or_from, not-true, not_from_false, false_from_ne_true}
 use Rattle.std.proofs.lemmas.Option.{same_Some, none-some}
@@ -11,7 +11,7 @@ use Rattle.std.proofs.lemmas.Map.Text.{is_eq-slice_cmp}
 use denote.Ref.{Bor}
 use Rattle.code_tables.specs.Apart.{also_met, apart, met_in}
 
--- No name that counts was met, and none stands twice.
+-- No name that counts was met, and none occurs twice.
 pub record AreApart (counts met : List ℕ → Bool) (ns : List (List ℕ)) : Type 0 where
   pub new : (i : ℕ) (n : List ℕ) → slice_get ns i ≡ Some n → counts n ≡ true → met n ≡ false
   pub once : (i j : ℕ) (n : List ℕ) → slice_get ns i ≡ Some n → slice_get ns j ≡ Some n → counts n ≡ true → i ≡ j

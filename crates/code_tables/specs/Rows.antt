@@ -1,4 +1,4 @@
--- For the proofs alone: what is asked of the rows of a table, as tests along its lists.
+-- For the proofs alone: what is required of the rows of a table, as tests along its lists.
 use Rattle.std.specs.Prelude.{ℕ, Bool, true, false, ◌&&◌, not, List, [], ◌∷◌, length, nat_lt, codes}
 use Rattle.std.specs.Str.{bytes_eq}
 use Rattle.fip_language.specs.Table.{Table, Shape, no_fields}

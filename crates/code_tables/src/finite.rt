@@ -1,7 +1,7 @@
 // Which types have a finite value: the least set with int and each type that has a constructor all of whose fields'
 // types are in it. A type of the set is marked. A constructor with a field without a mark waits for that field's type,
 // and is looked at again once that is marked. So each constructor is looked at once for each of its few fields. What
-// waits only makes the search fast: that it is complete stands on a last pass in which nothing changes. (The algorithm
+// waits only makes the search fast: that it is complete rests on a last pass in which nothing changes. (The algorithm
 // is that of W. F. Dowling and J. H. Gallier, Linear-time algorithms for testing the satisfiability of propositional
 // Horn formulae, Journal of Logic Programming 1, 1984.)
 ghost use Rattle.std.specs.Prelude.{◌≡◌, ◌↔◌, ◌≤◌, ◌<◌, ◌∷◌, length, true, false, set, replicate, IfOk, OnOk};

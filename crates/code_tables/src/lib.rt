@@ -1,5 +1,5 @@
 // Whether the tables of a code are sound: its types, and its functions' names. All else of a code speaks of types and
-// functions by their numbers, so that this is asked first.
+// functions by their numbers, so that this is checked first.
 #![tactic(auto)]
 
 mod finite;

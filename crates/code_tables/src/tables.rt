@@ -15,7 +15,7 @@ use fip_base::table::{Constructor, TypeTable};
 use fip_language::limits::{MOST_FIELDS, MOST_INSTANCES};
 use std::alloc::Global;
 
-/// Whether the tables of a code are sound, which is asked first of a code. It takes time in proportion to them.
+/// Whether the tables of a code are sound, which is checked first of a code. It takes time in proportion to them.
 /// NoMemory: no memory is left.
 pub fn are_sound_tables(alloc: Global, code: &Code) -> Result<bool, NoMemory>
     ensures exact { IfOk result (λ sound. IsTrue sound ↔ AreSoundTables (plain code.now)) }

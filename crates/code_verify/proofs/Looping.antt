@@ -1,4 +1,4 @@
--- A turn of a walk's loop, where the code and the function stand in forms of their own.
+-- A turn of a walk's loop, where the code and the function are in forms of their own.
 use Rattle.std.proofs.Common.{◌≡◌, ℕ, suc, Bool, List, Option, sym, ap, ap₂, ◌∙◌, subst, subst₂}
 use Rattle.fip_language.specs.Table.{Table}
 use Rattle.cell_code.specs.declared.code.Code.{Code}

@@ -61,7 +61,7 @@ same_words [] n = refl
 same_words (g ∷ fs) zero = choose (is_fip g.kind) _
 same_words (g ∷ fs) (suc n) = same_words fs n
 
--- ---- what is asked
+-- ---- what is required
 
 releases_call : (c : PlainCode) (x : Instr) (g : ℕ) (w : Bool) → IsCall x g w → is_weaker c g ≡ true → releases c x ≡ true
 releases_call c (I.Const d v) g w p e = absurd p

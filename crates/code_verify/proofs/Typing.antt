@@ -1,4 +1,4 @@
--- The type at an instruction, among those at the Drops of a function, which stand in order.
+-- The type at an instruction, among those at the Drops of a function, which are in order.
 use Rattle.std.proofs.Common.{◌≡◌, ◌↔◌, ◌⊎◌, inl, inr, ℕ, ◌+◌, ◌<◌, ◌≤◌, List, length, Option, Some, None, slice_get, sym, ap, ◌∙◌, subst, arith}
 use Rattle.std.proofs.lemmas.Bool.{cases_order}
 use Rattle.std.proofs.lemmas.Option.{same_Some, none-some, slice_get_within}

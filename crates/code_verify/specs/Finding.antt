@@ -19,7 +19,7 @@ use Rattle.code_verify.specs.declared.walk.Found.{Found}
 use Rattle.code_verify.specs.Checked.{HasMachineInt, ReachedDrop}
 use Rattle.code_verify.specs.Steps.{call_to, waits_at, drops_at}
 
--- A rule is broken that a function can be asked by itself: any but S8.
+-- A rule is broken that can be checked of a function by itself: any but S8.
 abbrev pub BreaksAlone : PlainCode → PlainFunction → ℕ → SoundRule → Type 0
 BreaksAlone c f i S0 = ⊥
 BreaksAlone c f i S1 = BreaksWithin c 0 f i S1
@@ -40,7 +40,7 @@ pub record ReachedCall (c : PlainCode) (f : PlainFunction) (i g : ℕ) (waits : 
   pub call : IsCall instr g waits
   pub there : g < length c.functions
 
--- where a walk stands: what comes to instruction i, or that nothing does
+-- where a walk is: what reaches instruction i, or that nothing does
 abbrev pub Coming : PlainCode → PlainFunction → ℕ → Option (List Kind) → Type 0
 Coming c f i None = (ks : List Kind) → Comes c f i ks → ⊥
 Coming c f i (Some ks) = Comes c f i ks
@@ -52,7 +52,7 @@ Knowing c f i (Some ks) = KnownAt c f i ks
 abbrev pub BrokenBelow : PlainCode → ℕ → PlainFunction → ℕ → ℕ → ℕ → SoundRule → Type 0
 BrokenBelow c n f below m i rule = (m ≡ n) × (i < below) × BreaksAlone c f i rule
 
--- They stand in the order of their instructions.
+-- They are in the order of their instructions.
 abbrev pub AreInOrder : List DropType → Type 0
 AreInOrder ds =
     (j k : ℕ) (d e : DropType) → j < k → slice_get ds j ≡ Some d → slice_get ds k ≡ Some e → d.at < e.at

@@ -1,4 +1,5 @@
--- For the proofs alone: what one step of a walk asks of an instruction, what it keeps of it, and what it goes on with.
+-- For the proofs alone: what one step of a walk requires of an instruction, what it keeps of it, and what it goes on
+-- with.
 use Rattle.std.specs.Prelude.{◌≡◌, ◌⊎◌, ℕ, ◌+◌, Bool, true, false, ◌&&◌, ◌||◌, not, List, [], ◌∷◌, ◌++◌, Option, Some}
 use Rattle.std.specs.Prelude.{None, length, if◌then◌else◌, ◌==◌, nat_lt}
 use Rattle.call_groups.specs.declared.search.Call.{Call}
@@ -33,7 +34,7 @@ last_kept f i x = not (i + 1 == length f.instrs) || is_end x
 abbrev pub fip_kept : PlainCode → PlainFunction → Instr → Bool
 fip_kept c f x = not (is_fip f.kind && releases c x)
 
--- all rules that are asked of a reached instruction itself
+-- all rules that are required of a reached instruction itself
 abbrev pub known_kept : PlainCode → PlainFunction → ℕ → List Kind → Instr → List (Bool × SoundRule)
 known_kept c f i ks x =
     (in_range c f i x, S1) ∷ (last_kept f i x, S4) ∷ (fip_kept c f x, S7)

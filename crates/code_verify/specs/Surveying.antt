@@ -39,7 +39,7 @@ abbrev pub BreaksOwn : PlainCode → ℕ → ℕ → SoundRule → Type 0
 BreaksOwn c n i r =
     (f : PlainFunction) × (function_at c n ≡ Some f) × (is_formed c f ≡ true) × BreaksGroup c n f i × (r ≡ S8)
 
--- Each instruction of function n that is as asked and isn't an end leaves kinds.
+-- Each instruction of function n that is as required and isn't an end leaves kinds.
 abbrev pub Flows : PlainCode → ℕ → Type 0
 Flows c n =
     (f : PlainFunction) → function_at c n ≡ Some f → is_formed c f ≡ true → (i : ℕ) (ks : List Kind) (x : Instr) →

@@ -44,9 +44,9 @@ pub enum VerifyError {
 }
 
 /// Accepts a code exactly where it is sound. It takes memory in proportion to the code, and no stack. It takes time in
-/// proportion to the code but for instructions that take a cell apart, which look at each register that is lent of it
-/// but those that the heir with the most of them keeps, and for jumps, which look at each register that has changed
-/// since their label was met, or at each of which its map says more than Gone, and at all of its constructors.
+/// proportion to the code but for instructions that take a cell apart, which look at each register that is borrowed
+/// from it but those that the heir with the most of them keeps, and for jumps, which look at each register that has
+/// changed since their label was met, or at each of which its map says more than Gone, and at all of its constructors.
 /// Unsound: it isn't, and this is the least violation by function, instruction and rule. NoMemory: no memory is left,
 /// or a function has more than 4,294,967,295 instructions.
 pub fn verify(alloc: Global, code: Code) -> Result<Verified, VerifyError>

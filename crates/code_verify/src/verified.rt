@@ -102,7 +102,7 @@ fn drops_in(drops: &[Vec<DropType>], function: usize) -> &[DropType]
     }
 }
 
-// The type at an instruction, of those at the Drops of a function, which stand in order.
+// The type at an instruction, of those at the Drops of a function, which are in order.
 fn type_at(drops: &[DropType], at: usize) -> Option<u32>
     requires in_order { AreInOrder drops.now }
     ensures exact { (t : ℕ) → (result ≡ Some t ↔ In (drops_at at t) drops.now) }
@@ -114,7 +114,7 @@ fn type_at(drops: &[DropType], at: usize) -> Option<u32>
     }
 }
 
-// How many stand before an instruction.
+// How many are before an instruction.
 fn place_of(drops: &[DropType], at: usize) -> usize
     requires in_order { AreInOrder drops.now }
     ensures before { (j : ℕ) (d : DropType) → j < result → slice_get drops.now j ≡ Some d → d.at < at }

@@ -184,7 +184,7 @@ fn step<'a>(
     Ok(ask(place, registers, instr, &mut found.least))
 }
 
-// An instruction that is never reached is asked S1 alone.
+// An instruction that is never reached is checked for S1 alone.
 fn note_range(place: &Place, instr: &Instr, least: &mut Least)
     ensures { least.new.first ≡ noted_unless place.now.number place.now.at
         (in_range (code_of place.now) (function_of place.now) place.now.at instr.now) S1 least.old.first }
@@ -193,7 +193,7 @@ fn note_range(place: &Place, instr: &Instr, least: &mut Least)
     note_unless(place, in_range, SoundRule::S1, least);
 }
 
-// Asks all rules but S8 of an instruction that is reached. Whether the next one is, from it.
+// Checks all rules but S8 of an instruction that is reached. Whether the next one is, from it.
 fn ask<'a>(
     place: &Place<'a>,
     registers: &mut Registers<'a>,

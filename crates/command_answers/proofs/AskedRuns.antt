@@ -1,5 +1,5 @@
--- `exec` reports what the evaluation gives. A fip entry never lacks frames; another one has those of the room, since the
--- groups tell no stack number of it.
+-- `exec` reports what the evaluation gives. A fip entry never lacks frames; another one has those of the room, since
+-- the groups report no stack number of it.
 use Rattle.std.proofs.Common.{◌≡◌, ◌≢◌, ◌∙◌, ◌<◌, ◌≤◌, ℕ, true, false, List, map, Option, Some, None, slice_get, sym, ap, subst, refl, arith}
 use Rattle.std.specs.Prelude.{Ok, Err}
 use Rattle.std.proofs.lemmas.Option.{same_Some}
@@ -54,7 +54,7 @@ is_fip_kind Fun e = let f : false ≡ true = e in cc
 no_want : (tb : Table) (f : Instance) (vs : Values) (a : Answer) → EndsInPlace tb f vs a → a ≢ Deep
 no_want tb f vs a h e = subst (EndsInPlace tb f vs) e h
 
--- the entry of a start, whose groups tell a stack number, or none
+-- the entry of a start, whose groups report a stack number, or none
 module _ (source name : List ℕ) (s : Start source name) where
   abbrev y : Entry source name
   y = s.entry

@@ -1,6 +1,6 @@
 -- What is said of an entry by the runs of a code is what is said of it by trees.
--- The idea: the code holds of the stack what the groups tell of the entry, so that both have the same frames and mean the
--- same; and the gauge of a run is reported by the evaluation.
+-- The idea: the code holds of the stack what the groups report of the entry, so that both have the same frames and mean
+-- the same; and the gauge of a run is reported by the evaluation.
 use Rattle.std.proofs.Common.{◌≡◌, ◌∙◌, ◌+◌, ℕ, Bool, false, List, [], ◌∷◌, ◌++◌, ap, ap₂, subst, refl, arith}
 use Rattle.std.specs.Prelude.{Result, Ok, Err}
 use Rattle.command_library.specs.fip_language.declared.limits.TheConstants.{MOST_FIELDS}

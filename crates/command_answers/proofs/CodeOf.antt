@@ -1,7 +1,7 @@
--- The code of a source, whatever the compiler, is known by what is asked of it: it is lowered from the source's program, so
--- its runs end as the program means, and take as much of the stack as the evaluation does.
--- The idea: a function that is loaded begins rightly, and is that of its instance; what is lowered so means its instance;
--- and the stack of its run is that of the run on trees, whose frames have the registers that the groups tell.
+-- The code of a source, whatever the compiler, is known by what is required of it: it is lowered from the source's
+-- program, so its runs end as the program means, and take as much of the stack as the evaluation does. The idea: a
+-- function that is loaded begins rightly, and is that of its instance; what is lowered so means its instance; and the
+-- stack of its run is that of the run on trees, whose frames have the registers that the groups report.
 use Rattle.std.proofs.Common.{◌≡◌, ◌∙◌, ◌<◌, ◌+◌, ℕ, zero, suc, List, [], ◌∷◌, length, map, max, Option, Some, None, slice_get, refl, sym, ap, ap₂, subst, arith}
 use Rattle.std.proofs.lemmas.Option.{none-some, same_Some}
 use Rattle.command_library.specs.fip_language.Gauge.{highest_frames, highest_words}

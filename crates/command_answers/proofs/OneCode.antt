@@ -1,4 +1,4 @@
--- What is said of a code file is one thing: its bytes spell one code at most, whose least violation and whose stack
+-- What is said of a code file is one thing: its bytes encode one code at most, whose least violation and whose stack
 -- numbers are one.
 use Rattle.std.proofs.Common.{◌≡◌, ◌∙◌, ◌++◌, ℕ, zero, suc, Bool, true, false, List, [], ◌∷◌, Some, slice_get, sym, ap, ap₂, subst, refl, arith, if◌then◌else◌}
 use Rattle.std.specs.Prelude.{Ok, Err, bytes_eq}

@@ -7,7 +7,7 @@ use Rattle.clap.specs.Words.{Text, Row, one_of, first_of, subcommand_of}
 use Rattle.command_library.specs.command_words.Words.{Request, Room, Command, Check, Compile, Verify, Upgrade, Exec, Run, Eval, Trace, Session, Tasks, Derive, Audit, Replay, Library, Gen}
 use Rattle.command_library.specs.command_words.Words.{AsksFor, AsksToRun, IsRoom, IsCommand, IsNumberIn, flag_text, command_app, command_name}
 
--- ---- what stands in the rows
+-- ---- what is in the rows
 
 abbrev text_in : Option Text → Text
 text_in None = []

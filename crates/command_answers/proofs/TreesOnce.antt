@@ -1,5 +1,5 @@
--- `exec` and `gen` come to one thing: a source means one thing, its input spells one list of arguments, and its groups
--- tell one bound of the entry, so that its frames are one.
+-- `exec` and `gen` end in one thing: a source means one thing, its input encodes one list of arguments, and its groups
+-- report one bound of the entry, so that its frames are one.
 use Rattle.std.proofs.Common.{◌≡◌, ◌∙◌, ℕ, Bool, List, Option, Some, slice_get, refl, sym, ap, subst, arith}
 use Rattle.std.specs.Prelude.{Err}
 use Rattle.command_library.specs.fip_language.Core.{Core}
@@ -36,7 +36,7 @@ module _ (source name : List ℕ) (s t : Start source name) where
   abbrev y : Entry source name
   y = t.entry
 
-  -- what its groups tell of the entry is one
+  -- what its groups report of the entry is one
   bound_once : t.bound ≡ s.bound
   bound_once =
       let root = root_at name x.program.instances x.root x.named in
@@ -91,7 +91,7 @@ module _ (source name input : List ℕ) (room : Room) (gauge : Bool) where
 
 -- ---- gen
 
--- what `gen` comes to
+-- what `gen` ends in
 pub generated_once : (seed count : ℕ) (d e : End) → Generates seed count d → Generates seed count e → d ≡ e
 generated_once seed count d e (LongInput more) (LongInput further) = refl
 generated_once seed count d e (LongInput more) (Drawn short) = absurd (omega (arith, more, short))

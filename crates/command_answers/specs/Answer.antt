@@ -1,12 +1,12 @@
--- What words, files and an input come to, where no object fails: the status, the texts on out and err, and the files.
+-- What words, files and an input end in, where no object fails: the status, the texts on out and err, and the files.
 -- All fifteen commands are said here, and nothing else says what a command answers.
 --
 -- The causes come in this order. The words are no command: status 2. The file that the command fetches first is
 -- missing: status 9. The source, the code or the trace is refused, then the entry: status 1 or 8. The input has too
--- many bytes, or is no text of what the command wants: status 5. The store is too small: status 6. Then the command
+-- many bytes, or is no text of what the command requires: status 5. The store is too small: status 6. Then the command
 -- does what it does: a run may end in a trap, 3, out of calls, 4, or out of frames, 7; a file may be too long to be
 -- stored, 1. Else it is done: status 0. Where the status isn't 0, its text is on err, out is as it was, and so are the
--- files. Want of memory, status 10, may come at any place of this order.
+-- files. Running out of memory, status 10, may come at any place of this order.
 --
 -- `exec list.fip3 rev` without that file has status 9 and `fault: folder` on err; where it breaks a rule, status 1 and
 -- its report; and with `Nil` and `Nil` on the input, status 0 and `Nil` on out.
@@ -80,7 +80,7 @@ abbrev pub host : Option (List ℕ) → Option (List ℕ) → Option (List ℕ) 
 host out out' err err' files status =
     record { out = out; out' = out'; err = err; err' = err'; files = files; status = status }
 
--- It finds what the command comes to.
+-- It finds what the command ends in.
 pub record IsAnswer (c : Command) (files : List File) (input : List ℕ) (h : Host) : Type 0 where
   pub end : End
   pub ends : ComesTo files input c end

@@ -1,6 +1,6 @@
--- For the theorems on `eval` and `exec`: what they are asked, by what is known of the source: its typed program, the instance
--- of the entry, and the arguments that the input spells. And what is reported of it: of `reverse` on `Cons(1, Cons(2, Nil))`
--- the one line `Cons(2, Cons(1, Nil))`.
+-- For the theorems on `eval` and `exec`: what they are asked, by what is known of the source: its typed program, the
+-- instance of the entry, and the arguments that the input encodes. And what is reported of it: of `reverse` on
+-- `Cons(1, Cons(2, Nil))` the one line `Cons(2, Cons(1, Nil))`.
 use Rattle.std.specs.Prelude.{◌≡◌, ◌≤◌, ℕ, List, Ok, Err}
 use Rattle.command_library.specs.fip_language.declared.TrapKind.{TrapKind}
 use Rattle.command_library.specs.fip_language.Meaning.{Answer, Trap}

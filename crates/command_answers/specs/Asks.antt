@@ -1,7 +1,7 @@
 -- What each command asks of a host: which file it fetches first, whether it reads the input, and under which name it
--- stores; what it wants of that file; and what it must have found before it comes to its input.
+-- stores; what it requires of that file; and what it must have found before it reaches its input.
 --
--- `exec list.fip3 rev` comes to its input where list.fip3 is there, breaks no rule and has a root rev that isn't plain;
+-- `exec list.fip3 rev` reaches its input where list.fip3 is there, breaks no rule and has a root rev that isn't plain;
 -- `run list.code rev` where list.code is the file of a sound code that has a function of this name.
 use Rattle.std.specs.Prelude.{ℕ, List, Option, Some, None}
 use Rattle.fip_outside.specs.Files.{File, HoldsFile}
@@ -52,7 +52,7 @@ fetched_name (Replay trace step) = Some trace
 fetched_name (Library name) = None
 fetched_name (Gen seed count) = None
 
--- what is wanted of that file, where it is a source of which all rules are asked
+-- what is required of that file, where it is a source of which all rules are checked
 abbrev pub wanted : Command → Option Wanted
 wanted (Check file) = Some Lawful
 wanted (Compile file out) = Some Lawful
@@ -70,7 +70,7 @@ abbrev pub IsReadyFor : List ℕ → Option Wanted → Type 0
 IsReadyFor source None = Unit {0}
 IsReadyFor source (Some w) = IsReady source w
 
--- These bytes have what a command wants of the file that is fetched first.
+-- These bytes have what a command requires of the file that is fetched first.
 abbrev pub HasWanted : Command → List ℕ → Type 0
 HasWanted (Run r) bytes = HasFunction bytes r.entry
 HasWanted c bytes = IsReadyFor bytes (wanted c)
@@ -79,6 +79,6 @@ abbrev pub HoldsWanted : Command → Option (List File) → Option (List ℕ) �
 HoldsWanted c files None = Unit {0}
 HoldsWanted c files (Some name) = (bytes : List ℕ) × HoldsFile files name bytes × HasWanted c bytes
 
--- A command has come to its input: its file is there, and has what is wanted.
+-- A command has reached its input: its file is there, and has what is required.
 abbrev pub ComesToInput : Command → Option (List File) → Type 0
 ComesToInput c files = HoldsWanted c files (fetched_name c)

@@ -1,17 +1,18 @@
--- Which code is a code of a source: `compile` stores such a one, `trace` runs one, and `exec`, `gen` and `trace` leave one.
--- It is known by what it says and by what its runs come to; which instructions do this is left open.
+-- Which code is a code of a source: `compile` stores such a one, `trace` runs one, and `exec`, `gen` and `trace` leave
+-- one. It is known by what it says and by what its runs end in; which instructions do this is left open.
 --
 -- The source breaks no rule, and the code is sound. Its types are those of the source's program. It has a function for
 -- each fip and fbip instance, in their order: of the instance's kind, with its parameters, credits and results, with as
--- many registers as it has, and with its name where it is a root. What a function holds of the stack at the most is what
--- `check` reports of the instance. It has no more instructions and label maps than the instance's places allow, and no
--- instruction lists more registers than its width allows. Some bytes, however many, are its file of the second version.
--- And the code means the program: a run of a function, from where arguments of its parameters' types are loaded, ends as
--- its instance means, whatever calls and frames are given: with the same values, in the same trap, or out of calls or
--- frames, and with the same calls left; and it takes as much of the stack as the evaluation does.
+-- many registers as it has, and with its name where it is a root. What a function holds of the stack at the most is
+-- what `check` reports of the instance. It has no more instructions and label maps than the instance's places allow,
+-- and no instruction lists more registers than its width allows. Some bytes, however many, are its file of the second
+-- version. And the code means the program: a run of a function, from where arguments of its parameters' types are
+-- loaded, ends as its instance means, whatever calls and frames are given: with the same values, in the same trap, or
+-- out of calls or frames, and with the same calls left; and it takes as much of the stack as the evaluation does.
 --
--- The six instructions of the reversal of a list are a code of its source; so are seven, with a Move before the Ret. Six
--- that give back the list as it was are none: they are sound, but the reversal of Cons(1, Cons(2, Nil)) isn't that list.
+-- The six instructions of the reversal of a list are a code of its source; so are seven, with a Move before the Ret.
+-- Six that give back the list as it was are none: they are sound, but the reversal of Cons(1, Cons(2, Nil)) isn't that
+-- list.
 use Rattle.std.specs.Prelude.{◌≡◌, ◌<◌, ◌≤◌, ℕ, List, [], map, length, Some, slice_get}
 use Rattle.command_library.specs.fip_language.declared.limits.TheConstants.{MOST_FILE_BYTES}
 use Rattle.command_library.specs.fip_language.Table.{HaveTypes}

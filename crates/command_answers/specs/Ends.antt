@@ -69,7 +69,7 @@ abbrev pub Derives : List ℕ → End → Type 0
 Derives source (Ok text) = ((bytes : List ℕ) × IsDerivedFile source bytes) × (text ≡ derived_text)
 Derives source (Err failure) = IsUnderived source × (failure ≡ F.Refused (bare E74))
 
--- How a command ends on a source that has what it wants, and an input that isn't too long.
+-- How a command ends on a source that has what it requires, and an input that isn't too long.
 abbrev pub Does : List ℕ → List ℕ → Command → End → Type 0
 Does source input (Check file) e = ListsRoots source e
 Does source input (Compile file out) e = Compiles source e
@@ -97,7 +97,7 @@ abbrev pub ListsFunctions : List ℕ → End → Type 0
 ListsFunctions bytes (Ok text) = IsCodeListing bytes text
 ListsFunctions bytes (Err failure) = ⊥
 
--- the lines of `verify`; or E61, where no file of the second version that isn't too long spells the code
+-- the lines of `verify`; or E61, where no file of the second version that isn't too long encodes the code
 abbrev pub Upgrades : List ℕ → End → Type 0
 Upgrades bytes (Ok text) = IsCodeListing bytes text × ((again : List ℕ) × IsUpgraded bytes again)
 Upgrades bytes (Err failure) =
@@ -131,8 +131,8 @@ Judges p bytes (Ok text) = IsProofOf bytes p × (text ≡ derived_text)
 Judges p bytes (Err (F.Refused r)) = IsRejectedOf bytes p r
 Judges p bytes (Err failure) = ⊥
 
--- `audit` on a source and the bytes of the proof file, where this is there. The report is reported of a source whose types
--- or matches aren't right, whatever the proof file is. No more rules are asked of one where they are.
+-- `audit` on a source and the bytes of the proof file, where this is there. The report is given of a source whose
+-- types or matches aren't right, whatever the proof file is. No more rules are checked of one where they are.
 pub data Audits (source : List ℕ) : Option (List ℕ) → End → Type 0 where
   Reported : (r : _) (proof : Option (List ℕ)) → IsEarlyReport source r → Audits source proof (Err (F.Refused r))
   NoProof : (p : Program) → IsMatched source p → Audits source None (Err (F.Fault O.Folder))

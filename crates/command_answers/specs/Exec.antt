@@ -1,11 +1,11 @@
--- What `exec` comes to on a source that has the entry with its code, once the input is read: what evaluation on trees
+-- What `exec` ends in on a source that has the entry with its code, once the input is read: what evaluation on trees
 -- gives. No code is spoken of.
 --
 -- The input is the text of the entry's arguments, a line for each parameter; where it is none, it is bad at the least
 -- offset with which none goes on. The store must have the words for the cells of the arguments and of the header's
--- credits; where it has fewer, both numbers are reported. Else the entry means something on these arguments, with the calls
--- that are given and the frames that a fip entry needs, or that are given: values, each printed in a line, and after
--- them the lines of the gauge where these are asked for; or a trap, or that calls or frames ran out.
+-- credits; where it has fewer, both numbers are reported. Else the entry means something on these arguments, with the
+-- calls that are given and the frames that a fip entry needs, or that are given: values, each printed in a line, and
+-- after them the lines of the gauge where these are asked for; or a trap, or that calls or frames ran out.
 --
 -- With `rev` on Cons(1, Cons(2, Cons(3, Nil))) and Nil and the gauge, these are four lines: the reversed list, `cells
 -- of 2: 3 to 3`, `stack: 0 frames, 9 words` and `bound: 0 frames, 9 words`. With 8 words the store is too small, since
@@ -35,8 +35,8 @@ use Rattle.command_answers.specs.GaugeText.{gauge_text, if_asked, highest_of, lo
 abbrev pub End : Type 0
 End = Result (List ℕ) Failure
 
--- An entry, and what a run of it holds of the stack at the most, as the groups of its program tell: none where it isn't
--- fip.
+-- An entry, and what a run of it holds of the stack at the most, as the groups of its program report: none where it
+-- isn't fip.
 pub record Start (source name : List ℕ) : Type 0 where
   pub entry : Entry source name
   pub members : List Member

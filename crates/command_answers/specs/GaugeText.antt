@@ -1,6 +1,6 @@
--- The lines of the gauge of `exec` and `gen`, by trees, of a run that gives values: as the lowest number of cells of each
--- size how many of them the results and the lent arguments have, as the highest how many the arguments and the header's
--- credits have.
+-- The lines of the gauge of `exec` and `gen`, by trees, of a run that gives values: as the lowest number of cells of
+-- each size how many of them the results and the borrowed arguments have, as the highest how many the arguments and the
+-- header's credits have.
 --
 -- The reversal of a list of three items has the lines
 --     cells of 2: 3 to 3
@@ -17,6 +17,6 @@ pub use Rattle.command_library.specs.command_run.GaugeText.{gauge_text, gauge_by
 abbrev pub highest_of : List ℕ → Values → ℕ → ℕ
 highest_of credits arguments k = cells_of_all k arguments + credits_of k credits
 
--- fewest: those of the results and of the lent arguments
+-- fewest: those of the results and of the borrowed arguments
 abbrev pub lowest_of : List Param → Values → Values → ℕ → ℕ
 lowest_of params arguments results k = cells_of_all k results + cells_of_all k (lent_values params arguments)

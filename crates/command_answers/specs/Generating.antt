@@ -1,9 +1,9 @@
--- What `gen` comes to: it runs the library's text rbtree, entry build, on the keys that the seed draws, and reports what the
--- tree has.
+-- What `gen` ends in: it runs the library's text rbtree, entry build, on the keys that the seed draws, and reports what
+-- the tree has.
 --
 -- Four lines are printed: how many keys were drawn, how many nodes the tree has, which is how many different keys there
--- are, and the least and the greatest of them, `none` where there is none. An input that has too many bytes isn't run on;
--- that of 100,000 keys, the most that words ask for, hasn't.
+-- are, and the least and the greatest of them, `none` where there is none. An input that has too many bytes isn't run
+-- on; that of 100,000 keys, the most that words ask for, hasn't.
 --
 -- `gen 1 3` makes a tree of 1103527590, 377401575 and 662824084, and prints `keys 3`, `nodes 3`, `least 377401575` and
 -- `greatest 1103527590`.

@@ -22,6 +22,6 @@ MayDiffer (Compile file out) d e = IsEither E61 d e
 MayDiffer (Trace file entry out room) d e = IsEither E75 d e
 MayDiffer c d e = ⊥
 
--- It is such a command, its source has what it wants, and the input isn't too long.
+-- It is such a command, its source has what it requires, and the input isn't too long.
 abbrev pub IsOpen : List File → List ℕ → Command → End → End → Type 0
 IsOpen files input c d e = MayDiffer c d e × ComesToInput c (Some files) × IsTaken c input

@@ -25,10 +25,10 @@ abbrev pub IsTraceFile : (source name : List ℕ) → Room → Option (List ℕ)
 IsTraceFile source name room input bytes = (text : List ℕ) × IsReported input text × (t : T.Trace)
     × IsSourceTrace source name text room t × (IsLong t → ⊥) × (bytes ≡ trace_text t)
 
--- What is stored, by the files before, and by what the input reported: the command's file is there and has what is wanted.
--- `compile` stores the file of a code of its source, `upgrade` that of the second version of the code that it fetched,
--- `derive` the text of the derivation that is made for its source, and `trace` the file of the trace of a run of its
--- source's code on the input.
+-- What is stored, by the files before, and by what the input reported: the command's file is there and has what is
+-- required. `compile` stores the file of a code of its source, `upgrade` that of the second version of the code that it
+-- fetched, `derive` the text of the derivation that is made for its source, and `trace` the file of the trace of a run
+-- of its source's code on the input.
 abbrev pub IsMadeBy : Command → Option (List ℕ) → Option (List File) → List ℕ → Type 0
 IsMadeBy (Compile file out) input files bytes =
     (source : List ℕ) × HoldsFile files file source × IsSourceFile source bytes

@@ -1,6 +1,6 @@
 -- The table of the typed program of a source is sound.
 -- Idea: a row of the table is that of a data type that is declared; its constructors have upper-case names, since they
--- are spelt so. The rest is what every program without static parameters keeps to.
+-- are encoded so. The rest is what every program without static parameters keeps to.
 use Rattle.std.proofs.Common.{◌≡◌, ℕ, true, List, Some, slice_get, refl, sym, ap, subst}
 use Rattle.fip_language.specs.Character.{is_upper_name}
 use Rattle.fip_language.specs.Core.{Data, Core}

@@ -1,10 +1,10 @@
 -- What an evaluation of a source ends with: the lines of the values that the source means, or what keeps it from them.
 --
--- The input is the text of the entry's arguments, a line for each parameter. Where it is no such text, it is reported as
--- bad, at the least offset with which no text of them goes on. Else the meaning of the entry on these arguments, with
--- so many calls and frames, is reported: its values, each in a line of its own; or the trap and its place, or that calls or
--- frames ran out. No input is too large: where it has no more bytes than the store has words, its values have room,
--- since no cell has more words than its text has bytes.
+-- The input is the text of the entry's arguments, a line for each parameter. Where it is no such text, it is reported
+-- as bad, at the least offset with which no text of them goes on. Else the evaluation of the entry on these arguments,
+-- with so many calls and frames, is reported: its values, each in a line of its own; or the trap and its place, or that
+-- calls or frames ran out. No input is too large: where it has no more bytes than the store has words, its values have
+-- room, since no cell has more words than its text has bytes.
 --
 -- With `fun twice(x: int): int { add(x, x) }` and `fun add(a: int, b: int): int { a + b }` the entry twice ends with
 -- `42` on the input `21`, as out of calls where it has one call, as a trap on 5000000000000000000, and with a bad input
@@ -37,8 +37,8 @@ pub record Entry (source name : List ℕ) : Type 0 where
   pub root : Instance
   pub named : root_named name program.instances ≡ Some root
 
--- How an answer is reported, where values of these types are wanted and so many calls and frames were given. No answer of
--- an accepted source is stuck.
+-- How an answer is reported, where values of these types are expected and so many calls and frames were given. No
+-- answer of an accepted source is stuck.
 abbrev pub Reports : Table → List ℕ → ℕ → ℕ → Answer → Result (List ℕ) Failure → Type 0
 Reports types results calls frames (Gives vs left) e = e ≡ Ok (printed_lines types results vs)
 Reports types results calls frames (Trap kind line col) e = e ≡ Err (F.Trap kind line col)

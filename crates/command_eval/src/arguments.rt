@@ -35,7 +35,7 @@ fn rows_of(
     Rows::of(alloc, types, &seal(loader), params, words)
 }
 
-/// The values that the bytes spell, a line for each parameter. A bad input where the bytes are no text of the
+/// The values that the bytes encode, a line for each parameter. A bad input where the bytes are no text of the
 /// parameters' types. The store has 16,777,216 words; only bytes that are more may be too many for it.
 pub fn arguments(
     alloc: Global,

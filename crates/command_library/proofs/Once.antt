@@ -1,5 +1,5 @@
--- `gen` comes to one thing: its text has one entry, whose run is reported in one way, and where it gives values these are
--- what the entry means, however many frames its code needs.
+-- `gen` ends in one thing: its text has one entry, whose run is reported in one way, and where it gives values these
+-- are what the entry means, however many frames its code needs.
 use Rattle.std.proofs.Common.{◌≡◌, ◌∙◌, ℕ, false, List, ap, sym, refl, arith}
 use Rattle.std.specs.Prelude.{Result, Ok, Err}
 use Rattle.fip_language.specs.Meaning.{Gives}
@@ -43,6 +43,6 @@ module _ (source : List ℕ) (seed count : ℕ) where
     makes_once _ _ (Made x vs rs l text short spelt fits runs gives) (Made y us qs k other also still within on means) =
         ap (λ ws. Ok (lines_of_results count ws)) (values_once x y vs us rs qs l k (frames_for runs.code gen_room) (frames_for on.code gen_room) spelt still gives means)
 
--- what `gen` comes to
+-- what `gen` ends in
 pub generated_once : (seed count : ℕ) (d e : Result (List ℕ) Failure) → Generates seed count d → Generates seed count e → d ≡ e
 generated_once seed count d e h k = makes_once tree_source seed count text_is_ready d e h k

@@ -1,4 +1,4 @@
--- From a machine's run to what `gen` comes to.
+-- From a machine's run to what `gen` ends in.
 use Rattle.std.proofs.Common.{◌≡◌, ◌≢◌, ◌∙◌, ◌≤◌, ◌<◌, ℕ, true, false, List, [], ◌++◌, length, Option, Some, None, option_map, refl, sym, ap, subst}
 use Rattle.std.specs.Prelude.{Result, Ok, Err, IfSome}
 use Rattle.std.specs.declared.vec.Vec.{Vec}

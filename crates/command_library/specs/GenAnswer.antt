@@ -1,12 +1,11 @@
--- It serves the proofs on `gen`: what it comes to, as the run of a code of the library's text rbtree, entry build, on
+-- It serves the proofs on `gen`: what it ends in, as the run of a code of the library's text rbtree, entry build, on
 -- the keys of a seed.
 --
--- That text breaks no rule. Its input is three lines: the list of the keys, a list of as many pads Pad4(0, 0, 0, 0), and
--- Leaf. The keys are the numbers of the seed, as for the turns of tasks. The run has the
--- calls and frames that `exec` is given where nothing is said, and the greatest store; and what keeps `exec` from its
--- values is reported. In place of the values four lines are printed, of the tree that the meaning of the entry gives on
--- these arguments: how many keys and how many nodes, and the least and the greatest key of a node, `none` where there
--- is no node.
+-- That text breaks no rule. Its input is three lines: the list of the keys, a list of as many pads Pad4(0, 0, 0, 0),
+-- and Leaf. The keys are the numbers of the seed, as for the turns of tasks. The run has the calls and frames that
+-- `exec` is given where nothing is said, and the greatest store; and what keeps `exec` from its values is reported. In
+-- place of the values four lines are printed, of the tree that the evaluation of the entry gives on these arguments:
+-- how many keys and how many nodes, and the least and the greatest key of a node, `none` where there is no node.
 --
 -- `gen 1 3` makes a tree of 1103527590, 377401575 and 662824084, and prints `keys 3`, `nodes 3`, `least 377401575` and
 -- `greatest 1103527590`.
@@ -23,8 +22,8 @@ pub use Rattle.command_library.specs.GenRoom.{tree_source, build, gen_room}
 
 -- ---- gen
 
--- What the run of a source's entry comes to, where the source has it. An input that has too many bytes isn't run on.
--- Where `exec` prints values, the lines tell of those that the entry means with as many frames.
+-- What the run of a source's entry ends in, where the source has it. An input that has too many bytes isn't run on.
+-- Where `exec` prints values, the lines report those that the entry means with as many frames.
 pub data Makes (source : List ℕ) (seed count : ℕ) : Result (List ℕ) Failure → Type 0 where
   LongInput : MOST_FILE_BYTES < length (gen_input seed count) →
       Makes source seed count (Err (F.BadInput MOST_FILE_BYTES))

@@ -14,7 +14,7 @@ use Rattle.task_semantics.specs.Draws.{numbers}
 
 -- ---- its input
 
--- `, ` stands after each of these items, and `Cons(` before it; then `Nil` and as many `)`
+-- `, ` is after each of these items, and `Cons(` before it; then `Nil` and as many `)`
 abbrev pub closing : ℕ → List ℕ
 closing zero = codes "\n"
 closing (suc n) = codes ")" ++ closing n

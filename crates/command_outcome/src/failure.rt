@@ -126,7 +126,7 @@ impl Failure {
         }
     }
 
-    /// The line that stands on err.
+    /// The line that is on err.
     pub fn text(&self, alloc: Global) -> Result<Vec<u8>, NoMemory>
         ensures text { IfOk result (λ v. v.items ≡ failure_text self.now) }
     {

@@ -1,5 +1,5 @@
--- What a machine's run came to: a run of the code to its end, and the gauge reports of all its states.
--- Idea: a run comes to one end, so the end of which the gauge reports is the end that the machine reported.
+-- What a machine's run ended in: a run of the code to its end, and the gauge reports of all its states.
+-- Idea: a run reaches one end, so the end of which the gauge reports is the end that the machine reported.
 use Rattle.std.proofs.Common.{◌≡◌, ◌∙◌, ℕ, List, [], Option, Some, None, refl, sym, ap, subst, arith}
 use Rattle.fip_language.specs.Gauge.{Seen}
 use Rattle.fip_language.specs.Meaning.{Answer, Gives, Trap, Out, Deep, Stuck}

@@ -1,4 +1,4 @@
--- A run of a code file comes to one thing: bytes spell one code, which has one function of a name and one stack number
+-- A run of a code file ends in one thing: bytes encode one code, which has one function of a name and one stack number
 -- of it; a text has one meaning; and runs on the same values are reported alike, wherever their cells lie.
 use Rattle.std.proofs.Common.{◌≡◌, ℕ, ◌<◌, ◌≤◌, Bool, List, [], ◌∷◌, ◌++◌, Option, Some, length, refl, sym, ap, ap₂, ◌∙◌, subst, arith}
 use Rattle.std.specs.Prelude.{Result, Ok, Err}
@@ -88,7 +88,7 @@ same_what bytes name w x h k =
 pub results_once : (tb : Table) (s : Store) (ts ws : List ℕ) (vs us : Values) → AreWordsOf tb s ts ws vs → AreWordsOf tb s ts ws us → vs ≡ us
 results_once tb s ts ws vs us h k = sym h.3 ∙ (ap values_of (same_parts tb s ts h.0 k.0 h.2 k.2 (sym h.1 ∙ k.1)) ∙ k.3)
 
--- ends that are alike are reported the same, where the same stands after values
+-- ends that are alike are reported the same, where the same is after values
 reports_alike : (tb : Table) (types : List ℕ) (calls frames : ℕ) (following beside : List ℕ) (s u : State) (e d : R.End) (x y : Result (List ℕ) Failure) → IsAlike tb types s.store e u.store d → ((ws us : List ℕ) → e ≡ R.Value ws → d ≡ R.Value us → following ≡ beside) → ReportsCode tb types calls frames following s e x → ReportsCode tb types calls frames beside u d y → x ≡ y
 reports_alike tb types calls frames following beside s u (R.Value ws) (R.Value us) x y h same k l =
     let left : k.0 ≡ h.0 = results_once tb s.store types ws k.0 h.0 k.1 h.1 in
@@ -115,7 +115,7 @@ module _ (c : PlainCode) (n : ℕ) (vs : Values) (calls frames : ℕ) (r q : C.R
       (λ x. subst (λ d. (y : R.Ends q.before c q.first calls d q.last q.left q.steps) → lowest size (seen r.before c x.enough (R.begun r.first calls)) ≡ lowest size (seen q.before c y.enough (R.begun q.first calls))) (sym second)
       (λ y. lowest_alike c r.before r.waits q.before q.waits n r.first q.first vs calls ws us r.last q.last r.left q.left r.steps q.steps size r.starts r.arguments q.starts q.arguments free_same x y some) q.ends) r.ends
 
-  -- they tell the same gauge, where they give values
+  -- they report the same gauge, where they give values
   pub gauges_same : (held : Option Stack) (ws us : List ℕ) → r.end ≡ R.Value ws → q.end ≡ R.Value us → gauge_by_states (all_seen r) held ≡ gauge_by_states (all_seen q) held
   gauges_same held ws us first second =
       gauge_same (all_seen r) (all_seen q) held (λ size some few. lows_same ws us size first second some)
@@ -130,7 +130,7 @@ module _ (c : PlainCode) (n : ℕ) (vs : Values) (calls frames : ℕ) (r q : C.R
       (subst (λ ts. IsAlike c.types ts (r.last).store r.end (q.last).store q.end) is alike)
       (λ ws us first second. ap (if_asked gauge) (gauges_same held ws us first second)) h k
 
--- ---- what a run comes to
+-- ---- what a run ends in
 
 abbrev pub Spelt : What → List ℕ → Values → Type 0
 Spelt w input vs = SpellsValues (w.code).types (types_of (w.function).params) input vs

@@ -1,6 +1,6 @@
--- `exec` comes to one thing: a source means one thing, its input spells one list of arguments, and each of its codes
--- holds of the stack what is reported of the entry, so that it has as many frames. What the gauge reports of a run is reported by
--- the evaluation.
+-- `exec` ends in one thing: a source means one thing, its input encodes one list of arguments, and each of its codes
+-- holds of the stack what is reported of the entry, so that it has as many frames. What the gauge reports of a run is
+-- reported by the evaluation.
 use Rattle.std.proofs.Common.{◌≡◌, ◌≢◌, ◌∙◌, inl, inr, ◌+◌, ◌-◌, ◌≤◌, ℕ, zero, suc, Bool, List, [], ◌∷◌, ◌++◌, length, Option, Some, slice_get, refl, sym, ap, ap₂, subst, arith}
 use Rattle.std.specs.Prelude.{Result, Ok, Err}
 use Rattle.std.proofs.lemmas.Option.{none-some}
@@ -38,7 +38,7 @@ pub use Rattle.command_eval.proofs.command_source.Compiling.{member_there as mem
 
 -- ---- frames
 
--- an answer that isn't for want of frames is the same with others
+-- an answer that isn't for lack of frames is the same with others
 pub same_answer : (core : Core) (name : List ℕ) (vs : Values) (calls m n : ℕ) → (meaning core name NoClosed vs calls m).answer ≢ Deep → (meaning core name NoClosed vs calls n).answer ≢ Deep → (meaning core name NoClosed vs calls m).answer ≡ (meaning core name NoClosed vs calls n).answer
 same_answer core name vs calls m n a b = elim (less_or_not m n) as (λ v. (meaning core name NoClosed vs calls m).answer ≡ (meaning core name NoClosed vs calls n).answer) [
   | inl less ↦

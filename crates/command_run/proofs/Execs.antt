@@ -1,4 +1,4 @@
--- From a machine's run to what `exec` comes to on a source.
+-- From a machine's run to what `exec` ends in on a source.
 use Rattle.std.proofs.Common.{◌≡◌, ◌≢◌, ◌∙◌, ◌<◌, ◌≤◌, ℕ, true, Bool, List, length, Option, Some, None, option_map, refl, sym, ap, subst, arith}
 use Rattle.std.specs.Prelude.{Result, Err}
 use Rattle.std.specs.declared.vec.Vec.{Vec}

@@ -1,5 +1,5 @@
 -- The table of types of a sound code that has a file is sound: its constructors have upper-case names, since they are
--- spelt so.
+-- encoded so.
 use Rattle.std.proofs.Common.{◌≡◌, ◌∙◌, ◌<◌, ◌≤◌, ℕ, zero, suc, Bool, true, false, List, [], ◌∷◌, length, Option, Some, None, slice_get, if◌then◌else◌, refl, sym, ap, arith}
 use Rattle.std.proofs.lemmas.Option.{none-some, same_Some, slice_get_within}
 use Rattle.fip_language.specs.Character.{is_upper_name}

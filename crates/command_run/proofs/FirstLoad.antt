@@ -1,4 +1,4 @@
--- What was loaded from a text into a new store is the store in which a run begins on the values that the text spells.
+-- What was loaded from a text into a new store is the store in which a run begins on the values that the text encodes.
 use Rattle.std.proofs.Common.{◌≡◌, ◌∙◌, ℕ, false, List, [], ◌++◌, length, ap, ap₂, sym, subst}
 use Rattle.std.specs.Prelude.{replicate}
 use Rattle.fip_language.specs.Prefix.{Accepted}

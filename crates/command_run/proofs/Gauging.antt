@@ -1,4 +1,4 @@
--- The gauge's lines, one after another, and that they tell of the states of a run.
+-- The gauge's lines, one after another, and that they report the states of a run.
 use Rattle.std.proofs.Common.{◌≡◌, ◌∙◌, ◌≤◌, ◌+◌, ◌-◌, ◌++◌, ℕ, zero, suc, List, [], Option, refl, sym, ap, ap₂, append_assoc, append-nil, arith}
 use Rattle.std.specs.Prelude.{Result, Ok, Err, OnOk}
 use Rattle.fip_language.specs.Gauge.{Seen, lowest, highest, highest_frames, highest_words}
@@ -51,7 +51,7 @@ gauge_reports g ss bound t =
     sizes_same (low_of g) (high_of g) (λ k. lowest k ss) (λ k. highest k ss) 16 (stack_lines (stack_of g) bound) (omega arith) t.lowest t.highest
     ∙ ap (λ s. size_lines (λ k. lowest k ss) (λ k. highest k ss) 16 (stack_lines s bound)) stack
 
--- gauges of states that tell the same, number by number
+-- gauges of states that report the same, number by number
 pub gauge_same : (ss us : List Seen) (bound : Option Stack) → ((k : ℕ) → 1 ≤ k → k ≤ 16 → lowest k ss ≡ lowest k us) → ((k : ℕ) → 1 ≤ k → k ≤ 16 → highest k ss ≡ highest k us) → highest_frames ss ≡ highest_frames us → highest_words ss ≡ highest_words us → gauge_by_states ss bound ≡ gauge_by_states us bound
 gauge_same ss us bound lows highs frames words =
     let made : (f w : ℕ) → Stack = λ f w. record { frames = f; words = w } in

@@ -1,4 +1,4 @@
--- A sound code's function can be loaded: what is asked of its header. And what a loader gives.
+-- A sound code's function can be loaded: what is required of its header. And what a loader gives.
 use Rattle.std.proofs.Common.{◌≡◌, ◌≢◌, ◌∙◌, ◌<◌, ◌≤◌, ◌+◌, ℕ, suc, Bool, true, false, not, List, [], ◌∷◌, length, Option, Some, None, slice_get, refl, ap, ap₂, subst, nat_lt, ◌==◌, arith}
 use Rattle.std.proofs.lemmas.Bool.Decides.{nat_tests}
 use Rattle.std.proofs.lemmas.List.{length-append, length-map}

@@ -24,7 +24,7 @@ use Rattle.command_run.specs.Starting.{IsStarted}
 use Rattle.command_run.proofs.Came.{Came, came, ends_last}
 use Rattle.command_run.proofs.Small.{ends_small}
 
--- no run from there comes to an instruction that can't be done
+-- no run from there reaches an instruction that can't be done
 pub safe : (r : Chosen) (input : List ℕ) (room : Room) (m : Seen) → IsStarted r input room m → IsSoundCode r.checked.code → IsSafeRun m room.calls
 safe r input room m st sound =
     let found = kinds_found (plain r.checked.code) in

@@ -1,4 +1,4 @@
--- From a machine's run to what `run` comes to on the code's file.
+-- From a machine's run to what `run` ends in on the code's file.
 use Rattle.std.proofs.Common.{◌≡◌, ◌∙◌, ℕ, Bool, List, [], length, Option, Some, option_map, sym, ap, subst, arith}
 use Rattle.std.specs.Prelude.{Result, Err}
 use Rattle.std.specs.declared.vec.Vec.{Vec}

@@ -1,4 +1,4 @@
--- What a loader makes of values in order is the store in which a run begins: both definitions lay the same cells.
+-- What a loader makes of values in order is the store in which a run begins: both definitions lay out the same cells.
 -- Idea: by the values, since each of both puts the cells of a field where those before it end.
 use Rattle.std.proofs.Common.{◌≡◌, ◌∙◌, ℕ, suc, ◌+◌, false, List, [], ◌∷◌, ◌++◌, length, Option, refl, sym, ap, ap₂, arith}
 use Rattle.std.specs.Prelude.{replicate}

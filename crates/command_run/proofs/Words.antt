@@ -20,7 +20,7 @@ use Rattle.command_eval.proofs.Texts.{no_free}
 
 -- ---- one cell
 
--- no size up to n is wanted
+-- no size up to n is needed
 none_up_to : (n : ℕ) (f : ℕ → ℕ) → ((k : ℕ) → k ≤ n → f k ≡ 0) → words_up_to n f (λ _. 0) ≡ 0
 none_up_to zero f h = words_zero f (λ _. 0)
 none_up_to (suc n) f h =

@@ -1,12 +1,12 @@
--- What `run` comes to on the file of a sound code that has the entry, once the input is read: what the rows of the
--- instructions do, whoever wrote the code.
+-- What `run` ends in on the file of a sound code that has the entry, once the input is read: what the instruction
+-- semantics gives, whoever wrote the code.
 --
 -- The input is the text of the function's arguments, a line for each parameter, by the types of the code; where it is
--- none, it is reported as bad, at the least offset with which none goes on. The store must have the words for the cells of
--- the arguments and of the header's credits: k + 1 for each cell of size k; where it has fewer, both numbers are reported.
--- Else the function runs, from a state in which just these cells lie in the store; a fip one has the frames that it
--- needs. The run ends: with words, which stand for values that are printed, and after them the lines of the gauge over
--- all its states, where these are asked for; or with a trap, or out of calls or frames.
+-- none, it is reported as bad, at the least offset with which none goes on. The store must have the words for the cells
+-- of the arguments and of the header's credits: k + 1 for each cell of size k; where it has fewer, both numbers are
+-- reported. Else the function runs, from a state in which just these cells lie in the store; a fip one has the frames
+-- that it needs. The run ends: with words, which stand for values that are printed, and after them the lines of the
+-- gauge over all its states, where these are asked for; or with a trap, or out of calls or frames.
 --
 -- The file of the reversal of a list prints `Cons(2, Cons(1, Nil))` on the input `Cons(1, Cons(2, Nil))` and `Nil`;
 -- with 5 words the store is too small, since 6 are needed, and with 2 calls it is out of calls.
@@ -86,8 +86,8 @@ frames_for c room = frames_of room.frames c.held
 abbrev pub RunOf : {bytes name : List ℕ} → Chosen bytes name → Values → Room → Type 0
 RunOf c vs room = Run c.code c.number vs room.calls (frames_for c room)
 
--- how the end of a run is reported, in its last state, where words of results have these types, so many calls and frames
--- were given, and these lines stand after values; no run of sound code ends because an instruction can't be done
+-- how the end of a run is reported, in its last state, where words of results have these types, so many calls and
+-- frames were given, and these lines are after values; no run of sound code ends because an instruction can't be done
 abbrev pub ReportsCode : Table → List ℕ → ℕ → ℕ → List ℕ → State → End → Result (List ℕ) Failure → Type 0
 ReportsCode types results calls frames following last (Value words) e =
     (vs : Values) × AreWordsOf types last.store results words vs × (e ≡ Ok (printed_lines types results vs ++ following))

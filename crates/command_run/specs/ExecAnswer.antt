@@ -1,18 +1,18 @@
--- What `exec` comes to on a source that has the entry with its code, once the input is read: what the source means.
+-- What `exec` ends in on a source that has the entry with its code, once the input is read: what the source means.
 --
--- The input is the text of the entry's arguments, a line for each parameter; where it is none, it is reported as bad, at
--- the least offset with which none goes on. The store must have the words for the cells of the arguments and of the
--- header's credits: k + 1 for each cell of size k; where it has fewer, both numbers are reported. Else the meaning of the
--- entry on these arguments is reported, with the calls that are given and the frames that its code needs, where it is fip,
--- or that are given: its values, each in a line of its own; or the trap and its place, or that calls or frames ran out,
--- where frames never run out of a fip entry.
+-- The input is the text of the entry's arguments, a line for each parameter; where it is none, it is reported as bad,
+-- at the least offset with which none goes on. The store must have the words for the cells of the arguments and of the
+-- header's credits: k + 1 for each cell of size k; where it has fewer, both numbers are reported. Else the evaluation
+-- of the entry on these arguments is reported, with the calls that are given and the frames that its code needs, where
+-- it is fip, or that are given: its values, each in a line of its own; or the trap and its place, or that calls or
+-- frames ran out, where frames never run out of a fip entry.
 --
--- Where the gauge is asked for, its lines stand after the values. They tell of a run of a code that is lowered from the
--- source, and of each such run the same: as the lowest number of cells of each size how many of them the results and the
--- lent arguments have, as the highest how many the arguments and the header's credits have, as the stack the peak of the
--- evaluation; and for a fip entry as its bound the stack number that `check` reports of it, while an fbip entry has no such
--- line. For a fip entry both numbers of cells are those of the arguments and credits, in all states of the run, and the
--- stack is within its bound.
+-- Where the gauge is asked for, its lines are after the values. They report a run of a code that is lowered from the
+-- source, and of each such run the same: as the lowest number of cells of each size how many of them the results and
+-- the borrowed arguments have, as the highest how many the arguments and the header's credits have, as the stack the
+-- peak of the evaluation; and for a fip entry as its bound the stack number that `check` reports of it, while an fbip
+-- entry has no such line. For a fip entry both numbers of cells are those of the arguments and credits, in all states
+-- of the run, and the stack is within its bound.
 --
 -- With `rev` on Cons(1, Cons(2, Cons(3, Nil))) and Nil and the gauge, these are four lines: the reversed list, `cells
 -- of 2: 3 to 3`, `stack: 0 frames, 9 words` and `bound: 0 frames, 9 words`. With 8 words the store is too small, since
@@ -42,8 +42,8 @@ use Rattle.command_run.specs.CodeRun.{Run, all_seen, words_for}
 use Rattle.command_run.specs.GaugeText.{gauge_by_states, highest_stack, if_asked}
 pub use Rattle.command_run.specs.StackBound.{IsBoundOf}
 
--- how an answer is reported, where values of these types are wanted, so many calls and frames were given, and these lines
--- stand after values; no answer of an accepted source is stuck
+-- how an answer is reported, where values of these types are expected, so many calls and frames were given, and these
+-- lines are after values; no answer of an accepted source is stuck
 abbrev pub ReportsRun : Table → List ℕ → ℕ → ℕ → (Values → List ℕ) → Answer → Result (List ℕ) Failure → Type 0
 ReportsRun types results calls frames following (Gives vs left) e = e ≡ Ok (printed_lines types results vs ++ following vs)
 ReportsRun types results calls frames following (Trap kind line col) e = e ≡ Err (F.Trap kind line col)
@@ -89,9 +89,9 @@ pub record RunsInPlace (vs : Values) (credits : List ℕ) (ss : List Seen) (boun
   pub highest : (size : ℕ) → 1 ≤ size → size ≤ MOST_FIELDS → highest size ss ≡ cells_given size vs credits
   pub within : IsWithin (highest_stack ss) bound
 
--- The code runs on these arguments, and the meaning of the entry on them is reported, with the gauge of the run. Where values
--- are given, the states of the run are measured by the evaluation. Its bound is what the program's groups tell of the
--- entry. A fip entry runs in place, and never lacks frames.
+-- The code runs on these arguments, and the evaluation of the entry on them is reported, with the gauge of the run.
+-- Where values are given, the states of the run are measured by the evaluation. Its bound is what the program's groups
+-- report of the entry. A fip entry runs in place, and never lacks frames.
 pub record RunsOn {source name : List ℕ} (entry : Entry source name) (vs : Values) (room : Room) (gauge : Bool)
     (e : Result (List ℕ) Failure) : Type 0 where
   pub code : Coded source name

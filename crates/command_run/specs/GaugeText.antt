@@ -1,5 +1,6 @@
--- The lines of the gauge. For each size of which there were cells they tell the lowest and the highest number of them;
--- then the frames and the words of the stack at their highest; and for a fip function what a run holds at the most.
+-- The lines of the gauge. For each size of which there were cells they report the lowest and the highest number of
+-- them; then the frames and the words of the stack at their highest; and for a fip function what a run holds at the
+-- most.
 --
 -- The reversal of a list of three items has the lines
 --     cells of 2: 3 to 3

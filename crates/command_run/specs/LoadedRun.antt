@@ -1,7 +1,7 @@
--- The run of a function on an input from its loaded state, place by place: that of which `trace` reports, and whose last
--- state `exec`, `run`, `gen` and `trace` leave.
+-- The run of a function on an input from its loaded state, place by place: that of which `trace` reports, and whose
+-- last state `exec`, `run`, `gen` and `trace` leave.
 --
--- In the store of the loaded state lie just the cells of the values that the input spells, in the order of the ) in
+-- In the store of the loaded state lie just the cells of the values that the input encodes, in the order of the ) in
 -- their text, and after them one for each credit of the function's header; none is released. The function has their
 -- words, and as many frames are free as it needs, where it is fip, or as are given.
 --
@@ -44,7 +44,7 @@ abbrev pub trace_of_run : {c : PlainCode} {n : ℕ} {vs : Values} {credits : Lis
     LoadedRun c n vs credits calls frames → Trace
 trace_of_run {c = c} {calls = calls} r = trace_of r.before c r.first calls r.steps
 
--- Function n runs on the values that the input spells, whose cells and those of the header's credits the store has the
+-- Function n runs on the values that the input encodes, whose cells and those of the header's credits the store has the
 -- words for.
 pub record InputRun (c : PlainCode) (n : ℕ) (input : List ℕ) (room : Room) : Type 0 where
   pub function : PlainFunction

@@ -64,7 +64,7 @@ pub record HasFrames (r : Chosen) (given frames : ℕ) : Type 0 where
   pub stack : HasStack (plain r.checked.code) r.entry held
   pub are : frames ≡ frames_of given held
 
--- The machine stands at the start of the function, on the values that the input spells, as they are loaded.
+-- The machine is at the start of the function, on the values that the input encodes, as they are loaded.
 pub record IsStarted (r : Chosen) (input : List ℕ) (room : Room) (m : Seen) : Type 0 where
   pub function : PlainFunction
   pub there : function_at (plain r.checked.code) r.entry ≡ Some function
@@ -114,7 +114,7 @@ failure_for (M.Trap kind line col) calls frames = Some (F.Trap kind line col)
 failure_for M.Out calls frames = Some (F.OutOfCalls calls)
 failure_for M.Deep calls frames = Some (F.OutOfFrames frames)
 
--- The end is reported so, where the words of the results have these types, and these lines stand after them.
+-- The end is reported so, where the words of the results have these types, and these lines are after them.
 abbrev pub ReportsEnded : Table → List ℕ → Room → List ℕ → Store → List ℕ → Ended → Result (List ℕ) Failure → Type 0
 ReportsEnded tb types room following s given M.Value e =
     (vs : Values) → ArePrintable tb s.cells types given vs → e ≡ Ok (printed_lines tb types vs ++ following)

@@ -198,7 +198,7 @@ pub fn run(
     ensures means { (source name : List ℕ) → IsReady source (Compiled name) → IsEntryOf source name ready →
         length input.now ≤ MOST_FILE_BYTES →
         OrNoMemory (Execs source name input.now (room_of room) gauge) result }
-    // and what the runs of the code come to, where it is that of a file.
+    // and what the runs of the code end in, where it is that of a file.
     ensures runs { (bytes name : List ℕ) → IsFunctionOf bytes name ready →
         length input.now ≤ MOST_FILE_BYTES → OrNoMemory (RunsCode bytes name input.now (room_of room) gauge) result }
     // What is left is this code, and the cells of the last state of its run from where the input is loaded.

@@ -1,6 +1,6 @@
 -- The code of a source that breaks no rule serves its sessions.
--- Idea: a call begins rightly beside the cells of what else is held, so its run ends as the instance means; and the code
--- holds of the stack what the program's groups tell of the instance, so both tell one number of frames.
+-- Idea: a call begins rightly beside the cells of what else is held, so its run ends as the instance means; and the
+-- code holds of the stack what the program's groups report of the instance, so both give one number of frames.
 use Rattle.std.proofs.Common.{◌≡◌, ◌≢◌, ◌∙◌, ◌<◌, ◌≤◌, ◌+◌, ℕ, zero, suc, Bool, true, false, List, [], ◌∷◌, length, map, Option, Some, None, slice_get, option_map, if◌then◌else◌, refl, sym, ap, subst, arith}
 use Rattle.std.specs.Prelude.{min}
 use Rattle.std.proofs.lemmas.Option.{none-some, same_Some, slice_get-map}

@@ -11,9 +11,9 @@ ghost use Rattle.session_code.specs.Served.{IsServed};
 ghost use Rattle.session_code.specs.session_correctness.tree_refinement.cell_code.declared.code.Code.{Code};
 ghost use Rattle.session_code.specs.session_correctness.tree_refinement.fip_language.declared.limits.TheConstants.{MOST_FRAMES};
 
-/// The code that is made of a source which breaks no rule serves its program's sessions: each function that has a name is
-/// that of an instance, with its parameters, results, credits and frames, and wherever it begins on values, beside the
-/// cells of what else is held, it comes to what the instance means. For who keeps a store alive between calls.
+/// The code that is made of a source which breaks no rule serves its program's sessions: each function that has a name
+/// is that of an instance, with its parameters, results, credits and frames, and wherever it begins on values, beside
+/// the cells of what else is held, it ends in what the instance means. For who keeps a store alive between calls.
 pub fn what_is_made_of_a_source_serves_its_sessions()
     ensures theorem { (source : List ℕ) (o : Setting) (code : Code) → IsAccepted source o.program →
         AreMembers (o.program).instances o.members → IsSound (plain code) → HasLiterals (plain code) →

@@ -51,7 +51,7 @@ pub listed : (bytes text : List ℕ) (code : Code) → IsSoundFile bytes (plain 
 listed bytes text code file lines =
     record { code = plain code; file = file; lines = lines }
 
--- ---- what a file is asked further
+-- ---- what a file requires further
 
 pub unspelt_keeps : (bytes : List ℕ) (code : Code) (f : Failure) → IsSoundFile bytes (plain code) → ((r : Refusal) → ◌≡◌ {A = Failure} f (F.Refused r) → IsUnspelt (plain code)) → IsRefusedBy (λ r. r ≡ bare E61) f → KeepsFromUpgrade bytes f
 unspelt_keeps bytes code (F.Refused r) file unspelt h = inr (plain code, file, unspelt r refl, h)

@@ -44,7 +44,7 @@ use Rattle.command_source.specs.declared.files.Compiled.{Compiled}
 use Rattle.command_source.specs.declared.known.Front.{Front}
 use Rattle.command_source.proofs.CodeFiles.{sound_file}
 
--- the registers that the groups tell are the instance's
+-- the registers that the groups report are the instance's
 pub member_there : (ds : List Instance) (ms : List Member) (i : ℕ) (d : Instance) → length ms ≡ length ds → slice_get ds i ≡ Some d → (m : Member) × (slice_get ms i ≡ Some m)
 member_there [] ms i d e f = absurd (cc)
 member_there (c ∷ ds) [] i d e f = absurd (omega (arith, e))

@@ -1,5 +1,5 @@
--- The text of the derivation that is made for an accepted source: an accepted source's program is what the making asks
--- for, and keeps the limits within which a text is read.
+-- The text of the derivation that is made for an accepted source: an accepted source's program is what the making
+-- requires for, and keeps the limits within which a text is read.
 use Rattle.std.proofs.Common.{◌≡◌, ◌∙◌, ◌≤◌, ◌<◌, ℕ, List, length, refl, sym, ap, subst, inl, inr, arith}
 use Rattle.std.specs.Prelude.{Result, Ok, Err, IfErr}
 use Rattle.fip_base.specs.declared.refusal.Refusal.{Refusal}

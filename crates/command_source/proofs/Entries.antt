@@ -1,4 +1,4 @@
--- What an accepted program's root is asked.
+-- What is required of an accepted program's root.
 use Rattle.std.proofs.Common.{◌≡◌, ℕ, List, slice_get, sym, subst, inr}
 use Rattle.std.specs.Prelude.{Some, None, Result, Ok, Err, OnOk}
 use Rattle.fip_language.proofs.Words.{slice_get-map}

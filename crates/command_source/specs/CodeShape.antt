@@ -1,12 +1,12 @@
--- How large a code of a program is, whatever its instructions are. A function has no more instructions and label maps than the
--- places of its instance allow, and none of the instructions, reached or not, lists more registers than the instance's width
--- allows; and it holds of the stack at the most what the groups tell of the instance, as `check` prints it of a root.
--- (`code_bytes` says how long the file of such a code is.)
+-- How large a code of a program is, whatever its instructions are. A function has no more instructions and label maps
+-- than the places of its instance allow, and none of the instructions, reached or not, lists more registers than the
+-- instance's width allows; and it holds of the stack at the most what the groups report of the instance, as `check`
+-- prints it of a root. (`code_bytes` says how long the file of such a code is.)
 --
 -- The function of
 --     fip fun rev(xs: list, acc: list): list { .. }
--- holds 0 frames and 9 words at the most, and has no more instructions than 16 times its registers and 16, for each of its
--- places.
+-- holds 0 frames and 9 words at the most, and has no more instructions than 16 times its registers and 16, for each of
+-- its places.
 use Rattle.std.specs.Prelude.{◌≡◌, ℕ, List, length, Some, slice_get}
 use Rattle.fip_trees.specs.declared.groups.Member.{Member}
 use Rattle.fip_trees.specs.Tree.{Instance, Program}
@@ -30,7 +30,8 @@ abbrev pub AreNarrow : Program → List PlainFunction → Type 0
 AreNarrow p fs = (i n : ℕ) (d : Instance) (f : PlainFunction) → slice_get p.instances i ≡ Some d →
     function_of p.instances i ≡ Some n → slice_get fs n ≡ Some f → HaveFew (most_operands p.instances d) f.instrs
 
--- Each function holds of the stack at the most what the groups tell of its instance, or nothing is reported of either.
+-- Each function holds of the stack at the most what the groups report of its instance, or nothing is reported of
+-- either.
 abbrev pub HaveStacks : Program → PlainCode → Type 0
 HaveStacks p code = (members : List Member) → AreMembers p.instances members → (i n : ℕ) (m : Member) →
     function_of p.instances i ≡ Some n → slice_get members i ≡ Some m → HasStack code n m.stack

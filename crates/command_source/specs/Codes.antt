@@ -40,7 +40,7 @@ pub data RefusesCode (bytes : List ℕ) : Failure → Type 0 where
       IsFileOf bytes code → IsLeast code function at rule →
       RefusesCode bytes (F.Unsound function at rule)
 
--- The same, or want of memory.
+-- The same, or that memory ran out.
 abbrev pub KeepsFromCode : List ℕ → Failure → Type 0
 KeepsFromCode bytes (F.BadCode at) = RefusesCode bytes (F.BadCode at)
 KeepsFromCode bytes (F.Unsound function at rule) = RefusesCode bytes (F.Unsound function at rule)
@@ -78,7 +78,7 @@ names_one (b ∷ name) fs = has_named (b ∷ name) fs
 
 -- ---- its file of the second version
 
--- No file of the second version that isn't too long spells the code.
+-- No file of the second version that isn't too long encodes the code.
 abbrev pub IsUnspelt : PlainCode → Type 0
 IsUnspelt code = (file : List ℕ) → CodeText file Second code → MOST_FILE_BYTES < length file
 
@@ -91,18 +91,18 @@ pub record IsUpgraded (bytes file : List ℕ) : Type 0 where
 
 -- ---- what keeps a code file from more
 
--- A violation of a code, the least one; or want of memory.
+-- A violation of a code, the least one; or that memory ran out.
 abbrev pub IsLeastOf : PlainCode → Failure → Type 0
 IsLeastOf c (F.Unsound function at rule) = IsLeast c function at rule
 IsLeastOf c F.NoMemory = Unit {0}
 IsLeastOf c failure = ⊥
 
--- What is said in place of a second version's file, or want of memory.
+-- What is said in place of a second version's file, or that memory ran out.
 abbrev pub KeepsFromUpgrade : List ℕ → Failure → Type 0
 KeepsFromUpgrade bytes failure = KeepsFromCode bytes failure
     ⊎ ((code : PlainCode) × IsSoundFile bytes code × IsUnspelt code × IsRefusedBy (λ r. r ≡ bare E61) failure)
 
--- What is said in place of a run of a function, or want of memory.
+-- What is said in place of a run of a function, or that memory ran out.
 abbrev pub KeepsFromRun : List ℕ → List ℕ → Failure → Type 0
 KeepsFromRun bytes entry failure = KeepsFromCode bytes failure
     ⊎ ((code : PlainCode) × IsSoundFile bytes code × (names_one entry code.functions ≡ false)

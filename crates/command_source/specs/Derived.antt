@@ -37,7 +37,7 @@ pub record IsUnderived (source : List ℕ) : Type 0 where
   pub accepted : IsAccepted source program
   pub long : MOST_FILE_BYTES < length (lines_text (made program))
 
--- What is said in place of such a file, or want of memory.
+-- What is said in place of such a file, or that memory ran out.
 abbrev pub KeepsFromDerive : List ℕ → Failure → Type 0
 KeepsFromDerive source failure = KeepsFrom source Lawful failure
     ⊎ (IsUnderived source × IsRefusedBy (λ r. r ≡ bare E74) failure)

@@ -27,11 +27,11 @@ function_stacks ms n (d ∷ ds) = stack_if d (held ms n) ++ function_stacks ms (
 abbrev pub functions_of : Instance → ℕ
 functions_of d = if is_ruled d.kind then 1 else 0
 
--- the function of an instance of this kind, where n functions stand before it
+-- the function of an instance of this kind, where n functions are before it
 abbrev pub function_if : FunKind → ℕ → Option ℕ
 function_if kind n = if is_ruled kind then Some n else None
 
--- the function of the first root of a name, if there is such a root, and if it has one; n functions stand before these
+-- the function of the first root of a name, if there is such a root, and if it has one; n functions are before these
 abbrev pub root_function : ℕ → List ℕ → List Instance → Option (Option ℕ)
 root_function n name [] = None
 root_function n name (d ∷ ds) =

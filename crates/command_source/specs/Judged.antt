@@ -1,6 +1,7 @@
--- What `audit` reports. Of a source whose types or matches aren't right it is the report. Else no more rules are asked,
--- and a proof file is judged for the source's program: its bytes are the text of a derivation of it; or they are no
--- derivation's text (E72, whose detail is an offset); or they are the text of one, but none of this program (E73).
+-- What `audit` reports. Of a source whose types or matches aren't right it is the report. Else no more rules are
+-- checked, and a proof file is judged for the source's program: its bytes are the text of a derivation of it; or they
+-- are no derivation's text (E72, whose detail is an offset); or they are the text of one, but none of this program
+-- (E73).
 --
 -- `audit list.fip3 list.proof` of a file that begins with `0 VAX` is refused by `E72: 4`: some text begins with `0 VA`,
 -- none with one byte more. A file without any byte is the text of the derivation of a program without fip and fbip
@@ -18,8 +19,8 @@ use Rattle.fip_proof.specs.derivation_text.ProofText.{IsProofText}
 use Rattle.program_front.specs.source_report.Report.{bare, IsMatched}
 use Rattle.command_source.specs.Wanted.{of_entry, IsReport}
 
--- The report of a rule on types or matches, or of one that is asked before: so they aren't right. A source that breaks
--- E52 alone has a report, and not an early one.
+-- The report of a rule on types or matches, or of one that is checked before: so they aren't right. A source that
+-- breaks E52 alone has a report, and not an early one.
 abbrev pub IsEarlyReport : List ℕ → Refusal → Type 0
 IsEarlyReport source r = IsReport source r × ((p : Program) → IsMatched source p → ⊥)
 

@@ -31,7 +31,7 @@ use Rattle.command_source.specs.Entries.{Chosen, IsNamed}
 use Rattle.command_source.specs.Wanted.{Lawful, IsRefusedBy, KeepsFrom, Refuses}
 use Rattle.command_outcome.specs.declared.failure.Failure.{Failure}
 
--- The code's types are the program's; its functions are headed as the program's instances tell, and hold of the stack
+-- The code's types are the program's; its functions are headed as the program's instances say, and hold of the stack
 -- what is reported of these; their instructions are lowered from these, and no more than their places allow, nor wider than
 -- these are.
 pub record IsLoweredFrom (p : Program) (code : PlainCode) : Type 0 where
@@ -69,7 +69,7 @@ abbrev pub IsUncompiled : List ℕ → Type 0
 IsUncompiled source = (code : PlainCode) × IsCodeOfSource source code × (file : List ℕ) × CodeText file Second code
     × (MOST_FILE_BYTES < length file)
 
--- What is said in place of such a file, or want of memory.
+-- What is said in place of such a file, or that memory ran out.
 abbrev pub KeepsFromCompile : List ℕ → Failure → Type 0
 KeepsFromCompile source failure = KeepsFrom source Lawful failure
     ⊎ (IsUncompiled source × IsRefusedBy (λ r. r ≡ bare E61) failure)

@@ -1,4 +1,4 @@
--- What a command wants of a source, and what keeps it from that: first the rules of the language, then the entry.
+-- What a command requires of a source, and what keeps it from that: first the rules of the language, then the entry.
 --
 -- `exec list.fip3 dup` of a source that breaks E40 at 3:5 is refused by E40; where no rule is broken, by E70 where no
 -- root is named dup, and else by E71, since dup is plain and has no code.
@@ -36,7 +36,7 @@ abbrev pub MissesCode : Option Instance → List ℕ → Refusal → Type 0
 MissesCode None name r = r ≡ of_entry E70 name
 MissesCode (Some d) name r = (d.kind ≡ Fun) × (r ≡ of_entry E71 name)
 
--- why an accepted program hasn't what is wanted
+-- why an accepted program hasn't what is required
 abbrev pub Misses : Wanted → Program → Refusal → Type 0
 Misses Lawful p r = ⊥
 Misses (Root name) p r = MissesRoot (root_named name p.instances) name r
@@ -46,7 +46,7 @@ Misses (Compiled name) p r = MissesCode (root_named name p.instances) name r
 abbrev pub IsReport : List ℕ → Refusal → Type 0
 IsReport source r = (q : Refusal) × Reports source q × (r ≡ placed source q)
 
--- The source is refused: this is its report; or it has none, and misses what is wanted.
+-- The source is refused: this is its report; or it has none, and misses what is required.
 abbrev pub Refuses : List ℕ → Wanted → Refusal → Type 0
 Refuses source w r = IsReport source r ⊎ ((p : Program) × IsAccepted source p × Misses w p r)
 
@@ -65,7 +65,7 @@ Has Lawful p = Unit {0}
 Has (Root name) p = IsRoot (root_named name p.instances)
 Has (Compiled name) p = IsCompiled (root_named name p.instances)
 
--- The source breaks no rule, and has what is wanted.
+-- The source breaks no rule, and has what is required.
 pub record IsReady (source : List ℕ) (w : Wanted) : Type 0 where
   pub program : Program
   pub accepted : IsAccepted source program
@@ -73,12 +73,12 @@ pub record IsReady (source : List ℕ) (w : Wanted) : Type 0 where
 
 -- ---- what is said in its place
 
--- A refusal of which this is said, or want of memory.
+-- A refusal of which this is said, or that memory ran out.
 abbrev pub IsRefusedBy : (Refusal → Type 0) → Failure → Type 0
 IsRefusedBy Says (F.Refused r) = Says r
 IsRefusedBy Says F.NoMemory = Unit {0}
 IsRefusedBy Says failure = ⊥
 
--- What is said in place of what is wanted, or want of memory.
+-- What is said in place of what is required, or that memory ran out.
 abbrev pub KeepsFrom : List ℕ → Wanted → Failure → Type 0
 KeepsFrom source w failure = IsRefusedBy (Refuses source w) failure

@@ -207,7 +207,7 @@ fn functions_of(instance: &Instance) -> usize
     if instance.kind.is_ruled() { 1 } else { 0 }
 }
 
-// The function of an instance, if it has one, where so many functions stand before it.
+// The function of an instance, if it has one, where so many functions are before it.
 fn function_if(instance: &Instance, number: usize) -> Option<usize>
     ensures is { result ≡ function_if (V.instance_of instance.now).kind number }
 {

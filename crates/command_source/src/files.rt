@@ -34,7 +34,7 @@ pub struct Compiled {
     pub text: Vec<u8>,
 }
 
-// The code file of version 2 that spells a code; E61 where none of at most 16,777,216 bytes does.
+// The code file of version 2 that encodes a code; E61 where none of at most 16,777,216 bytes does.
 fn written(alloc: Global, verified: &Verified) -> Result<Vec<u8>, Failure>
     ensures spelt { IfOk result (λ v. CodeText v.items Second (plain verified.now.code)) }
     ensures short { IfOk result (λ v. length v.items ≤ MOST_FILE_BYTES) }
@@ -125,8 +125,8 @@ pub fn verify_file(alloc: Global, bytes: &[u8]) -> Result<Vec<u8>, Failure>
     }
 }
 
-/// The code file of version 2 that spells the code of a code file of either version, and the lines of `verify_file`.
-/// The refusals are those of `verify_file`, and after them E61 where no code file of at most 16,777,216 bytes spells
+/// The code file of version 2 that encodes the code of a code file of either version, and the lines of `verify_file`.
+/// The refusals are those of `verify_file`, and after them E61 where no code file of at most 16,777,216 bytes encodes
 /// it.
 pub fn upgrade(alloc: Global, bytes: &[u8]) -> Result<Compiled, Failure>
     ensures listed { IfOk result (λ c. IsCodeListing bytes.now c.text.items) }

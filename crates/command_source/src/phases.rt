@@ -85,7 +85,7 @@ pub(crate) fn lawful(alloc: Global, source: &[u8]) -> Result<Lowered, Failure>
 }
 
 /// What is known of a source that breaks no rule, its code verified; else the source's report. Code that was lowered is
-/// sound, so it is verified. A file spells it, which may be too long.
+/// sound, so it is verified. A file encodes it, which may be too long.
 pub fn front(alloc: Global, source: &[u8]) -> Result<Front, Failure>
     ensures accepted { IfOk result (λ f. IsAccepted source.now (V.program f.typed.program)) }
     ensures groups { IfOk result (λ f. AreMembers (V.program f.typed.program).instances f.groups) }

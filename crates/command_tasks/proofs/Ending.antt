@@ -1,4 +1,4 @@
--- What the command comes to, from what its parts come to.
+-- What the command ends in, from what its parts end in.
 use Rattle.std.proofs.Common.{◌≡◌, ◌∙◌, ◌<◌, ◌≤◌, ℕ, List, length, sym, subst}
 use Rattle.std.specs.Prelude.{Result, Ok, Err}
 use Rattle.cell_code.specs.declared.code.Code.{Code}

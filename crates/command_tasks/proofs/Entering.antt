@@ -1,6 +1,6 @@
--- Calls of the code of a source are tasks of its program, and come to what the source means.
--- Idea: each function of the code has the header of an instance; the frames that the code's numbers tell and those that
--- the program's tell are both enough, so both runs answer the same.
+-- Calls of the code of a source are tasks of its program, and end in what the source means.
+-- Idea: each function of the code has the header of an instance; the frames that the code's numbers give and those that
+-- the program's give are both enough, so both runs answer the same.
 use Rattle.std.proofs.Common.{◌≡◌, ◌≢◌, inl, inr, ◌∙◌, ◌<◌, ◌≤◌, ◌+◌, ℕ, zero, suc, Bool, true, false, List, [], ◌∷◌, length, map, Option, Some, None, slice_get, option_map, if◌then◌else◌, refl, sym, ap, subst, arith}
 use Rattle.std.specs.Prelude.{min}
 use Rattle.std.proofs.lemmas.Option.{none-some, same_Some, slice_get-map}
@@ -279,7 +279,7 @@ module _ (source : List ℕ) (p : Program) (ms : List Member) (code : Code) (acc
       let t = task_of line some.0 some.1 in
       inr (less, (t.0, t.1), bad_of (suc n) lines k rest)
 
-  -- ---- what a call comes to is what its task comes to
+  -- ---- what a call ends in is what its task ends in
 
   module _ (room : Room) (limits : RunRoom) (calls : limits.calls ≡ room.calls) (frames : limits.frames ≡ room.frames) (few : room.frames ≤ MOST_FRAMES) where
     abbrev pub setting : Setting

@@ -1,4 +1,4 @@
--- A list of tasks of a source comes to one thing at most.
+-- A list of tasks of a source ends in one thing at most.
 -- Idea: a line is one task at most, since its text has one form, two roots have two names, and so have two constructors
 -- of a type; and a task has one answer, since only a function that isn't fip is ever out of the frames that are given.
 use Rattle.std.proofs.Common.{◌≡◌, ◌≢◌, ◌∙◌, inl, inr, ◌<◌, ◌≤◌, ◌+◌, ℕ, zero, suc, List, [], ◌∷◌, ◌++◌, length, map, Some, slice_get, refl, sym, ap, ap₂, subst, arith}
@@ -172,7 +172,7 @@ module _ (source : List ℕ) (p : Program) (accepted : IsAccepted source p) (roo
         let same : ts ≡ ss = tasks_once p sound lines ts ss also are in
         ap (λ t. Ok t) (lines_once 0 lines ss x y are reported (subst (λ us. TaskLines (setting ns) 0 us y) same others))
 
--- ---- what the source comes to
+-- ---- what the source ends in
 
 setting_is : (source : List ℕ) (room : Room) (o : Setting) (p : Program) (accepted : IsAccepted source p) → o.program ≡ p → IsSetting source room o → o ≡ setting source p accepted room o.members
 setting_is source room o p accepted same h = λ i. record { program = same i; members = o.members; words = h.words i; calls = h.calls i; frames = h.frames i }

@@ -1,4 +1,4 @@
--- For private contracts alone: what the calls of a list come to, by the code and the core form of its source.
+-- For private contracts alone: what the calls of a list end in, by the code and the core form of its source.
 use Rattle.std.specs.Prelude.{◌≡◌, ◌≢◌, ◌<◌, ℕ, suc, true, List, [], ◌∷◌, ◌++◌, length, codes}
 use Rattle.std.specs.Fmt.{decimal}
 use Rattle.cell_code.specs.declared.code.Code.{Code}

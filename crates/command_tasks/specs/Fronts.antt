@@ -1,4 +1,4 @@
--- What is asked of a front before its tasks are run: that it is that of a source.
+-- What is required of a front before its tasks are run: that it is that of a source.
 use Rattle.std.specs.Prelude.{ℕ, List}
 use Rattle.cell_code.specs.Plain.{plain}
 use Rattle.command_session.specs.command_run.fip_trees.TreeView as V

@@ -1,4 +1,4 @@
--- For private contracts alone: how tasks stand after some turns, and what is reported of those that ended.
+-- For private contracts alone: where tasks are after some turns, and what is reported of those that ended.
 use Rattle.std.specs.Prelude.{◌≡◌, ℕ, suc, List, [], ◌∷◌, ◌++◌, Option, Some, None, codes, slice_get}
 use Rattle.std.specs.Fmt.{decimal}
 use Rattle.cell_code.specs.declared.code.Code.{Code}
@@ -23,7 +23,7 @@ pub record CanRun (v : Checked) (kinds : Kinds) (first : Shared) : Type 0 where
   pub turn : (schedule : List ℕ) (k : ℕ) → CanTurn v kinds (scheduled kinds (plain v.code) schedule first) k
   pub finish : (schedule : List ℕ) (k : ℕ) → CanFinish v kinds (scheduled kinds (plain v.code) schedule first) k
 
--- the tasks stand where some schedule leads
+-- the tasks are where some schedule leads
 abbrev pub ShowsSome : Checked → Kinds → Shared → Turns → Type 0
 ShowsSome v kinds first t = (schedule : List ℕ) × Shows v t (scheduled kinds (plain v.code) schedule first)
 

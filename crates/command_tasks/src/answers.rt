@@ -1,4 +1,4 @@
-// What tasks come to, one after another.
+// What tasks end in, one after another.
 ghost use Rattle.std.specs.Prelude.{◌≡◌, List, length, IfOk};
 ghost use Rattle.fip_tasks.specs.machine_semantics.Steps.{Kinds};
 ghost use Rattle.code_verify.specs.Checked.{Checked};
@@ -12,7 +12,7 @@ use fip_base::plain::NoMemory;
 use fip_tasks::{Start, Tasks};
 use std::alloc::Global;
 
-/// Runs each task to its end, in order, and reports in a line for each what it comes to.
+/// Runs each task to its end, in order, and reports in a line for each what it ends in.
 pub fn answers(
     alloc: Global,
     code: &Code,

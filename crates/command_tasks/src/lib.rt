@@ -1,5 +1,4 @@
-// The tasks of a list, which take turns over one store: from the bytes of their lines to the lines of what they come
-// to.
+// The tasks of a list, which take turns over one store: from the bytes of their lines to the lines of what they end in.
 #![tactic(auto)]
 
 mod answers;

@@ -20,7 +20,7 @@ use fip_tasks::{Start, Tasks};
 use std::alloc::{AllocError, Global};
 use value_text::print_after;
 
-// A text with what separates values after it, unless none stands before.
+// A text with what separates values after it, unless none is before.
 fn separated(text: Vec<u8>, is_first: bool) -> Result<Vec<u8>, NoMemory>
     ensures text { IfOk result (λ t. t.items ≡ text.items ++ (if is_first then [] else codes "; ")) }
 {
@@ -102,7 +102,7 @@ fn answer_text(
     }
 }
 
-// What stands before what a task comes to.
+// What is before what a task ends in.
 fn number_text(alloc: Global, k: usize) -> Result<String, AllocError>
     ensures text { IfOk result (λ s. string_bytes s ≡ decimal k ++ codes ": ") }
 {

@@ -1,4 +1,4 @@
--- From what a machine says of its traced run to what `trace` comes to on a source.
+-- From what a machine says of its traced run to what `trace` ends in on a source.
 use Rattle.std.proofs.Common.{◌≡◌, ◌≢◌, ◌∙◌, ℕ, true, false, List, [], length, Option, Some, None, option_map, refl, sym, ap, subst, arith}
 use Rattle.std.specs.Prelude.{Result, Ok, Err}
 use Rattle.std.proofs.lemmas.Option.{none-some, same_Some, slice_get-map}

@@ -1,5 +1,5 @@
 -- An input has one run of a function, from where its values are loaded, and so one trace: a text has one meaning, and
--- the kinds before each instruction that a run comes to are the same, whichever are given.
+-- the kinds before each instruction that a run reaches are the same, whichever are given.
 use Rattle.std.proofs.Common.{◌≡◌, ◌∙◌, ℕ, zero, suc, List, [], ◌++◌, Option, refl, sym, ap, ap₂, subst}
 use Rattle.std.proofs.lemmas.Option.{same_Some}
 use Rattle.fip_language.specs.Character.{characters}

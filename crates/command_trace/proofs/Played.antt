@@ -1,4 +1,4 @@
--- From what was read and played again to what `replay` comes to.
+-- From what was read and played again to what `replay` ends in.
 use Rattle.std.proofs.Common.{◌≡◌, ◌≤◌, ◌<◌, ℕ, List, [], length, inl, inr, refl}
 use Rattle.trace_files.specs.run_loading.TraceText.{Trace, IsTrace}
 use Rattle.trace_files.specs.run_loading.TraceReading.{Got, Bad, read_trace, IsBadTrace}

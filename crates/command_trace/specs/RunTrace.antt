@@ -19,7 +19,7 @@ pub record IsRunTrace (c : PlainCode) (n : ℕ) (input : List ℕ) (room : Room)
   pub gives : by.run.end ≡ Value words
   pub is : t ≡ trace_of_run by.run
 
--- its file can't tell it, or is too long
+-- its file can't encode it, or is too long
 abbrev pub IsLong : Trace → Type 0
 IsLong t = (MOST_FILE_BYTES < length (trace_text t)) ⊎ ((4294967295 < length t.events) ⊎ (2 ^ 64 ≤ t.steps))
 

@@ -1,10 +1,10 @@
--- It serves the proof of `trace`: what it comes to on a source that has the entry, once the input is read, by the run of a
--- code of the source.
+-- It serves the proof of `trace`: what it ends in on a source that has the entry, once the input is read, by the run of
+-- a code of the source.
 --
 -- It ends as `exec` without the gauge does: with the lines of the values that the source means, or with what keeps it
 -- from them. With values it stores the file of a trace: that of the run of a code of the source on the input, from the
--- state in which its values are loaded, which gives words. Where just this trace is too long (`RunTrace`) E75 is reported
--- instead, and nothing is stored. A store that is too small is reported before.
+-- state in which its values are loaded, which gives words. Where just this trace is too long (`RunTrace`) E75 is
+-- reported instead, and nothing is stored. A store that is too small is reported before.
 use Rattle.std.specs.Prelude.{◌≡◌, ℕ, false, List, Result, Ok, Err}
 use Rattle.fip_language.specs.declared.rule.Rule.TheVariants.{E75}
 use Rattle.command_words.specs.Words.{Room}
@@ -36,8 +36,8 @@ pub data Traces (source name input : List ℕ) (room : Room) : Result Kept Failu
   TooLong : (t : Trace) → IsTraceOf source name input room t → IsLong t →
       Traces source name input room (Err (F.Refused (bare E75)))
 
--- What just this code's run comes to: the file is that of its trace, which isn't too long, or E75 is reported of a trace that
--- is.
+-- What just this code's run ends in: the file is that of its trace, which isn't too long, or E75 is reported of a trace
+-- that is.
 abbrev pub TracesRun : PlainCode → ℕ → List ℕ → Room → Result Compiled Failure → Type 0
 TracesRun c n input room (Ok kept) =
     (t : Trace) × IsRunTrace c n input room t × (IsLong t → ⊥) × (kept.file.items ≡ trace_text t)

@@ -1,7 +1,7 @@
 -- A run of a code of a source is reported as `exec` reports it.
--- Idea: a run comes to one end, and that of the code's function of a root's name is what the source means by this; what
+-- Idea: a run reaches one end, and that of the code's function of a root's name is what the source means by this; what
 -- is seen of its states is measured by the evaluation. So the run of a file's code is one of those of which `exec`
--- speaks, and `exec` comes to one thing.
+-- speaks, and `exec` ends in one thing.
 use Rattle.std.proofs.Common.{◌≡◌, ◌≢◌, ◌∙◌, ◌<◌, ◌≤◌, ℕ, true, Bool, List, [], ◌∷◌, ◌++◌, length, Option, Some, None, slice_get, refl, sym, ap, ap₂, subst, arith}
 use Rattle.std.specs.Prelude.{Result, Ok, Err}
 use Rattle.command_run.specs.cell_lower.fip_language.declared.FunKind.TheVariants.{Fip}
@@ -125,7 +125,7 @@ module _ (source name : List ℕ) (entry : Entry source name) (k : Coded source 
   types_same : (k.code).types ≡ entry.program.types
   types_same = (k.of').lowered.types ∙ ap (λ (p : Program). p.types) (program_same source name k.code k.of' k.number k.function k.there k.named k.some entry.program entry.accepted)
 
-  -- what its runs hold of the stack is what the groups tell of the root
+  -- what its runs hold of the stack is what the groups report of the root
   bound_is : IsBoundOf entry k.held
   bound_is ms found i m at there =
       let x = instance_named source name k.code k.of' k.number k.function k.there k.named k.some in

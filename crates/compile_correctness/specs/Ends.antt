@@ -1,8 +1,9 @@
--- What `exec` ends with on the bytes of a source, and `run` on those of a code file, once they are fetched: a refusal of
--- the source or of the code; then one of the entry; then an input of too many bytes; else what the run comes to.
+-- What `exec` ends with on the bytes of a source, and `run` on those of a code file, once they are fetched: a refusal
+-- of the source or of the code; then one of the entry; then an input of too many bytes; else what the run ends in.
 --
--- On a source with `fip fun rev(..)` and `fun dup(..)` and on the file that is compiled of it both end with the same text
--- for the entry rev, and both with E70 for the entry pop; for the entry dup `exec` ends with E71 and `run` with E70.
+-- On a source with `fip fun rev(..)` and `fun dup(..)` and on the file that is compiled of it both end with the same
+-- text for the entry rev, and both with E70 for the entry pop; for the entry dup `exec` ends with E71 and `run` with
+-- E70.
 use Rattle.std.specs.Prelude.{◌≡◌, ◌⊎◌, ◌<◌, ◌≤◌, ℕ, Bool, false, List, length, Result, Err}
 use Rattle.command_run.specs.cell_lower.fip_language.declared.limits.TheConstants.{MOST_FILE_BYTES}
 use Rattle.command_run.specs.cell_lower.fip_language.declared.rule.Rule.TheVariants.{E70, E71}

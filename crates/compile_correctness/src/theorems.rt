@@ -16,9 +16,9 @@ ghost use Rattle.command_run.specs.command_source.ProgramCode.{IsCodeOfSource, I
 ghost use Rattle.command_run.specs.source_report.Report.{IsAccepted};
 
 /// The file that `compile` stores of a source is run as the source is executed, with the same input and options: both
-/// print the same values and the same lines of the gauge, or tell the same bad input, the same words that are missing,
-/// the same trap, or that calls or frames ran out. Whatever code was stored, and whatever code is executed. For who ships
-/// a code file in place of its source.
+/// print the same values and the same lines of the gauge, or report the same bad input, the same words that are
+/// missing, the same trap, or that calls or frames ran out. Whatever code was stored, and whatever code is executed.
+/// For who ships a code file in place of its source.
 pub fn a_compiled_file_runs_as_its_source()
     ensures theorem { (source file name input : List ℕ) (room : Room) (gauge : Bool) (d e : Result (List ℕ) Failure) →
         IsCompiledFile source file → Execs source name input room gauge d → RunsCode file name input room gauge e →

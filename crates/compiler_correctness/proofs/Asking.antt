@@ -1,5 +1,5 @@
--- What lowering asks of a program so that its code is laid out, that of an accepted source gives: its expressions have
--- values and its lets binders, and what its expressions need is what was reported of them.
+-- What lowering requires of a program so that its code is laid out, that of an accepted source gives: its expressions
+-- have values and its lets binders, and what its expressions need is what was reported of them.
 use Rattle.std.proofs.Common.{◌≡◌, ◌≤◌, ◌<◌, ◌-◌, ◌+◌, ℕ, zero, suc, Bool, true, not, ◌&&◌, List, [], ◌∷◌, ◌++◌, length, map, drop, Some, slice_get, refl, sym, ap, ap₂, ◌∙◌, subst, arith}
 use Rattle.std.proofs.lemmas.Option.{none-some, same_Some}
 use Rattle.lowering_soundness.specs.fip_language.declared.FunKind.{FunKind}

@@ -1,4 +1,4 @@
--- Sound code has a file where its types, the kinds and names of its functions, and what stands in these have texts.
+-- Sound code has a file where its types, the kinds and names of its functions, and what is in these have texts.
 use Rattle.std.proofs.Common.{◌≡◌, ℕ, List, length, map, Some, slice_get, refl, subst, arith}
 use Rattle.std.proofs.lemmas.List.{length-map}
 use Rattle.lowering_soundness.proofs.fip_language.Words.{map_at}

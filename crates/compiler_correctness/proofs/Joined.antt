@@ -1,5 +1,5 @@
--- An accepted source's program is formed, typed, never stuck, and its binders are distinct: so nothing is left to ask of
--- it where its lowered code runs.
+-- An accepted source's program is formed, typed, never stuck, and its binders are distinct: so nothing is left to
+-- require of it where its lowered code runs.
 use Rattle.std.proofs.Common.{◌≡◌, ◌≢◌, ℕ, zero, suc, true, Bool, List, [], ◌∷◌, length, map, Option, Some, None, slice_get, refl, ap, subst}
 use Rattle.std.specs.Prelude.{take}
 use Rattle.lowering_soundness.specs.fip_language.Core.{Core}

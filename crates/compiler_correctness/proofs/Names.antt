@@ -1,5 +1,5 @@
--- The names of the functions and of the constructors of a source are no longer than it, and are spelt as in a code file;
--- and each data type has no more constructors than the source has bytes.
+-- The names of the functions and of the constructors of a source are no longer than it, and are encoded as in a code
+-- file; and each data type has no more constructors than the source has bytes.
 use Rattle.std.proofs.Common.{◌≡◌, ◌≤◌, ℕ, suc, true, List, [], ◌∷◌, length, ap, subst, arith}
 use Rattle.lowering_soundness.specs.fip_language.Character.{is_upper_name}
 use Rattle.lowering_soundness.specs.fip_language.Core as C

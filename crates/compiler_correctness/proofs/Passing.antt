@@ -1,4 +1,4 @@
--- What is so of the tokens of a program, and of all that stand after some of them, is so after each part of it. So the
+-- What is so of the tokens of a program, and of all that are after some of them, is so after each part of it. So the
 -- names of functions and constructors are tokens of the source, and a data type has no more constructors than tokens.
 use Rattle.std.proofs.Common.{◌≡◌, inl, inr, ℕ, suc, Bool, true, false, List, [], ◌∷◌, Option, Some, None, ℤ, refl, subst}
 use Rattle.lowering_soundness.specs.fip_language.declared.Place.{Place}

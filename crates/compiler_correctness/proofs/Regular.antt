@@ -1,5 +1,5 @@
--- What the header of a function of a source reports: it has a result, as the grammar asks, and at most 16 credits (E63);
--- and how many binders an instance of it has.
+-- What the header of a function of a source reports: it has a result, as the grammar requires, and at most 16 credits
+-- (E63); and how many binders an instance of it has.
 use Rattle.std.proofs.Common.{◌≡◌, ◌<◌, ◌≤◌, ◌+◌, inl, inr, ℕ, zero, suc, Bool, true, List, [], ◌∷◌, ◌++◌, length, map, Option, Some, None, slice_get, refl, sym, ap, subst, arith}
 use Rattle.std.proofs.lemmas.Option.{none-some}
 use Rattle.lowering_soundness.specs.fip_language.declared.limits.TheConstants.{MOST_CREDITS}
@@ -71,7 +71,7 @@ core_gives (S.FunctionDeclaration f ∷ ds) h = (h.0, core_gives ds h.1)
 parsed_gives : (source : List ℕ) (core : Core) → IsParsed source core → Every Gives core.functions
 parsed_gives source core h = subst (λ (c : Core). Every Gives c.functions) (sym h.is) (core_gives h.tree (program_gives h.spelt.0 h.tree h.spelt.3))
 
--- ---- how many binders stand in its body
+-- ---- how many binders are in its body
 
 both_many : (xs ys : List Binder) → length (xs ++ ys) ≡ length xs + length ys
 both_many [] ys = omega arith

@@ -1,4 +1,5 @@
--- What the soundness of lowered code asks of a program and of what its code shares with it, an accepted source gives.
+-- What the soundness of lowered code requires of a program and of what its code shares with it, an accepted source
+-- gives.
 use Rattle.std.proofs.Common.{◌≡◌, ◌≤◌, ℕ, zero, suc, true, List, [], ◌∷◌, length, Option, Some, None, slice_get, refl, sym, ap, ◌∙◌, subst, arith}
 use Rattle.std.proofs.lemmas.Option.{none-some, same_Some}
 use Rattle.lowering_soundness.specs.fip_language.declared.FunKind.{FunKind}
@@ -152,7 +153,7 @@ module _ (source : List ℕ) (p : Program) (h : IsAccepted source p) where
           let few = few_registers source p h g d there (is_ruled_of d.kind (has_one p.instances g n d number there)) in
           omega (arith, own, few)
 
-  -- code that is laid as the program asks is sound
+  -- code that is laid out as the program requires is sound
   pub laid_is_sound : (c : PlainCode) (st : Setting) → IsHeaded p c → AreLaid c st p → ((n : ℕ) (f : PlainFunction) → function_at c n ≡ Some f → MapsStand f) → IsSound c
   laid_is_sound c st headed all maps =
       let setting = all.setting in
@@ -164,7 +165,7 @@ module _ (source : List ℕ) (p : Program) (h : IsAccepted source p) where
       let number = sym (all.setting.functions l.number) ∙ l.function in
       function_limits c headed l.number n l.instance f l.there number is (maps n f is)))
 
-  -- ---- what lowering asks
+  -- ---- what lowering requires
 
   asked_at : (st : Setting) → IsSettingOf p st → (g : ℕ) (d : Instance) → slice_get p.instances g ≡ Some d → has_function d.kind ≡ true → AskedInstance st (needs_of (all_needs p p.instances) g) d
   asked_at st so g d there has =

@@ -52,7 +52,7 @@ types_spelt n ts few short within =
     joined (one (length ts)) (each two ts) (one_spelt (length ts) short)
     (each_spelt two ts (λ i t e. two_spelt t (let k = within i t e in omega (arith, k, few))))
 
--- what is spelt has bytes
+-- what is encoded has bytes
 pub bytes_of : (text : Option (List ℕ)) → IsSpelt text → (bytes : List ℕ) × (text ≡ Some bytes)
 bytes_of None h = cc
 bytes_of (Some bytes) h = (bytes, refl)

@@ -1,6 +1,6 @@
 -- Which code is headed as a program reports: its types are the program's, and it has a function for each fip and fbip
 -- instance, in the order of their numbers: of the instance's kind, with its parameters, header credits and results,
--- with as many registers as the program's groups tell, and with its name where it is a root. Of the instructions and
+-- with as many registers as the program's groups report, and with its name where it is a root. Of the instructions and
 -- label maps this says nothing.
 --
 -- Of a program with the instances `fip rev` and `fun dup` it is a code with one function, which is fip and named rev.

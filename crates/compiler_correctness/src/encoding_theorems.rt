@@ -13,8 +13,8 @@ ghost use Rattle.derivation_correctness.specs.source_report.Report.{IsAccepted};
 ghost use Rattle.lowering_soundness.specs.tail_groups.Members.{AreMembers};
 
 /// Sound code of an accepted source has a code file of version 2, where it has the types and the headers of the
-/// source's program, and its instructions and labels can be spelt. For who writes the code of a source: some bytes
-/// spell it, and only their number may be too great.
+/// source's program, and its instructions and labels can be encoded. For who writes the code of a source: some bytes
+/// encode it, and only their number may be too great.
 pub fn the_code_of_an_accepted_source_has_a_file()
     ensures theorem { (source : List ℕ) (program : Program) (members : List Member) (code : Code) →
         IsAccepted source program → AreMembers program.instances members → code.types ≡ program.types →

@@ -58,7 +58,7 @@ pub fn accepted_instances_are_derived()
 {}
 
 /// The function of an instance of an accepted source keeps the limits of sound code: at most 4,096 registers, 1 to 8
-/// results, and at most 16 credits of sizes 1 to 16; as long as its label maps stand in order. For who asks whether
+/// results, and at most 16 credits of sizes 1 to 16; as long as its label maps are in order. For who asks whether
 /// lowered code is sound.
 pub fn accepted_functions_keep_the_limits()
     ensures theorem { (source : List ℕ) (program : Program) (code : PlainCode) (i n : ℕ) (instance : Instance)
@@ -74,17 +74,17 @@ pub fn accepted_code_has_sound_tables()
         IsHeaded program code → AreSoundTables code }
 {}
 
-/// Code of an accepted source breaks no rule of sound code, where it is headed as the source's program reports and laid
-/// out as its instances ask, and its label maps stand in order and tell of each tree some constructor. Nothing is left
-/// to ask of the source. For who shows that what is lowered is sound.
+/// Code of an accepted source breaks no rule of sound code, where it is headed as the source's program says and laid
+/// out as its instances require, and its label maps are in order and report some constructor of each tree. Nothing is
+/// left to require of the source. For who shows that what is lowered is sound.
 pub fn laid_accepted_code_is_sound()
     ensures theorem { (source : List ℕ) (program : Program) (code : PlainCode) (setting : Setting) →
         IsAccepted source program → IsHeaded program code → AreLaid code setting program →
         ((n : ℕ) (f : PlainFunction) → function_at code n ≡ Some f → MapsStand f) → IsSound code }
 {}
 
-/// The program of an accepted source is as lowering asks, with the needs that the rules on credits are reported of, so
-/// that its code is laid out; and its types, names, fields and credits are sound. For who lowers it.
+/// The program of an accepted source is as lowering requires, with the needs that the rules on credits are given,
+/// so that its code is laid out; and its types, names, fields and credits are sound. For who lowers it.
 pub fn accepted_programs_are_as_asked()
     ensures theorem { (source : List ℕ) (program : Program) → IsAccepted source program →
         IsAsked program (all_needs program program.instances) }
@@ -92,7 +92,7 @@ pub fn accepted_programs_are_as_asked()
 {}
 
 /// The code that lowering makes of an accepted source breaks no rule of sound code: it is headed as the source's
-/// program reports, and laid out where the program is as asked. For who verifies such code.
+/// program reports, and laid out where the program is as required. For who verifies such code.
 pub fn lowered_accepted_code_is_sound()
     ensures theorem { (source : List ℕ) (program : Program) (code : PlainCode) → IsAccepted source program →
         IsHeaded program code → (IsAsked program (all_needs program program.instances) → IsLaidOut program code) →
@@ -100,8 +100,8 @@ pub fn lowered_accepted_code_is_sound()
 {}
 
 /// The functions of the code that lowering makes of an accepted source hold of the stack at the most what the groups of
-/// its program tell of their instances: they call each other just as these do, and their frames have as many words. So
-/// what `check` prints is what the code says. For who gives a run its stack.
+/// its program report of their instances: they call each other just as these do, and their frames have as many words.
+/// So what `check` prints is what the code says. For who gives a run its stack.
 pub fn lowered_accepted_code_has_its_stack_numbers()
     ensures theorem { (source : List ℕ) (program : Program) (code : PlainCode) (members : List Member) (i n : ℕ)
         (m : Member) → IsAccepted source program → IsHeaded program code →

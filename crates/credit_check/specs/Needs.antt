@@ -1,5 +1,5 @@
 -- What expressions need of each size of cells: a credit for each constructor with fields that they make, and what the
--- headers of their callees ask; less what patterns give.
+-- headers of their callees require; less what patterns give.
 --
 -- For example match! xs { Cons(x, t) -> Cons(x, Cons(x, t)); Nil -> Nil } needs one credit of size 2: its first clause
 -- needs two and its pattern gives one, its second needs none. With Cons(x, t) for the first body it needs none.

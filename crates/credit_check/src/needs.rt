@@ -72,7 +72,7 @@ pub fn given(is_taken: bool, pattern: &Pattern) -> Result<Sizes, NoMemory>
     Ok(sizes)
 }
 
-/// What the header that marks these credits gives its body, and asks of a call.
+/// What the header that marks these credits gives its body, and requires of a call.
 pub fn marked(credits: &[u8]) -> Result<Sizes, NoMemory>
     ensures marked { IfOk result (λ s. s ≡ L.marked_from no_sizes credits.now) }
 {
@@ -83,7 +83,7 @@ pub fn marked(credits: &[u8]) -> Result<Sizes, NoMemory>
     Ok(sizes)
 }
 
-/// Adds what the header of a callee asks; nothing where there is none.
+/// Adds what the header of a callee requires; nothing where there is none.
 pub fn add_asked(sizes: &mut Sizes, instances: &[Instance], callee: u32) -> Result<(), NoMemory>
     ensures added { OnOk result (sizes.new ≡
         L.asked_from sizes.old (slice_get (V.instances instances.now) callee)) }

@@ -117,7 +117,7 @@ first_of core v walked =
 pub none_violated : (core : Core) → IsWalked core None None → (w : Violation) → Violates core w → ⊥
 none_violated core walked w h = subst (In w) (none_of (written_violations core ++ value_faults 1 walked.flags core.types) (sym walked.noted)) (in_violates core walked.flags w walked.reported h)
 
--- ---- what is declared where no name stands twice
+-- ---- what is declared where no name occurs twice
 
 abbrev made : List (Name × TypeHead) → List (Name × ConstructorId) → List (Name × ℕ) → Names
 made ts ks fs = record { types = ts; constructors = ks; functions = fs }

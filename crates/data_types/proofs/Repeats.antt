@@ -1,4 +1,4 @@
--- Names that stand twice, one name and one list of names after another.
+-- Names that occur twice, one name and one list of names after another.
 use Rattle.std.proofs.Common.{◌≡◌, ℕ, suc, ◌+◌, ◌<◌, Bool, true, false, not, List, [], ◌∷◌, ◌++◌, map, drop, length, get_or, Option, Result, OnOk, refl, sym, subst, ap, ◌∙◌, add-one, drop-cons, append_assoc, if◌then◌else◌}
 use Rattle.fip_language.specs.declared.Place.{Place}
 use Rattle.fip_language.specs.declared.rule.Rule.TheVariants.{E10}
@@ -100,7 +100,7 @@ seen_row d c (k ∷ ks) es =
     ∙ ap (λ ns. seen_after ns (row_mentions ks)) (seen_one es k.name a)
     ∙ if_seen (is_among k.name (names es)) (names es) (names es ++ k.name ∷ []) (row_mentions ks)
 
--- a row of constructors, and what stands after it
+-- a row of constructors, and what is after it
 pub repeats_row : (d : ℕ) (ks : List DataConstructor) (rest : List Mention) (es fs : List (Name × ConstructorId)) (l m : Option Violation) → fs ≡ with_meanings es (row_meanings d 0 ks) → m ≡ after l (repeats (names es) (row_mentions ks)) → after m (repeats (names fs) rest) ≡ after l (repeats (names es) (row_mentions ks ++ rest))
 repeats_row d ks rest es fs l m added noted =
     ap (λ fs. after m (repeats (names fs) rest)) added

@@ -17,7 +17,7 @@ use Rattle.data_types.specs.Marks.{true_of}
 use Rattle.data_types.specs.Steps.{ReportsValued}
 
 -- E13: a data type of the program without a finite value, its parameters taken to have one. Its number among the
--- declarations is one more, since bool stands before it.
+-- declarations is one more, since bool is before it.
 pub record HasNoValue (core : Core) (v : Violation) : Type 0 where
   pub place : ℕ
   pub type : Data

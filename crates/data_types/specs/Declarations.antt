@@ -82,7 +82,7 @@ count_tys t.NoTys = 0
 count_tys (t.MoreTys u us) = suc (count_tys us)
 
 -- A type parameter without arguments, or a data type with as many as it has parameters. Anything else breaks E11 or E12
--- and counts as int, so that E13 asks nothing of it.
+-- and counts as int, so that E13 requires nothing of it.
 abbrev pub meant : Option ℕ → Option TypeHead → t.Tys → t.Ty
 meant (Some k) o us = if count_tys us == 0 then t.Parameter k else t.Given
 meant None None us = t.Given

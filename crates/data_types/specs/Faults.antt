@@ -31,7 +31,7 @@ when false v = []
 
 -- ---- E10: a name twice
 
--- the names that stand in `seen` or before
+-- the names that are in `seen` or before
 abbrev pub repeats : List Name → List Mention → List Violation
 repeats seen [] = []
 repeats seen (m ∷ ms) =
@@ -151,7 +151,7 @@ annotation_faults s (Some w) = written_faults s w
 abbrev pub binders_faults : Scope → List Binder → List Violation
 binders_faults s bs = all_of (λ (b : Binder). annotation_faults s b.annotation) bs
 
--- The static arguments of a call are types and functions, and are asked later.
+-- The static arguments of a call are types and functions, and are checked later.
 abbrev mutual
   pub expression_faults : Scope → Expression → List Violation
   expression_faults s (Give a) = argument_faults s a
@@ -202,7 +202,7 @@ abbrev pub header_faults : Scope → Function → List Violation
 header_faults s f =
     signatures_faults s f.statics ++ (parameters_faults s f.parameters ++ result_faults s f.result)
 
--- credits, names that stand twice in the header, types, the body
+-- credits, names that occur twice in the header, types, the body
 abbrev pub function_faults : Names → Function → List Violation
 function_faults ns f =
     credit_faults f.credits ++

@@ -1,6 +1,6 @@
 // The search for claims that are true. A constructor of an asked claim's type that has a field without a value, as far
 // as is known, waits for the claims that this field leads to; what waits for a claim is looked at again once that is
-// marked. What waits only makes the search fast: that it is complete stands on a last pass in which nothing changes.
+// marked. What waits only makes the search fast: that it is complete rests on a last pass in which nothing changes.
 ghost use Rattle.std.specs.Prelude.{◌≡◌, ℕ, true, false, OnOk, IfOk};
 ghost use Rattle.data_types.specs.Marks as m;
 ghost use Rattle.data_types.specs.Steps as s;

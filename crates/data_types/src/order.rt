@@ -1,4 +1,4 @@
-// An order in which the data types are looked at for values. It only makes that search fast: a type stands after those
+// An order in which the data types are looked at for values. It only makes that search fast: a type is after those
 // that its first value needs, where it has one whose types all have one, arguments included.
 use fip_base::plain::NoMemory;
 use fip_trees::decls::{DeclaredType, FieldType};

@@ -38,7 +38,7 @@ impl<'s, 'a> Model for Scope<'s, 'a> {
 
 impl<'s, 'a> Scope<'s, 'a> {
     /// A type, its names looked up; notes its violations of E11 and E12. A part that breaks one counts as int, so that
-    /// a rule on values asks nothing of it.
+    /// a rule on values requires nothing of it.
     #[cycle(written)]
     #[tactic(auto, using(crate::proofs::Shared::noting, crate::proofs::Shared::counting))]
     pub fn look_up(

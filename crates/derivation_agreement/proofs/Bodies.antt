@@ -81,7 +81,7 @@ mutual
 
 -- ---- clauses
 
--- what is in a clause of a match that lends
+-- what is in a clause of a match that borrows
 lent_opens : (w : World) (s : Scope) (b : ℕ) (c : Names) (d : ℕ) (q : Pattern) (sc : Scalars) (B : ℕ → Bool) (xs : List ℕ) (cs : List D.Credit) (t : Tree) → Sees w s b d c.marks sc B → b ≤ c.next → AreNumbered c.next d (binders q) → Rising 0 d xs → ((i : Item) → root t i ≡ owned xs cs i) → Extends (is_fip w.kind) false (variables w c.next (binders q)) [] (env s.variables (owned xs cs)) (env (named d false (binders q) ++ s.variables) (root t))
 lent_opens w s b c d q sc B xs cs t h l a r g =
     opens (is_fip w.kind) w false s b c d (binders q) sc B (owned xs cs) (root t) [] h l a (λ n m. g (Own n)) (λ n m. g (Own n) ∙ given_past 0 d n xs r m) (λ k. (let e = g (Credit k) in omega arith))
@@ -129,7 +129,7 @@ within_derived w own s b d f c sc B bs t body r h l a m o g =
 past_next : (w : World) (t : Bool) (c : Names) (q : Pattern) (body : Block) → (past_clause w t c q body).next ≡ c.next + length (binders q) + Q.within_block body
 past_next w t c q body = scope_next w t c (binders q) body (block_next w (inside w t c (binders q)) body)
 
--- what the calculus asks of a clause
+-- what the calculus requires of a clause
 abbrev LentClause : World → Scope → ℕ → Names → Scalars → (ℕ → Bool) → (Item → ℕ) → Pattern → Tree → Block → Type 0
 LentClause w s d c sc B O q u body =
     Extends (is_fip w.kind) false (variables w c.next (binders q)) [] (env s.variables O) (env (named d false (binders q) ++ s.variables) (root u))

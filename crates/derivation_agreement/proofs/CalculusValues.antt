@@ -91,7 +91,7 @@ mutual
   values_derived w s c d ms sc B (MoreTrees t ts) (MoreArguments a as') h g =
       MORE {P = env s.variables (root t)} {Q = env s.variables (roots ts)} (env_sum s.variables (roots (MoreTrees t ts)) (root t) (roots ts) (λ i. refl)) (value_derived w s c d ms sc B t a h g.0) (values_derived w s c d ms sc B ts as' h g.1)
 
--- ---- operands and what is lent
+-- ---- operands and what is borrowed
 
 scalar_value : (w : World) (s : Scope) (c d : ℕ) (ms : List Mark) (sc : Scalars) (B : ℕ → Bool) (x : Option ℕ) → Sees w s c d ms sc B → P.IsScalar w (meant s.variables x) → variable sc (seen ms x) ≡ T.Scalar
 scalar_value w s c d ms sc B None h g = absurd g
@@ -138,7 +138,7 @@ lends_lent w s c d ms sc B (Constructor u f k n p as') h g = absurd g
 
 -- ---- the arguments of a call
 
--- one argument, by whether its place is scalar, and lent
+-- one argument, by whether its place is scalar, and borrowed
 one_passed : (w : World) (s : Scope) (c d : ℕ) (ms : List Mark) (sc : Scalars) (B : ℕ → Bool) (a : Argument) (l : Bool) (O A Q : Item → ℕ) (gs : T.Passed) → Sees w s c d ms sc B → l ≡ false → ((i : Item) → O i ≡ A i + Q i) → ValueDerivation (is_fip w.kind) A (value sc ms a) → PassedDerivation (is_fip w.kind) B Q gs → PassedDerivation (is_fip w.kind) B O (if l then T.PassLent (lent_value w sc ms a) gs else T.PassOwned (value sc ms a) gs)
 one_passed w s c d ms sc B a true O A Q gs h e f g k = absurd (cc)
 one_passed w s c d ms sc B a false O A Q gs h e f g k = GIVEN {P = A} {Q = Q} f g k

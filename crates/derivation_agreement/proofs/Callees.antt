@@ -1,4 +1,4 @@
--- What the callees of a derived body ask of credits: each is fip or fbip, so its header has few.
+-- What the callees of a derived body require of credits: each is fip or fbip, so its header has few.
 use Rattle.std.proofs.Common.{◌≡◌, ℕ, ◌≤◌, refl, List, [], ◌∷◌, length, Bool, true, false, Option, Some, None, arith}
 use Rattle.std.specs.Prelude.{slice_get, ◌==◌}
 use Rattle.tail_groups.specs.fip_language.declared.FunKind.{FunKind}

@@ -133,7 +133,7 @@ mutual
   uses_others p w x i (MoreClauses q body cs) z =
       hits_both false x (marks_parts w (i + 1) body) (marks_clauses w (i + (size_parts body + 1)) cs) (uses_block w x body) (uses_clauses w x cs) (uses_parts p w x (i + 1) body z.1) (uses_others p w x (i + (size_parts body + 1)) cs z.2)
 
--- ---- where they stand
+-- ---- where they are
 
 abbrev pub Between : ℕ → ℕ → List Occurrence → Type 0
 Between i j [] = Unit {0}
@@ -207,7 +207,7 @@ mutual
 
 -- ---- among all occurrences
 
--- whether one that is taken up, of a binder, stands from first to before end
+-- whether one that is taken up, of a binder, is from first to before end
 abbrev pub window : Bool → ℕ → ℕ → ℕ → List Occurrence → Bool
 window all x f e [] = false
 window all x f e (o ∷ os) =

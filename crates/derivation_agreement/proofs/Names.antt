@@ -1,4 +1,4 @@
--- How many binders stand in a part.
+-- How many binders are in a part.
 use Rattle.std.proofs.Common.{◌≡◌, ℕ, suc, ◌+◌, refl, sym, ap, ◌∙◌, List, [], ◌∷◌, ◌++◌, length, Bool, true, false, not, arith}
 use Rattle.std.specs.Prelude.{if◌then◌else◌}
 use Rattle.tail_groups.specs.fip_language.declared.Place.{Place}

@@ -111,7 +111,7 @@ node_is r h there have needed o xs need ts e c f n =
     ap₂ (λ p q. W.weakened ((length xs == length o.variables) && W.same_from o.credits need 1 16) o (Branch r p q ts)) f t
     ∙ weakened_is ((length xs == length o.variables) && W.same_from o.credits need 1 16) (all_those h there && M.same_from have needed 1 16) o there have (Branch r (numbers (those h there)) (M.credits needed) ts) b e (credits_is o.credits have c)
 
--- what stands below nodes that weaken
+-- what is below nodes that weaken
 pub record IsNode (h : ℕ → Bool) (there : List Known) (ts : Trees) (xs : List ℕ) (us : Trees) : Type 0 where
   pub variables : xs ≡ numbers (those h there)
   pub parts : us ≡ ts

@@ -60,7 +60,7 @@ given_most n d x (y ∷ ys) h = by (y == x) refl (given_most (y + 1) d x ys h.2)
         let o = one_most y x in omega arith
     by false e g = let o = one_false y x e in omega arith
 
--- a variable that a list has stands below the list's bound
+-- a variable that a list has is below the list's bound
 pub given_below : (n d x : ℕ) (xs : List ℕ) → Rising n d xs → given x xs ≡ 1 → x < d
 given_below n d x xs h e = by (nat_lt x d) refl
   where
@@ -229,7 +229,7 @@ abbrev pub seen_as : ℕ → Option Known → Option ℕ
 seen_as x None = None
 seen_as x (Some v) = Some x
 
--- Below c and d stand the numbers of all variables in scope: those of the calculus, and the derivation's.
+-- Below c and d are the numbers of all variables in scope: those of the calculus, and the derivation's.
 pub record Sees (w : World) (s : Scope) (c d : ℕ) (ms : List Mark) (sc : Scalars) (B : ℕ → Bool) : Type 0 where
   pub marks : (x : ℕ) → S.known ms x ≡ seen_as x (known s.variables x)
   pub scalars : (x : ℕ) (v : Known) → known s.variables x ≡ Some v → sc x ≡ w.scalar v.ty
@@ -364,7 +364,7 @@ sees_open w own s b c d e f bs sc B h l a m n = record {
           | inr t ↦ h.apart x y v u (sym r.is_known ∙ k) (sym t.is_known ∙ j) q
         ]
 
--- how often a binder stands in what there is
+-- how often a binder occurs in what there is
 abbrev share : Bool → Bool → ℕ
 share own scalar = if own then (if scalar then 0 else 1) else 0
 

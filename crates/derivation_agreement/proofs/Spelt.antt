@@ -1,6 +1,7 @@
--- A derivation of a program that is within what a text can spell is spelt: what the rules ask of its nodes is what a
--- text asks of them. The way goes down along the rules. Binders have numbers below 2^32 in a derivation, so those that
--- stand in an expression don't lead beyond; and what a node has are variables in scope, each once, and credits by size.
+-- A derivation of a program that is within what a text can encode is encoded: what the rules require of its nodes is
+-- what a text requires of them. The way goes down along the rules. Binders have numbers below 2^32 in a derivation, so
+-- those that are in an expression don't lead beyond; and what a node has are variables in scope, each once, and credits
+-- by size.
 use Rattle.std.proofs.Common.{◌≡◌, inl, inr, ℕ, zero, suc, ◌≤◌, ◌+◌, sym, subst, List, [], ◌∷◌, length, Bool, true, false, Option, Some, None, arith}
 use Rattle.std.specs.Prelude.{slice_get}
 use Rattle.tail_groups.specs.fip_base.declared.plain.Param.{Param}
@@ -49,7 +50,7 @@ owned_up : (d e : ℕ) (t : Tree) → d ≤ e → IsOwned d t → IsOwned e t
 owned_up d e Missing l h = absurd h
 owned_up d e (Branch r xs cs ts) l h = (rising_up 0 d e xs l h.0, h.1)
 
--- a node, by its parts; and one that stands below nodes that weaken
+-- a node, by its parts; and one that is below nodes that weaken
 node_spelt : (d k : ℕ) (r : RuleName) (xs : List ℕ) (cs : List D.Credit) (ts : Trees) → d ≤ 4294967296 → IsOwned d (Branch r xs cs ts) → IsShallow k (Branch r xs cs ts) → AreNodes (suc k) ts → IsNode k (Branch r xs cs ts)
 node_spelt d k r xs cs ts m o f h = (f.0, variables_spelt 0 d xs m o.0, credits_spelt 1 cs o.1 f.1, h)
 

@@ -121,7 +121,7 @@ ruled_needs p Fun d r = absurd (cc)
 one_entry : (e f : Entry) → e.instance ≡ f.instance → e.tree ≡ f.tree → e ≡ f
 one_entry e f a b = ap₂ (λ n t. record { instance = n; tree = t }) a b
 
--- of an instance that stands at a place of the program
+-- of an instance that is at a place of the program
 pub walked_is : (p : Program) (nss : List (List Need)) (n : ℕ) (d : Instance) (ds : List Instance) (t : Tree) → nss ≡ all_needs p p.instances → Piece p.instances (d ∷ ds) n → is_ruled d.kind ≡ true → IsNumbered p d → IsSized p d → DerivesInstance (world p d.kind) d (made_instance p (world p d.kind) d) → IsWalked (world p d.kind) (needs_of nss n) d t → t ≡ made_instance p (world p d.kind) d
 walked_is p nss n d ds t same pi r an az h k =
     let nn = needs_at p n nss p.instances d same (piece_get p.instances ds d n pi) ∙ ruled_needs p d.kind d r in

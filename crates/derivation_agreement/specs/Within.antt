@@ -1,5 +1,5 @@
--- Derivations that are within what a text can spell: no node lies deeper than 10,000, the root of a line 1 deep, and no
--- number of an instance or of credits is 2^32 or more. For example MATCH![0|](VAR[1|]) is 2 deep.
+-- Derivations that are within what a text can encode: no node lies deeper than 10,000, the root of a line 1 deep, and
+-- no number of an instance or of credits is 2^32 or more. For example MATCH![0|](VAR[1|]) is 2 deep.
 use Rattle.std.specs.Prelude.{◌≤◌, ℕ, suc, List, [], ◌∷◌}
 use Rattle.derivation_walk.specs.derivation_trees.declared.derivation.Credit.{Credit}
 use Rattle.derivation_walk.specs.derivation_trees.Trees.{Tree, Missing, Branch, Trees, NoTrees, MoreTrees, Entry}

@@ -43,7 +43,7 @@ take_more {A} xs i x z l e = let s : suc i ≡ i + 1 = omega arith in sym (ap (�
     of (y ∷ ys) zero l e = ap (λ (v : A). v ∷ []) (sym e)
     of (y ∷ ys) (suc i) l e = ap (λ (zs : List A). y ∷ zs) (of ys i (omega arith) e)
 
--- how many binders stand in some bindings
+-- how many binders are in some bindings
 abbrev pub total : List BoundPart → ℕ
 total [] = 0
 total (b ∷ bs) = within b.bound + length b.binders + total bs
@@ -73,7 +73,7 @@ within_from : (bs : List BoundPart) (e : T.Expression) → within_block (block_o
 within_from [] e = omega arith
 within_from (b ∷ bs) e = let h = within_from bs e in omega arith
 
--- where a walk through the bindings of a block stands
+-- where a walk through the bindings of a block is
 pub record BlockAt (w : World) (s : Scope) (c d : ℕ) (ns : List Node) (first : ℕ) (bs : List N.Binding) (last : T.Expression) (count place i : ℕ) : Type 0 where
   pub room : d + count ≤ 4294967296
   pub counted : count ≡ total (map V.binding (take i bs))

@@ -1,4 +1,4 @@
--- What stands round an expression: the variables of its frames.
+-- What is round an expression: the variables of its frames.
 use Rattle.std.proofs.Common.{◌≡◌, ℕ, zero, suc, ◌<◌, ◌≤◌, ◌+◌, ◌-◌, refl, sym, ap, ◌∙◌, subst, List, [], ◌∷◌, ◌++◌, length, get_or, take, drop, map, Option, Some, None, Bool, true, false, not, ◌&&◌, ◌||◌, arith, nat_eq, Bor, ◌⊎◌, inl, inr}
 use Rattle.std.specs.Prelude.{slice_get, if◌then◌else◌, ◌==◌}
 use Rattle.std.proofs.lemmas.Bool.Decides.{nat_tests}
@@ -190,7 +190,7 @@ take_bindings d [] j b s e = absurd (cc)
 take_bindings d (a ∷ bs) zero b s e = ap (λ (v : BoundPart). binding d true v.binders s) (some_one e)
 take_bindings d (a ∷ bs) (suc j) b s e = take_bindings (d + within a.bound + length a.binders) bs j b (binding d true a.binders s) e
 
--- where a search from the last binding on stands: those from place j on don't have x
+-- where a search from the last binding on is: those from place j on don't have x
 abbrev pub Searched : ℕ → List BoundPart → ℕ → ℕ → Type 0
 Searched d bs x j = (s : Scope) → known (bindings d bs s).variables x ≡ known (bindings d (take j bs) s).variables x
 
@@ -252,7 +252,7 @@ known_bindings t s bs c d x e = ap (λ fs. known (scope_of fs).variables x) (ap 
 pub known_bound : (t : D.Scope) (s : Bor D.Scope) (xs ys : Bor (List ℕ)) (x : ℕ) → t ≡ SV.Bound s xs ys → known (scope_of (frames t)).variables x ≡ known (scope_of (frames s.now)).variables x
 known_bound t s xs ys x e = ap (λ fs. known (scope_of fs).variables x) (ap frames e ∙ frames_bound s xs ys)
 
--- ---- what lets lend
+-- ---- what lets borrow
 
 bindings_lend : (d : ℕ) (bs : List BoundPart) (s : Scope) (x : ℕ) → (bindings d bs s).lent x ≡ s.lent x
 bindings_lend d [] s x = refl
@@ -277,7 +277,7 @@ lent_here t s xs ys x e h = ap (λ fs. (scope_of fs).lent x) (ap frames e ∙ fr
 pub lent_outer : (t : D.Scope) (s : Bor D.Scope) (xs ys : Bor (List ℕ)) (x : ℕ) → t ≡ SV.Bound s xs ys → (has xs.now x && not (has ys.now x)) ≡ false → (scope_of (frames t)).lent x ≡ (scope_of (frames s.now)).lent x
 lent_outer t s xs ys x e h = ap (λ fs. (scope_of fs).lent x) (ap frames e ∙ frames_bound s xs ys) ∙ or_false ((scope_of (frames s.now)).lent x) (has xs.now x && not (has ys.now x)) h
 
--- ---- whether a number stands in a list
+-- ---- whether a number is in a list
 
 pub has_place : (xs : List ℕ) (i x : ℕ) → i < length xs → get_or xs i 0 ≡ x → has xs x ≡ true
 has_place [] i x l e = absurd (omega arith)

@@ -1,4 +1,4 @@
--- Lists that rise, and how often numbers stand in them.
+-- Lists that rise, and how often numbers are in them.
 use Rattle.std.proofs.Common.{◌≡◌, ℕ, zero, suc, ◌<◌, ◌≤◌, ◌+◌, ◌-◌, refl, sym, ap, ◌∙◌, subst, List, [], ◌∷◌, ◌++◌, length, get_or, take, drop, Option, Some, None, Bool, true, false, arith, nat_eq, nat_lt, ◌⊎◌, inl, inr}
 use Rattle.std.proofs.lemmas.Bool.Decides.{nat_tests}
 use Rattle.std.specs.Prelude.{slice_get, if◌then◌else◌, ◌==◌}
@@ -200,7 +200,7 @@ inside_other c d m fs ms n h = record {
             let j = one_of x m ms in
             elim j [ inl q ↦ (let w = ap (λ v. given v (f ∷ fs)) q in omega arith) | inr q ↦ omega arith ]
 
--- where a walk through the second list stands at j, and one through the first at i
+-- where a walk through the second list is at j, and one through the first at i
 pub record WithinAt (few many : List ℕ) (i j : ℕ) : Type 0 where
   pub front : i ≤ length few
   pub up : ((x : ℕ) → given x (drop i few) ≤ given x (drop j many)) → (x : ℕ) → given x few ≤ given x many

@@ -49,7 +49,7 @@ patterns_binders ps i p l e = ap (λ qs. binders_all (V.patterns qs)) (drop_item
 pub patterns_none : (ps : List P.Pattern) (i : ℕ) → length ps ≤ i → binders_all (V.patterns (drop i ps)) ≡ []
 patterns_none ps i l = ap (λ qs. binders_all (V.patterns qs)) (drop_end ps i l)
 
--- where a walk through the patterns of a constructor stands
+-- where a walk through the patterns of a constructor is
 pub record NumberedAt (c d k : ℕ) (ps : List P.Pattern) (i : ℕ) : Type 0 where
   pub count : k + length (binders_all (V.patterns (drop i ps))) ≡ length (binders_all (V.patterns ps))
   pub up : AreNumbered (c + k) (d + k) (binders_all (V.patterns (drop i ps))) → AreNumbered c d (binders_all (V.patterns ps))
@@ -204,7 +204,7 @@ numbers_rise w n d (b ∷ bs) l = by (w.scalar b.ty) refl (numbers_rise w n (d +
     by true e f g = subst (Rising n (d + length (b ∷ bs))) (let q : numbers w (d + 1) bs ≡ numbers w d (b ∷ bs) = cc in q) (subst (λ k. Rising n k (numbers w (d + 1) bs)) top f)
     by false e f g = subst (Rising n (d + length (b ∷ bs))) (sym (numbers_next w d b bs e)) (l, omega arith, subst (λ k. Rising (d + 1) k (numbers w (d + 1) bs)) top g)
 
--- Below a bound stand the variables of a whole, of a part and of the rest; from it on those of the rest that are new.
+-- Below a bound are the variables of a whole, of a part and of the rest; from it on those of the rest that are new.
 pub record Apart (next m k : ℕ) (whole used left new : List ℕ) : Type 0 where
   pub whole_below : Rising 0 next whole
   pub used_below : Rising 0 next used

@@ -27,7 +27,7 @@ under_back fip d r xs cs NoTrees u w n (inr h) = absurd h.2
 under_back fip d r xs cs (MoreTrees t NoTrees) u w n (inr h) = (t, (h.0, h.1, refl, h.2.0, h.2.1), h.2.2)
 under_back fip d r xs cs (MoreTrees t (MoreTrees s ts)) u w n (inr h) = absurd h.2
 
--- what stands below nodes that weaken has variables and credits that rise, too
+-- what is below nodes that weaken has variables and credits that rise, too
 pub under_owned : (fip : Bool) (d : ℕ) (t u : Tree) → IsOwned d t → Under fip d t u → IsOwned d u
 under_owned fip d Missing u o h = absurd h
 under_owned fip d (Branch r xs cs ts) u o (inl h) = subst (IsOwned d) h.1 o
@@ -52,7 +52,7 @@ leaves_back fip d ns i n t l =
     let o = one_part ns (i + 1) n.parts t l.2 in
     (l.1, o.0, o.1, subst (IsOwned d) o.1 l.3, subst (λ u. (x : Item) → root u x ≤ owned n.variables.items n.credits.items x) o.1 l.4)
 
--- where a walk down stands
+-- where a walk down is
 pub record BelowAt (fip : Bool) (d : ℕ) (ns : List Node) (i j : ℕ) : Type 0 where
   pub owned : IsOwned d (at ns j)
   pub up : (u : Tree) → Under fip d (at ns j) u → Under fip d (at ns i) u

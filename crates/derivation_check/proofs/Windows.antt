@@ -136,7 +136,7 @@ seen_room xs i v a b l e h = let g = seen_more xs i v v l e in let o = one_same 
 pub seen_all : (xs : List ℕ) (i x : ℕ) → length xs ≤ i → given x (take i xs) ≡ given x xs
 seen_all xs i x l = ap (given x) (take_all xs i l)
 
--- where a walk through some parts stands: left are those to come
+-- where a walk through some parts is: left are those to come
 pub record WindowAt (seen : List Bool) (start : ℕ) (whole : List ℕ) (left all : Trees) : Type 0 where
   pub counted : ℕ → ℕ
   pub marked : Marked seen start whole counted
@@ -205,7 +205,7 @@ parted_sound whole all n r l f g x = by (given x whole) refl
 pub parted_one : (whole : List ℕ) (all : Trees) → ((x : ℕ) → given x whole ≡ roots all (Own x)) → IsRising whole → (k : ℕ) → k < length whole → roots all (Own (get_or whole k 0)) ≡ 1
 parted_one whole all h r k l = let a = h (get_or whole k 0) in let b = given_place whole k l in let c = rising_most whole r (get_or whole k 0) in omega arith
 
--- a variable that a list has stands below the list's bound
+-- a variable that a list has is below the list's bound
 pub given_below : (n d x : ℕ) (xs : List ℕ) → Rising n d xs → given x xs ≡ 1 → x < d
 given_below n d x [] h e = absurd (omega arith)
 given_below n d x (y ∷ ys) h e = by (given_below (y + 1) d x ys h.2) (nat_eq x y) refl

@@ -2,7 +2,7 @@
 --
 -- A tree is judged in a scope, where binders are numbered from c on in the program and from d on in the derivation.
 -- What
--- a node has splits where each variable and each credit goes to just one part: `Splits`. Each rule may stand below
+-- a node has splits where each variable and each credit goes to just one part: `Splits`. Each rule may occur below
 -- nodes that weaken: `Under`.
 use Rattle.std.specs.Prelude.{◌≡◌, ◌<◌, ◌≤◌, ◌+◌, ◌||◌, not, ℕ, zero, suc, Bool, true, false, List, [], ◌∷◌, length}
 use Rattle.std.specs.Prelude.{Option, Some, None, slice_get, if◌then◌else◌}
@@ -68,7 +68,7 @@ Plain w vs (Variable x n p) = IsScalar w (meant vs x)
 Plain w vs (Literal i p) = Unit {0}
 Plain w vs (Constructor u g c n p as') = count as' ≡ 0
 
--- a variable that is scalar or borrowed, or that a let around lends
+-- a variable that is scalar or borrowed, or that a let around borrows
 abbrev pub MayLend : World → (ℕ → Bool) → Option Known → Type 0
 MayLend w lent None = ⊥
 MayLend w lent (Some v) = w.scalar v.ty || (not v.owned || lent v.number) ≡ true
@@ -136,7 +136,7 @@ abbrev pub IsClause : World → ℕ → ℕ → Option ℕ → (Item → ℕ) �
 IsClause w c d x have t q B =
     AreNumbered c d (binders q) × IsOwned (d + length (binders q)) t × GoesOn w d x have q t × B
 
--- MATCH lends its scrutinee. MATCH! uses it up: it isn't scalar, and the node has it.
+-- MATCH borrows its scrutinee. MATCH! uses it up: it isn't scalar, and the node has it.
 abbrev pub Scrutinised : World → ℕ → Option Known → (Option ℕ → (Item → ℕ) → Trees → Type 0) → Tree → Type 0
 Scrutinised w d None P t = ⊥
 Scrutinised w d (Some v) P t =
@@ -170,7 +170,7 @@ abbrev mutual
       x have us cs)) t
   Derives w s c d t (Nested b) = DerivesBlock w s c d t b
 
-  -- LET: what it binds is derived by a part of what it has, with the rest lent. The rest and the binders are the
+  -- LET: what it binds is derived by a part of what it has, with the rest borrowed. The rest and the binders are the
   -- body's.
   pub DerivesBlock : World → Scope → ℕ → ℕ → Tree → Block → Type 0
   DerivesBlock w s c d t (Last e) = Derives w s c d t e

@@ -56,7 +56,7 @@ is_weaken R.TakingMatch = false
 is_weaken R.Weaken = true
 
 abbrev mutual
-  -- WEAKEN: u is t, or stands in t below nodes that weaken, which an fbip function may. Each leaves to its part no
+  -- WEAKEN: u is t, or is in t below nodes that weaken, which an fbip function may. Each leaves to its part no
   -- more than it has.
   pub Under : Bool → ℕ → Tree → Tree → Type 0
   Under fip d Missing u = ⊥

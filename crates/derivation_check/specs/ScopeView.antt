@@ -1,4 +1,4 @@
--- It serves the proof of what `check` does: the scope that stands round an expression.
+-- It serves the proof of what `check` does: the scope that is round an expression.
 use Rattle.std.specs.Prelude.{◌≡◌, ◌<◌, ◌≤◌, ◌+◌, ◌==◌, ℕ, zero, suc, Bool, false, true, List, [], ◌∷◌, map, length}
 use Rattle.std.specs.Prelude.{Option, Some, None, if◌then◌else◌}
 use Rattle.fip_base.specs.declared.plain.Param.{Param}
@@ -13,7 +13,7 @@ use Rattle.derivation_check.specs.declared.scope.Scope as D
 use Rattle.derivation_check.specs.declared.scope.Scope.TheOpen as O
 use Rattle.derivation_check.specs.declared.scope.Scope.TheFolds.{fold-Scope}
 
--- what stands round an expression, from the inside out
+-- what is round an expression, from the inside out
 pub data Frame : Type 0 where
   HeaderFrame : (params : List Param) → Frame
   ClauseFrame : (bs : List Binder) (own : Bool) (core next : ℕ) → Frame

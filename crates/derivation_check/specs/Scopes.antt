@@ -22,7 +22,7 @@ pub record Known : Type 0 where
   pub ty : ℕ
   pub owned : Bool
 
--- the variables in scope, the innermost first, and which owned ones the lets around lend
+-- the variables in scope, the innermost first, and which owned ones the lets around borrow
 pub record Scope : Type 0 where
   pub variables : List Known
   pub lent : ℕ → Bool
@@ -50,7 +50,7 @@ parameters n (p ∷ ps) = record { binder = n; number = n; ty = p.ty; owned = no
 abbrev pub binding : ℕ → Bool → List Binder → Scope → Scope
 binding d own bs s = record { variables = named d own bs ++ s.variables; lent = s.lent }
 
--- inside what a let binds: of its variables xs those are lent that what is bound doesn't have
+-- inside what a let binds: of its variables xs those are borrowed that what is bound doesn't have
 abbrev pub lending : List ℕ → List ℕ → Scope → Scope
 lending xs ys s = record { variables = s.variables; lent = λ x. s.lent x || (has xs x && not (has ys x)) }
 
@@ -59,7 +59,7 @@ abbrev pub AreNumbered : ℕ → ℕ → List Binder → Type 0
 AreNumbered c d [] = Unit {0}
 AreNumbered c d (b ∷ bs) = (b.number ≡ c) × (d < 4294967296) × AreNumbered (c + 1) (d + 1) bs
 
--- how many binders stand in an expression, a block, some clauses
+-- how many binders are in an expression, a block, some clauses
 abbrev mutual
   pub within : Expression → ℕ
   within (Give a) = 0

@@ -50,7 +50,7 @@ pub fn check(typed: &Typed, derivation: &Derivation) -> bool
     place == lines.len()
 }
 
-// The place after the line of an instance, which is to stand at this place and derive it; a plain instance has none.
+// The place after the line of an instance, which is to be at this place and derive it; a plain instance has none.
 // None where there is no such line.
 #[tactic(auto, using(crate::proofs::Lines::lines))]
 fn after_line(

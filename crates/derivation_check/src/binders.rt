@@ -13,7 +13,7 @@ use crate::lists::{front_below, is_split, stands_at};
 use crate::values::Walk;
 use fip_trees::program::{Binder, Pattern};
 
-// The number of the next binder, and how many of the owned variables stand before its own.
+// The number of the next binder, and how many of the owned variables are before its own.
 #[derive(Clone, Copy)]
 struct Owning {
     next: usize,

@@ -202,7 +202,7 @@ impl<'a> Walk<'a> {
         are_shared(&found.node.credits, one, credits_at(self.nodes, rest))
     }
 
-    /// Whether a clause of a match that lends its scrutinee has what the match has.
+    /// Whether a clause of a match that borrows its scrutinee has what the match has.
     #[tactic(auto, using(crate::proofs::Inside::goes_none))]
     fn stays(&self, head: &Head<'_>, next: usize, place: usize, pattern: &Pattern) -> bool
         requires owned { IsOwned (next + length (binders (V.pattern pattern.now))) (at self.now.nodes.now place) }
@@ -280,7 +280,7 @@ impl<'a> Walk<'a> {
         }
     }
 
-    /// The node of a match that lends its scrutinee.
+    /// The node of a match that borrows its scrutinee.
     pub fn lending(
         &self,
         scope: &Scope<'_>,
@@ -455,7 +455,7 @@ impl<'a> Walk<'a> {
     }
 }
 
-// Whether a variable stands in a list that rises.
+// Whether a variable is in a list that rises.
 #[tactic(auto, using(crate::proofs::Windows::once))]
 fn has_once(variables: &[usize], number: usize) -> bool
     requires { IsRising variables.now }

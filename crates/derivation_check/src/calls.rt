@@ -62,7 +62,7 @@ impl<'a> Walk<'a> {
         }
     }
 
-    // Whether an occurrence means a variable that is scalar or lent.
+    // Whether an occurrence means a variable that is scalar or borrowed.
     fn may_lend(&self, scope: &Scope<'_>, binder: Option<usize>) -> bool
         requires { Fits (frames scope.now) }
         ensures sound { IsTrue result → MayLend (world (V.program self.now.program.now) self.now.kind)
@@ -109,7 +109,7 @@ impl<'a> Walk<'a> {
         }
     }
 
-    /// Whether an argument in a borrowed position is lent.
+    /// Whether an argument in a borrowed position is borrowed.
     pub fn is_lent(&self, scope: &Scope<'_>, argument: &Argument) -> bool
         requires { Fits (frames scope.now) }
         ensures sound { IsTrue result → Lends (world (V.program self.now.program.now) self.now.kind)

@@ -19,7 +19,7 @@ pub fn rises(numbers: &[usize], below: usize) -> bool
     true
 }
 
-/// Whether each variable of the first list stands in the second.
+/// Whether each variable of the first list is in the second.
 #[tactic(auto, using(crate::proofs::Numbers::within))]
 pub fn is_within(few: &[usize], many: &[usize]) -> bool
     ensures sound { IsTrue result → (c d : ℕ) → Rising 0 c few.now → Rising 0 d many.now →
@@ -36,7 +36,7 @@ pub fn is_within(few: &[usize], many: &[usize]) -> bool
     place == few.len()
 }
 
-/// Whether a number stands at a place of a list.
+/// Whether a number is at a place of a list.
 pub fn stands_at(list: &[usize], place: usize, number: usize) -> bool
     ensures here { IsTrue result → (place < length list.now) × (drop place list.now
         ≡ number ∷ drop (place + 1) list.now) }
@@ -48,7 +48,7 @@ pub fn stands_at(list: &[usize], place: usize, number: usize) -> bool
     }
 }
 
-/// Whether each variable of the whole stands in just one of two lists, which have no other.
+/// Whether each variable of the whole is in just one of two lists, which have no other.
 #[tactic(auto, using(crate::proofs::Numbers::splitting))]
 pub fn is_split(whole: &[usize], one: &[usize], other: &[usize]) -> bool
     ensures sound { IsTrue result → (x : ℕ) → given x whole.now ≡ given x one.now + given x other.now }

@@ -1,4 +1,4 @@
-// What some nodes have together, whose trees stand one after the other.
+// What some nodes have together, whose trees come one after the other.
 ghost use Rattle.std.specs.Prelude.{◌≡◌, ◌<◌, ◌≤◌, ◌+◌, ◌-◌, ℕ, List, false, true, length, get_or, IsTrue};
 ghost use Rattle.std.specs.Prelude.{IfSome, IfNone};
 ghost use Rattle.fip_trees.specs.Sizes.{number};
@@ -113,7 +113,7 @@ pub fn place_of(list: &[usize], number: usize) -> Option<usize>
     }
 }
 
-// Whether of the variables at 256 places of the whole, from one on, each stands in just one of some nodes, which have
+// Whether of the variables at 256 places of the whole, from one on, each is in just one of some nodes, which have
 // no other but those of the whole.
 fn is_parted_from(nodes: &[Node], first: usize, count: usize, whole: &[usize], start: usize) -> bool
     requires { IsRising whole.now }
@@ -135,7 +135,7 @@ fn is_parted_from(nodes: &[Node], first: usize, count: usize, whole: &[usize], s
     window.is_full(whole)
 }
 
-/// Whether each variable of the whole, which rises, stands in just one of some nodes, which have no other.
+/// Whether each variable of the whole, which rises, is in just one of some nodes, which have no other.
 pub fn is_parted(nodes: &[Node], first: usize, count: usize, whole: &[usize]) -> bool
     requires { IsRising whole.now }
     ensures sound { IsTrue result → (x : ℕ) → given x whole.now ≡ roots (parts nodes.now first count) (Own x) }

@@ -1,4 +1,4 @@
-// What stands around an expression.
+// What is around an expression.
 //
 // A binder's number in a program is that of the core form, where the binders inside what a let binds come before the
 // let's own. In a derivation the let's own come first.
@@ -30,7 +30,7 @@ pub struct Variable {
     pub is_owned: bool,
 }
 
-/// What stands around an expression, from the inside out: where its variables are bound, and which of them are lent to
+/// What is around an expression, from the inside out: where its variables are bound, and which of them are borrowed by
 /// it. `core` and `next` are numbers of the next binder, in the program and in the derivation.
 #[derive(Clone, Copy)]
 pub enum Scope<'a> {
@@ -46,14 +46,14 @@ pub enum Scope<'a> {
         core: usize,
         next: usize,
     },
-    /// Bindings of a block that stand before.
+    /// Bindings of a block that are before.
     Bindings {
         outer: &'a Scope<'a>,
         bindings: &'a [Binding],
         core: usize,
         next: usize,
     },
-    /// A let, inside what it binds. Of what it has that is lent which the bound expression doesn't have.
+    /// A let, inside what it binds. Of what it has that is borrowed which the bound expression doesn't have.
     Bound {
         outer: &'a Scope<'a>,
         whole: &'a [usize],
@@ -61,7 +61,7 @@ pub enum Scope<'a> {
     },
 }
 
-/// Whether a let around lends an owned variable of this number.
+/// Whether a let around borrows an owned variable of this number.
 #[tactic(auto, using(crate::proofs::Frames::lent_in))]
 pub fn lends(scope: &Scope<'_>, number: usize) -> bool
     requires { Fits (frames scope.now) }
@@ -80,7 +80,7 @@ pub fn lends(scope: &Scope<'_>, number: usize) -> bool
     }
 }
 
-// Whether a number stands in the first list and not in the second.
+// Whether a number is in the first list and not in the second.
 fn is_left(whole: &[usize], used: &[usize], number: usize) -> bool
     requires whole { IsRising whole.now }
     requires used { IsRising used.now }
@@ -89,7 +89,7 @@ fn is_left(whole: &[usize], used: &[usize], number: usize) -> bool
     has(whole, number) && !has(used, number)
 }
 
-// Whether a number stands in a list that rises.
+// Whether a number is in a list that rises.
 #[tactic(auto, using(crate::proofs::Frames::has_in))]
 fn has(list: &[usize], number: usize) -> bool
     requires { IsRising list.now }

@@ -1,5 +1,5 @@
--- Where binders are numbered in order, and are few, they have the numbers that derivations ask: how many binders stand
--- in a part is the difference of the numbers around it.
+-- Where binders are numbered in order, and are few, they have the numbers that derivations require: how many binders
+-- are in a part is the difference of the numbers around it.
 use Rattle.std.proofs.Common.{◌≡◌, ◌≤◌, ◌+◌, ℕ, List, [], ◌∷◌, ◌++◌, length, sym, subst, arith}
 use Rattle.source_report.specs.fip_trees.declared.program.Binder.{Binder}
 use Rattle.source_report.specs.fip_trees.Tree.{Pattern, BinderPattern, LiteralPattern, ConstructorPattern, Patterns, NoPatterns, MorePatterns, Expression, Give, Tuple, Operation, Call, Match, Nested, Block, Last, Let, Clauses, NoClauses, MoreClauses, Program}
@@ -32,7 +32,7 @@ mutual
 pattern_count : (n m : ℕ) (p : Pattern) → SpansPattern n m p → m ≡ n + length (binders p)
 pattern_count n m p h = from_count n m (binders p) (pattern_from n m p h)
 
--- ---- how many stand in a part
+-- ---- how many are in a part
 
 mutual
   expression_count : (n m : ℕ) (e : Expression) → Spans n m e → m ≡ n + within e

@@ -1,4 +1,4 @@
--- The program of an accepted source has what the making of derivations asks, so what is made is a derivation of it.
+-- The program of an accepted source has what the making of derivations requires, so what is made is a derivation of it.
 use Rattle.std.proofs.Common.{◌≡◌, ◌≤◌, ◌+◌, ℕ, suc, true, List, [], ◌∷◌, length, Some, slice_get, refl, sym, subst, arith}
 use Rattle.source_report.specs.fip_language.declared.limits.TheConstants.{MOST_INSTANCES}
 use Rattle.source_report.specs.fip_trees.SoundProgram.{IsSoundProgram}

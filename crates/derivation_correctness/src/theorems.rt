@@ -14,9 +14,9 @@ ghost use Rattle.fip_proof.specs.derivation_agreement.Limits.{KeepsLimits};
 ghost use Rattle.fip_proof.specs.Ready.{IsReady};
 ghost use Rattle.source_report.specs.Report.{IsAccepted};
 
-/// What the making of derivations asks of a program, an accepted source's has: its slots are filled, its binders are
-/// numbered in order, below 2^32, it is what the calculus of ownership speaks of, and it breaks no rule on ownership
-/// and on credits. For who joins the theorems.
+/// What the making of derivations requires of a program, an accepted source's has: its slots are filled, its binders
+/// are numbered in order, below 2^32, it is what the calculus of ownership speaks of, and it breaks no rule on
+/// ownership and on credits. For who joins the theorems.
 pub fn accepted_programs_are_numbered()
     ensures numbered { (source : List ℕ) (program : Program) → IsAccepted source program →
         AllNumbered program program.instances }
@@ -26,7 +26,7 @@ pub fn accepted_programs_are_numbered()
     ensures unbroken { (source : List ℕ) (program : Program) → IsAccepted source program → BreaksNoRule program }
 {}
 
-/// The program of an accepted source is what `fip_proof::derive` asks for, with what its expressions need: so the
+/// The program of an accepted source is what `fip_proof::derive` requires, with what its expressions need: so the
 /// clauses of `derive` say of an accepted source that its derivation is what is made for it, a derivation of it, and
 /// weakens no more than it must. For who derives a source.
 pub fn accepted_programs_are_ready()
@@ -34,7 +34,7 @@ pub fn accepted_programs_are_ready()
         needs ≡ all_needs program program.instances → IsReady program needs }
 {}
 
-/// The program of an accepted source keeps the limits that its derivation's text asks for, so the clauses of
+/// The program of an accepted source keeps the limits that its derivation's text requires, so the clauses of
 /// `fip_proof::derivation_text` say of an accepted source that its text is read again as what is made for it: no node
 /// lies too deep, and no number is too great. For who derives a source.
 pub fn accepted_derivations_are_read()

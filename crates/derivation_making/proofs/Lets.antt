@@ -68,7 +68,7 @@ kept_after b zero zero k s e f l = omega arith
 kept_after false zero (suc n) k s e f l = omega arith
 kept_after true zero (suc n) k s e f l = absurd (let z = f (omega arith) in cc)
 
--- ---- what is asked
+-- ---- what is required
 
 pub bound_asks : (fip : Bool) (s : ℕ → Status) (ys : List ℕ) (ta tb : Term) → Asks fip s (Let ys ta tb) → Asks fip (λ x. lent (s x) (asks (Own x) ta)) ta
 bound_asks fip s ys ta tb h =
@@ -102,7 +102,7 @@ or_later true b c d e f = refl
 or_later false true c d e f = refl
 or_later false false c d e f = cc
 
--- the variables that a bound expression doesn't use up are lent to it
+-- the variables that a bound expression doesn't use up are borrowed by it
 not_among : (w : World) (vs : List Known) (d : ℕ) (have : List Known) (u : ℕ → Bool) (x : ℕ) (v : Known) → AreKnown w vs have → Rising 0 d (numbers have) → known vs x ≡ Some v → u x ≡ false → 1 ≤ tally x have → has (numbers (those u have)) v.number ≡ false
 not_among w vs d have u x v h r k e m =
     let t : tally x (those (λ y. not (u y)) have) ≡ tally x have = tally_those (λ y. not (u y)) have x ∙ ap (λ b. if not b then tally x have else 0) e in

@@ -214,7 +214,7 @@ base_known w own vs c sc d bs (u ∷ us) n l h =
     let g = l u.binder u h.0 in
     (skip_named own vs c.next d u.binder bs n g.2 ∙ h.0, h.1, base_known w own vs c sc d bs us n l h.2)
 
--- what is among known ones stands before, and isn't scalar
+-- what is among known ones is before, and isn't scalar
 pub there_before : (w : World) (vs : List Known) (c : Names) (sc : Scalars) (us : List Known) (x : ℕ) → Linked w vs c sc → AreKnown w vs us → 1 ≤ tally x us → (x < c.next) × (sc x ≡ false) × ((v : Known) × (known vs x ≡ Some v) × (w.scalar v.ty ≡ false))
 there_before w vs c sc [] x l h t = absurd (omega arith)
 there_before w vs c sc (u ∷ us) x l h t = elim (either (u.binder == x)) [

@@ -1,4 +1,4 @@
--- Lists of variables: those that pass a test, and how often a binder or a number stands among them.
+-- Lists of variables: those that pass a test, and how often a binder or a number is among them.
 use Rattle.std.proofs.Common.{◌≡◌, ℕ, zero, ◌<◌, ◌≤◌, ◌+◌, ◌⊎◌, inl, inr, refl, sym, ap, subst, ◌∙◌, List, [], ◌∷◌, ◌++◌, Some, Bool, true, false, not, arith}
 use Rattle.std.specs.Prelude.{◌==◌, ◌&&◌, if◌then◌else◌}
 use Rattle.std.proofs.lemmas.Bool.Decides.{nat_tests}

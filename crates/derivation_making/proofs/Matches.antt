@@ -43,7 +43,7 @@ use Rattle.derivation_making.proofs.Reading.{scrutinised_there as scrutinee_ther
 use Rattle.ownership_agreement.proofs.Amounts.{paid_at as paid_same}
 use Rattle.ownership_agreement.proofs.ownership_calculus.Forth.{use_split}
 
--- ---- what clauses ask
+-- ---- what clauses require
 
 abbrev pub CleanOf : Bool → Bool → (ℕ → Status) → Clauses → Type 0
 CleanOf true fip s tc = CleanTaken fip s tc

@@ -50,7 +50,7 @@ lend_seen (Owned false true) h = refl
 lend_seen (Owned false false) h = absurd h
 lend_seen (Owned true l) h = absurd h
 
--- ---- a lent argument
+-- ---- a borrowed argument
 
 lends_well : (b : Bool) (t : ℕ → Status) (y : ℕ) → b ≡ false → K.LendsWell t (if b then T.Scalar else T.Named y) → K.MayLend (t y)
 lends_well true t y e h = absurd (cc)

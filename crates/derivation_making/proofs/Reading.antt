@@ -1,4 +1,4 @@
--- How many binders stand in a part, as its shape counts them; and where a variable occurs and is used up, as its term
+-- How many binders are in a part, as its shape counts them; and where a variable occurs and is used up, as its term
 -- counts it.
 use Rattle.std.proofs.Common.{◌≡◌, ℕ, zero, suc, ◌<◌, ◌≤◌, ◌+◌, inl, inr, refl, sym, ap, subst, ◌∙◌, List, [], ◌∷◌, ◌++◌, length, Option, Some, None, Bool, true, false, not, arith}
 use Rattle.std.specs.Prelude.{◌==◌, ◌||◌, ◌&&◌, max, slice_get, if◌then◌else◌}

@@ -29,7 +29,7 @@ pub record Stands (w : World) (sp : Scope) (d : ℕ) (there : List Known) (s : �
   pub kept : (x : ℕ) → asked x ≡ true → held (s x) ≤ tally x there
   pub lent : (x : ℕ) (v : Known) → known sp.variables x ≡ Some v → w.scalar v.ty ≡ false → asked x ≡ true → visible (s x) ≡ true → (not v.owned || sp.lent v.number) ≡ true
 
--- what the term of a part asks
+-- what the term of a part requires
 pub record Asks (fip : Bool) (s : ℕ → Status) (t : Term) : Type 0 where
   pub all : fip ≡ true → (x : ℕ) → held (s x) ≤ fewest x t
   pub most : (x : ℕ) → asks (Own x) t ≤ held (s x)
@@ -139,7 +139,7 @@ enter w own sp c sc d e bs base s f l n h m = record {
       ];
 }
 
--- what is asked of a body within binders, from what is asked outside
+-- what is required of a body within binders, from what is asked outside
 pub enter_asks : (fip own : Bool) (ys : List ℕ) (s : ℕ → Status) (t : Term) → (fip ≡ true → (x : ℕ) → held (s x) ≤ outside ys [] (Own x) (fewest x t)) → ((x : ℕ) → outside ys [] (Own x) (asks (Own x) t) ≤ held (s x)) → (own ≡ true → AllUsed fip ys t) → Clean fip (K.binding ys own s) t → (fip ≡ true → Even t) → Asks fip (K.binding ys own s) t
 enter_asks fip own ys s t a m u c v = record {
   all = λ k x. few_at (has ys x) own (s x) (fewest x t) (λ o i. all_used_at fip ys t (u o) k x i) (a k x);

@@ -1,4 +1,4 @@
--- A typed body whose numbers mean something is as the derivation asks for it.
+-- A typed body whose numbers mean something is as the derivation requires it.
 use Rattle.std.proofs.Common.{◌≡◌, ℕ, zero, suc, ◌<◌, ◌≤◌, ◌+◌, inl, inr, refl, sym, ap, subst, ◌∙◌, List, [], ◌∷◌, ◌++◌, length, map, Option, Some, None, Bool, true, false, not, arith}
 use Rattle.std.specs.Prelude.{◌==◌, slice_get, if◌then◌else◌}
 use Rattle.std.proofs.lemmas.Bool.Decides.{nat_tests}
@@ -27,7 +27,7 @@ use Rattle.derivation_making.proofs.Linking.{known_here, known_after}
 use Rattle.type_check.proofs.fip_language.Facts.{some_some_same as some_type}
 use Rattle.type_check.proofs.Basics.{chosen_is}
 
--- what typing knows of a variable is what the derivation's scope knows; c binders stand before
+-- what typing knows of a variable is what the derivation's scope knows; c binders are before
 abbrev pub Alike : S.Scope → List Known → ℕ → Type 0
 Alike s vs c = (x t : ℕ) → look s x ≡ Some (Some t) → (x < c) × ((v : Known) × (known vs x ≡ Some v) × (v.ty ≡ t))
 

@@ -1,4 +1,4 @@
--- It serves the proof that a derivation is made: what is asked of a body, beside that it breaks no rule on ownership
+-- It serves the proof that a derivation is made: what is required of a body, beside that it breaks no rule on ownership
 -- and credits. Each typed body keeps to it whose binders are numbered in the order of the text.
 --
 -- Each occurrence means a variable in scope; an operand and an argument for a parameter of a scalar type is scalar; an

@@ -1,8 +1,8 @@
 -- The derivation that is made for a body.
 --
 -- The way goes down from what the function owns. What is there, variables and credits, an expression takes as far as it
--- asks for it: the variables that occur in it, and the credits that it needs. Where more is there, a node that weakens
--- stands above. A let's bound expression takes of the let's variables those that it uses up; all others are left to
+-- requires for it: the variables that occur in it, and the credits that it needs. Where more is there, a node that
+-- weakens is above. A let's bound expression takes of the let's variables those that it uses up; all others are left to
 -- the rest. A clause takes all that the match has, and what its pattern gives.
 use Rattle.std.specs.Prelude.{ℕ, zero, suc, ◌+◌, Bool, true, false, not, ◌&&◌, ◌||◌, ◌==◌, List, [], ◌∷◌, ◌++◌}
 use Rattle.std.specs.Prelude.{length, Option, Some, None, slice_get, nat_lt, if◌then◌else◌}

@@ -1,5 +1,5 @@
 -- Whether a variable, known by the number of its binder in the program, occurs in a part of a body; and whether it is
--- used up there: whether it stands in an owned position, or is the scrutinee of a match that takes it apart.
+-- used up there: whether it is in an owned position, or is the scrutinee of a match that takes it apart.
 --
 -- For example in f(^x, y), where f borrows its first argument, both x and y occur, and y is used up.
 use Rattle.std.specs.Prelude.{ℕ, suc, Bool, false, ◌&&◌, ◌||◌, ◌==◌, Option, Some, None, if◌then◌else◌}

@@ -143,7 +143,7 @@ abbrev tens : ℕ → ℕ → ℕ
 tens zero low = low
 tens (suc k) low = tens k (10 * low)
 
--- what is reached with one digit less is asked again
+-- what is reached with one digit less is looked at again
 abbrev Rest : ℕ → ℕ → ℕ → ℕ → ℕ → Bool
 Rest k low high least most = reaches k (10 * low) (10 * high + 9) least most
 

@@ -128,7 +128,7 @@ rule_first t r h0 = elim (if_split (t == 86) (Some R.Variable) (if t == 83 then 
   ]
 ]
 
--- a node whose rule's name stands here
+-- a node whose rule's name is here
 node_named : (k : Place) (r : RuleName) (bs rest : List ℕ) (x : List Made) → depth k.nodes < DEEPEST → bs ≡ rule_text r ++ 91 ∷ rest → VariablesFrom k r [] 0 rest x → BeforeNode k bs x
 node_named k r bs rest x lt e h =
     let c = h.4 in

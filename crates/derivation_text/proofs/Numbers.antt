@@ -1,4 +1,4 @@
--- A number, and what stands after it, a byte after another.
+-- A number, and what is after it, a byte after another.
 use Rattle.std.proofs.Common.{◌≡◌, ℕ, ◌+◌, ◌-◌, ◌*◌, ◌<◌, ◌≤◌, List, [], ◌∷◌, ◌++◌, Bool, true, false, refl, sym, ap, ◌∙◌, subst, arith}
 use Rattle.std.specs.Prelude.{◌==◌}
 use Rattle.std.specs.Fmt.{decimal}
@@ -12,11 +12,11 @@ pub use Rattle.fip_language.proofs.Facts.{cons_head, cons_tail, true_is_not_fals
 pub no_cons : {A : Type 0} → (y : A) (ys : List A) → [] ≡ y ∷ ys → ⊥
 no_cons y ys e = cc
 
--- what may stand after a number of this value
+-- what may occur after a number of this value
 abbrev pub Follow : Type 1
 Follow = ℕ → List ℕ → List Made → Type 0
 
--- something stands there, and it is no digit
+-- something is there, and it is no digit
 pub record IsFollow (P : Follow) : Type 0 where
   pub breaks : (m : ℕ) (more : List ℕ) (x : List Made) → P m more x → IsBreak more
   pub some : (m : ℕ) (x : List Made) → P m [] x → ⊥

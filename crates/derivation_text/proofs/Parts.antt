@@ -1,4 +1,4 @@
--- Theorems of what may still come: what stands after numbers is no digit, each place can be completed, and items that are
+-- Theorems of what may still come: what is after numbers is no digit, each place can be completed, and items that are
 -- read one after another are items together.
 use Rattle.std.proofs.Common.{◌≡◌, inl, ℕ, suc, ◌<◌, ◌≤◌, List, [], ◌∷◌, ◌++◌, refl, sym, ap, ◌∙◌, subst, append_assoc, arith}
 use Rattle.std.specs.Fmt.{decimal}
@@ -14,7 +14,7 @@ use Rattle.derivation_text.proofs.Digits.{IsBreak}
 use Rattle.derivation_text.proofs.Numbers.{IsFollow, Want, no_cons, cons_head, want_alive}
 use Rattle.derivation_text.proofs.Residual.{Zipper, Roots, Part, join, snoc, add, depth, made_of, mades, finished, Place, Lines, Finish, After, AfterHead, BeforeNode, HeadRest, CreditsFrom, MoreCredits, VariablesFrom, MoreVariables, Named, AfterLine, AfterVariable, AfterCount, AfterSize}
 
--- ---- no digit stands after a number
+-- ---- no digit is after a number
 
 break_at : (b : ℕ) (bs more : List ℕ) → IsBreak (b ∷ bs) → more ≡ b ∷ bs → IsBreak more
 break_at b bs more h e = subst IsBreak (sym e) h

@@ -12,7 +12,7 @@ use Rattle.derivation_text.specs.ProofText.{rule_text, more_variables, variables
 use Rattle.derivation_text.specs.Writing.{head_text, ends_text, after_ends, nodes_text}
 use Rattle.derivation_text.proofs.Digits.{if_yes, if_not}
 
--- ---- what stands after a text
+-- ---- what is after a text
 
 more_variables_on : (vs rest : List ℕ) → more_variables vs rest ≡ more_variables vs [] ++ rest
 more_variables_on [] rest = refl

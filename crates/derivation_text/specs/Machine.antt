@@ -99,7 +99,7 @@ module _ {N : Type 0} (building : Building N) where
       else if begins (10 * s.number + (b - 48)) s.least most then Some (record s { number = 10 * s.number + (b - 48) })
       else None
 
-  -- after a digit: one more, or what stands after the number
+  -- after a digit: one more, or what is after the number
   abbrev pub going : ℕ → (State N → ℕ → Option (State N)) → State N → ℕ → Option (State N)
   going most pass s b =
       if is_digit b then longer most s b

@@ -76,7 +76,7 @@ abbrev pub lines_text : List Entry → List ℕ
 lines_text [] = []
 lines_text (e ∷ es) = line_text e (lines_text es)
 
--- The greatest number that stands in a text.
+-- The greatest number that is in a text.
 abbrev pub GREATEST : ℕ
 GREATEST = 4294967295
 

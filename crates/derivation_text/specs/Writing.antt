@@ -1,4 +1,4 @@
--- It serves the proof of what write_derivation gives: the text of nodes that stand in a list, where for each open node
+-- It serves the proof of what write_derivation gives: the text of nodes that are in a list, where for each open node
 -- the number of its parts that are still to come is kept.
 use Rattle.std.specs.Prelude.{ℕ, ◌-◌, nat_lt, if◌then◌else◌, List, [], ◌∷◌, ◌++◌}
 use Rattle.derivation_trees.specs.Trees.{Head}

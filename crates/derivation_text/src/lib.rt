@@ -5,7 +5,7 @@
 //     node = RULE "[" [ num { " " num } ] "|" [ num ":" num { " " num ":" num } ] "]"
 //            [ "(" node { "," node } ")" ]
 //
-// where RULE is a rule's name. In the brackets stand variables, their numbers rising, and then sizes from 1 to 16,
+// where RULE is a rule's name. In the brackets are variables, their numbers rising, and then sizes from 1 to 16,
 // rising, each with a count from 1. A num is below 2^32 and has no leading zero. Nodes nest at most 10,000 deep.
 #![tactic(auto)]
 

@@ -13,12 +13,12 @@ use crate::reader::Reader;
 use derivation_trees::{Derivation, Line};
 use std::alloc::Global;
 
-/// The derivation that a text spells. BadProof where the bytes are no derivation's text, with the least place that is
+/// The derivation that a text encodes. BadProof where the bytes are no derivation's text, with the least place that is
 /// bad; NoMemory where no memory is left. No call nests deeper for nodes that do. It takes memory for what was read.
 pub fn read_derivation(alloc: Global, bytes: &[u8]) -> Result<Derivation, ProofError>
-    // What is read is spelled so.
+    // What is read is encoded so.
     ensures text { IfOk result (λ d. IsProofText bytes.now (entries d)) }
-    // What is spelled so is read, unless memory runs out.
+    // What is encoded so is read, unless memory runs out.
     ensures only { (es : List Entry) → IsProofText bytes.now es →
         MatchResult result (λ d. entries d ≡ es) (λ e. e ≡ NoMemory) }
     // Its lines' nodes are those of trees, so that it is written as it was read.
@@ -32,7 +32,7 @@ pub fn read_derivation(alloc: Global, bytes: &[u8]) -> Result<Derivation, ProofE
     }
 }
 
-// The lines that all of the bytes spell.
+// The lines that all of the bytes encode.
 fn read_lines(alloc: Global, bytes: &[u8]) -> Result<Vec<Line>, ProofError>
     ensures { Runs result (runs (start flats) bytes.now 0) }
 {

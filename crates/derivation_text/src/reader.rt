@@ -175,7 +175,7 @@ impl Reader {
         }
     }
 
-    // A further letter, or what stands after the name.
+    // A further letter, or what is after the name.
     fn name(&mut self, byte: u8) -> Result<(), ByteError>
         ensures { Steps result self.new (act_name flats self.old.letters self.old byte) }
     {
@@ -324,7 +324,7 @@ impl Reader {
         Ok(())
     }
 
-    // After a head: the first part, or else what stands after the node.
+    // After a head: the first part, or else what is after the node.
     fn after_head(&mut self, byte: u8) -> Result<(), ByteError>
         ensures { Steps result self.new (act_head flats self.old byte) }
     {

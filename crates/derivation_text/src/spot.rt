@@ -1,13 +1,13 @@
 // Where in a text the reader is.
 
-/// What stands before the next byte of a text.
+/// What is before the next byte of a text.
 #[derive(Clone, Copy, PartialEq, Eq)]
 pub enum Spot {
     /// Whole lines.
     Line,
     /// A digit of a line's number.
     LineNumber,
-    /// What a rule's name stands after.
+    /// What a rule's name is after.
     Rule,
     /// A letter of a rule's name.
     Name,

@@ -54,7 +54,7 @@ impl Text {
 
     /// The text of a line. After an error the text is not to be used.
     pub fn line(&mut self, line: &Line) -> Result<(), TextError>
-        // It stands after what was written, where the nodes are those of a tree.
+        // It is after what was written, where the nodes are those of a tree.
         ensures line { IsTree line.now → OnOk result (self.new ≡ record {
           bytes = self.old.bytes ++ line_text (entry line.now) [];
           limit = self.old.limit;

@@ -1,4 +1,4 @@
-// Derivations written as text. The nodes of a line stand in a list; for each open node the number of its parts that are
+// Derivations written as text. The nodes of a line are in a list; for each open node the number of its parts that are
 // still to come is kept, so that no call nests for nodes that do.
 ghost use Rattle.std.specs.Prelude.{◌≡◌, List, [], ◌∷◌, ◌++◌, IfOk, OnOk};
 ghost use Rattle.std.specs.Fmt.{decimal};
@@ -61,7 +61,7 @@ fn write_nodes(alloc: Global, text: &mut Vec<u8>, nodes: &[Node]) -> Result<(), 
     Ok(())
 }
 
-// A node, and what stands after it.
+// A node, and what is after it.
 #[tactic(auto, using(crate::proofs::Writers::node_open, crate::proofs::Writers::node_leaf))]
 fn write_node(text: &mut Vec<u8>, node: &Node, open: &mut Vec<usize>) -> Result<(), NoMemory>
     ensures { OnOk result ((hs : List Head) → text.new.items ++ nodes_text (turned open.new.items) hs ≡

@@ -7,7 +7,7 @@ use Rattle.fip_base.proofs.fip_language.Facts.{get_none}
 pub more_same : {t u : Tree} {ts us : Trees} → t ≡ u → ts ≡ us → MoreTrees t ts ≡ MoreTrees u us
 more_same e f = cc
 
--- what stands before a place doesn't matter after it
+-- what is before a place doesn't matter after it
 row_same : (f g : ℕ → Tree) (hs : List Head) (i p : ℕ) → ((j : ℕ) → i ≤ j → f j ≡ g j) → row f hs i p ≡ row g hs i p
 row_same f g hs i zero e = refl
 row_same f g hs i (suc p) e = more_same (e i (omega arith)) (row_same f g hs (i + span_of (slice_get hs i)) p (λ j u. e j (omega arith)))
@@ -31,7 +31,7 @@ tree_is hs i h e = of (length hs) (omega arith)
     of zero l = absurd (let g = get_none hs i (omega arith) in cc)
     of (suc m) l = ap (rooted (cut_at m hs) hs i) e ∙ ap (Branch h.rule h.variables h.credits) (row_same (cut_at m hs) (cut_at (length hs) hs) hs (suc i) h.parts (λ j u. cut_same m (length hs) hs j (omega arith) (omega arith)))
 
--- where no node stands, there is no tree
+-- where there is no node, there is no tree
 pub tree_missing : (hs : List Head) (i : ℕ) → slice_get hs i ≡ None → tree_at hs i ≡ Missing
 tree_missing hs i e = of (length hs)
   where

@@ -1,4 +1,4 @@
--- It serves the proof that a builder counts parts rightly: how many parts nodes have, and where the open ones stand.
+-- It serves the proof that a builder counts parts rightly: how many parts nodes have, and where the open ones are.
 use Rattle.std.specs.Prelude.{◌≡◌, ℕ, ◌<◌, List, Some, slice_get}
 use Rattle.derivation_trees.specs.Trees.{Head}
 

@@ -1,6 +1,6 @@
 -- It serves the proofs on derivations: how trees lie in memory.
--- The nodes of a tree stand in a list, each before its parts, its first part directly after it. A node keeps how many
--- parts it has, and its span, the number of the nodes of its tree: its next neighbour stands so many places after it.
+-- The nodes of a tree are in a list, each before its parts, its first part directly after it. A node keeps how many
+-- parts it has, and its span, the number of the nodes of its tree: its next neighbour is so many places after it.
 use Rattle.std.specs.Prelude.{ℕ, zero, suc, ◌+◌, List, [], ◌∷◌, ◌++◌, Option, Some, None, map, length, slice_get}
 use Rattle.derivation_trees.specs.declared.derivation.RuleName.{RuleName}
 use Rattle.derivation_trees.specs.declared.derivation.Credit.{Credit}
@@ -13,7 +13,7 @@ abbrev pub count : Trees → ℕ
 count NoTrees = 0
 count (MoreTrees t ts) = suc (count ts)
 
--- a node without its parts, as it stands in a list
+-- a node without its parts, as it is in a list
 pub record Head : Type 0 where
   pub rule : RuleName
   pub variables : List ℕ
@@ -70,12 +70,12 @@ abbrev pub rooted : (ℕ → Tree) → List Head → ℕ → Option Head → Tre
 rooted tree hs i None = Missing
 rooted tree hs i (Some h) = Branch h.rule h.variables h.credits (row tree hs (suc i) h.parts)
 
--- the tree whose root stands at place i, cut off below so many nodes
+-- the tree whose root is at place i, cut off below so many nodes
 abbrev pub cut_at : ℕ → List Head → ℕ → Tree
 cut_at zero hs i = Missing
 cut_at (suc m) hs i = rooted (cut_at m hs) hs i (slice_get hs i)
 
--- the tree whose root stands at place i; no path in it has more nodes than the list
+-- the tree whose root is at place i; no path in it has more nodes than the list
 abbrev pub tree_at : List Head → ℕ → Tree
 tree_at hs i = cut_at (length hs) hs i
 

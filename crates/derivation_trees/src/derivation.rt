@@ -38,13 +38,13 @@ pub struct Credit {
 #[derive(Drop)]
 pub struct Node {
     pub rule: RuleName,
-    /// The owned variables' numbers, rising. A text spells those below 2^32.
+    /// The owned variables' numbers, rising. A text encodes those below 2^32.
     pub variables: Vec<usize>,
     /// The credits, their sizes rising.
     pub credits: Vec<Credit>,
     /// The number of its parts.
     pub parts: usize,
-    /// The number of the nodes of its tree, itself counted: the next node that isn't below it stands so many places
+    /// The number of the nodes of its tree, itself counted: the next node that isn't below it is so many places
     /// after it.
     pub span: usize,
 }

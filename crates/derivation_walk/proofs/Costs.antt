@@ -60,7 +60,7 @@ tree_kept b c t e = ap (λ (x : Built). cost_of x.nodes) e ∙ grown_cost b t
 pub trees_kept : (b c : Built) (ts : Trees) → c ≡ grown_all b ts → cost_of c.nodes ≡ cost_of b.nodes + cost_all ts
 trees_kept b c ts e = ap (λ (x : Built). cost_of x.nodes) e ∙ grown_all_cost b ts
 
--- b waits for parts of a tree that stands in a
+-- b waits for parts of a tree that is in a
 pub awaited_cost : (n : ℕ) (a b : Built) (f : Trees → Tree) (ts : Trees) → Awaits n a b f → cost_of b.nodes + cost_all ts ≡ cost_of a.nodes + cost (f ts)
 awaited_cost n a b f ts h =
     let x = grown_all_cost b ts in

@@ -58,7 +58,7 @@ is_ok xs first next r e m = subst (λ q. MatchResult q (IsFound xs first) (IsMis
 is_err : (xs : List ℕ) (first next : ℕ) (r : Result ℕ ℕ) → r ≡ Err next → MatchResult r (IsFound xs first) (IsMissed xs first) → IsMissed xs first next
 is_err xs first next r e m = subst (λ q. MatchResult q (IsFound xs first) (IsMissed xs first)) e m
 
--- what stands at the place that a search gave
+-- what is at the place that a search gave
 pub found_at : (xs : List ℕ) (first end next place : ℕ) (r : Result ℕ ℕ) → IsBinarySearchResult (λ y. nat_cmp y first) xs r → IsRising xs → (r ≡ Ok next) ⊎ (r ≡ Err next) → next < length xs → place ≡ get_or xs next 0 → nat_lt place end ≡ has_within first end xs
 found_at xs first end next place r h up (inl e) l p =
     let f = is_ok xs first next r e (searched xs first r h up) in
@@ -76,7 +76,7 @@ found_at xs first end next place r h up (inr e) l p =
     let g : first < get_or xs next 0 = f.2 next (omega arith) l in
     at_place xs first end next place up l p (omega (arith, g, p)) (λ i k. inl (f.1 i k))
 
--- no number stands there
+-- no number is there
 pub found_none : (xs : List ℕ) (first end next : ℕ) (r : Result ℕ ℕ) → IsBinarySearchResult (λ y. nat_cmp y first) xs r → IsRising xs → (r ≡ Ok next) ⊎ (r ≡ Err next) → length xs ≤ next → false ≡ has_within first end xs
 found_none xs first end next r h up (inl e) l =
     let f = is_ok xs first next r e (searched xs first r h up) in

@@ -53,14 +53,14 @@ passed_short g p ps a as' n e h =
 
 -- ---- in loops
 
--- Trees come to b as others came to a.
+-- Trees are put into b as others were put into a.
 pub later_short : (n m : ℕ) (a b : Built) (us ws : Trees) → grown_all b us ≡ grown_all a ws → m + cost_of b.nodes ≡ n + cost_of a.nodes → m < cost_all us → n < cost_all ws
 later_short n m a b us ws e k l =
     let x = trees_kept b (grown_all b us) us refl in
     let y = trees_kept a (grown_all b us) ws e in
     omega (arith, x, y, k, l)
 
--- The rest of a block comes to b, as all of it does to a.
+-- The rest of a block is put into b, as all of it is into a.
 pub rest_short : (n m i : ℕ) (a b : Built) (u w : Tree) → closed_times i (grown b u) ≡ grown a w → m + cost_of b.nodes ≡ n + cost_of a.nodes → m < cost u → n < cost w
 rest_short n m i a b u w e k l =
     let x = tree_kept b (grown b u) u refl in

@@ -1,4 +1,4 @@
--- It serves the proof of what `derive` gives: how the nodes of trees come to a builder.
+-- It serves the proof of what `derive` gives: how the nodes of trees are put into a builder.
 use Rattle.std.specs.Prelude.{◌≡◌, ℕ, zero, suc, ◌++◌}
 use Rattle.derivation_trees.specs.Trees.{Tree, Trees, NoTrees, MoreTrees, flat}
 use Rattle.derivation_trees.specs.Building.{Built, alter_at, innermost, with_part, closed}

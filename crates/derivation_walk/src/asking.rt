@@ -1,4 +1,4 @@
-// What a walk asks of types and of the instances that are called.
+// What a walk requires of types and of the instances that are called.
 ghost use Rattle.std.specs.Prelude.{◌≡◌};
 ghost use Rattle.fip_trees.specs.TreeView as V;
 ghost use Rattle.fip_rules.specs.Shapes.{takes};
@@ -26,7 +26,7 @@ impl Context<'_> {
         }
     }
 
-    /// Whether the argument in this place of a call, from 0, stands in a borrowed position: the parameter is lent, and
+    /// Whether the argument in this place of a call, from 0, is in a borrowed position: the parameter is borrowed, and
     /// of a type that isn't scalar.
     pub fn lends(&self, callee: u32, place: usize) -> bool
         ensures lends { result ≡ W.lends (world_of self.now) callee place }

@@ -32,7 +32,7 @@ pub struct Occurrence {
 pub struct Found {
     /// In the order of their numbers.
     pub variables: Vec<Bound>,
-    /// Those in one expression stand together, before those in the parts of this expression.
+    /// Those in one expression are together, before those in the parts of this expression.
     pub occurrences: Vec<Occurrence>,
     /// The number of the next expression.
     pub next: usize,

@@ -3,7 +3,7 @@
 //
 // The walk goes down from what a function owns. Of what is there an expression asks for the variables that occur in it
 // and for the credits that it needs. Of a let's own variables those that the bound expression uses up go there, all
-// others to the rest, and the bound expression may lend them.
+// others to the rest, and the bound expression may borrow them.
 ghost use Rattle.std.specs.Prelude.{◌≡◌, ◌+◌, ◌<◌, ◌≤◌, [], slice_get, filter, length, not, IfOk, OnOk, Err};
 ghost use Rattle.fip_trees.specs.TreeView as V;
 ghost use Rattle.fip_trees.specs.Sizes.{no_sizes};
@@ -35,7 +35,7 @@ use fip_trees::scalars::Scalars;
 use fip_trees::sizes::Sizes;
 use std::alloc::Global;
 
-/// The derivation of a typed program, which is asked to break no rule on ownership and credits, and whose needs these
+/// The derivation of a typed program, which must break no rule on ownership and credits, and whose needs these
 /// are. NoMemory: no memory is left.
 pub fn derive(alloc: Global, typed: &Typed, needs: &Needs) -> Result<Derivation, NoMemory>
     ensures trees { IfOk result (λ d. AreTrees d.lines.items) }
@@ -121,7 +121,7 @@ struct Guide<'a> {
     needs: &'a [Need],
 }
 
-// Where the walk stands: the number of the next expression, the nodes so far, and for how many bytes of their text
+// Where the walk is: the number of the next expression, the nodes so far, and for how many bytes of their text
 // there is room.
 #[derive(Drop)]
 struct Walk {
@@ -307,7 +307,7 @@ impl Guide<'_> {
         Ok(found)
     }
 
-    // The variable of a binder comes to the others where it isn't scalar.
+    // The variable of a binder joins the others where it isn't scalar.
     fn bind(&self, variables: &mut Vec<usize>, binder: usize, ty: u32) -> Result<(), NoMemory>
         ensures { OnOk result (variables.new.items ≡ W.bound (guided self.now) variables.old.items binder ty) }
     {

@@ -18,7 +18,7 @@ pub struct Stack {
     pub words: usize,
 }
 
-/// A parameter: the number of its type, and whether it is lent.
+/// A parameter: the number of its type, and whether it is borrowed.
 #[derive(Clone, Copy, PartialEq, Eq)]
 pub struct Param {
     pub ty: u32,

@@ -77,7 +77,7 @@ impl DataType {
     }
 }
 
-/// The types of a program. Type 0 is int, and stands in no list.
+/// The types of a program. Type 0 is int, and is in no list.
 #[derive(Drop)]
 pub struct TypeTable {
     types: Vec<DataType>,

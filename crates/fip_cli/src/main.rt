@@ -8,8 +8,8 @@ use std::env;
 use std::io::ErrorKind;
 use std::process::ExitCode;
 
-// The words of the command line; want of memory is the one error. A word that isn't UTF-8 is no command: then there is
-// no word at all.
+// The words of the command line; running out of memory is the one error. A word that isn't UTF-8 is no command: then
+// there is no word at all.
 fn words_of(rt: &HostRuntime) -> Result<Vec<String>, NoMemory> {
     let mut words = Vec::new(rt.alloc());
     match env::args(rt) {

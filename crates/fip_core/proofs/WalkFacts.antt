@@ -1,4 +1,4 @@
--- What a walk over the steps of an expression comes to, against the core form of the expression that they stand for.
+-- What a walk over the steps of an expression gives, against the core form of the expression that they stand for.
 use Rattle.std.proofs.Common.{◌≡◌, ℕ, zero, suc, ◌+◌, ◌≤◌, ◌<◌, Bool, true, false, cond, List, [], ◌∷◌, ◌++◌, length, map, take, Some, None, refl, sym, ap, ◌∙◌, arith, zero-add, length-take}
 use Rattle.std.specs.Prelude.{reverse, pos, codes, ◌==◌}
 use Rattle.std.specs.Str.{bytes_eq}
@@ -104,7 +104,7 @@ chosen_next s met unmet n =
     (form.as_block (form.contents s y.next unmet)).next
 
 -- The step that follows these expressions, reported by the parts that wait: what stays waiting, and what the step's
--- expression comes to, both as an expression and as a part.
+-- expression gives, both as an expression and as a part.
 pub record Follows (s : Scope) (n : ℕ) (a : Action) (es : List S.Expression) : Type 0 where
   pub lets : (waits s n (kept a es)).lets ++ (form.whole s (waits s n (kept a es)).next (acted a es)).lets ≡ (waits s n es).lets ++ (stepped s (waits s n es).next a (waits s n es).arguments).lets
   pub expression : (form.whole s (waits s n (kept a es)).next (acted a es)).expression ≡ (stepped s (waits s n es).next a (waits s n es).arguments).expression

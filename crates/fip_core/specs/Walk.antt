@@ -1,4 +1,4 @@
--- What the steps of an expression come to, one after another: the lets that are made, what the step gives, and the
+-- What the steps of an expression give, one after another: the lets that are made, what the step gives, and the
 -- arguments that wait, the last one first.
 use Rattle.std.specs.Prelude.{pos, ℕ, ◌+◌, Bool, true, List, [], ◌∷◌, ◌++◌, length, map, reverse, None}
 use Rattle.fip_base.specs.fip_language.declared.Place.{Place}
@@ -78,7 +78,7 @@ operands_of (Operates o p) = 2
 operands_of (Matches d p cs) = 1
 operands_of (Chooses p met unmet) = 1
 
--- what a let comes to: its lets, and what is in scope after it
+-- what a let gives: its lets, and what is in scope after it
 pub record LetMade : Type 0 where
   pub lets : List Binding
   pub scope : Scope
@@ -94,7 +94,7 @@ let_made s n l =
       next = w.next + length l.binds;
     }
 
--- what a clause comes to
+-- what a clause gives
 pub record CaseMade : Type 0 where
   pub case : core.Case
   pub next : ℕ

@@ -1,7 +1,7 @@
 // The core form of a program.
 //
 // An expression is a list of steps in postfix order. The operands that wait for their operator are kept on a stack,
-// as arguments: each is bound as soon as it is complete, so that the lets stand from left to right.
+// as arguments: each is bound as soon as it is complete, so that the lets are in order from left to right.
 //
 // The surface tree is taken apart: its names, its types, its static parameters and its data types move into the core
 // form. Only the names that binders bring into scope are copied, and the names that no source has are made.

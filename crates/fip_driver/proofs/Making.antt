@@ -1,6 +1,5 @@
--- Which code a call made: what is said of it by what the command comes to, and then by the status.
--- Idea: a code that was made is handed up as it is; where none was made the source isn't there, or is refused, and nothing is
--- stored.
+-- Which code a call made: what is said of it by what the command ends in, and then by the status. Idea: a code that was
+-- made is handed up as it is; where none was made the source isn't there, or is refused, and nothing is stored.
 use Rattle.std.proofs.Common.{◌≡◌, ◌<◌, ◌≤◌, ℕ, List, [], Option, Some, None, length, refl, sym, subst, ◌∙◌, ◌⊎◌, inl, inr, Bool, true, false, arith}
 use Rattle.std.specs.Prelude.{Result, Ok, Err, IfErr, IfSome, IsSomeAnd, OnOk}
 use Rattle.std.specs.Io.KnownBytes.{Consumes, IsAtEnd}

@@ -1,4 +1,4 @@
--- What words come to, where they are no command or memory runs out; and the whole answer by what they come to.
+-- What words end in, where they are no command or memory runs out; and the whole answer by what they end in.
 use Rattle.std.proofs.Common.{◌≡◌, ℕ, List, [], sym, subst, inl, inr}
 use Rattle.std.specs.Prelude.{◌⊎◌, Option, Some, Result, Ok, Err}
 use Rattle.std.specs.declared.vec.Vec.{Vec}
@@ -42,11 +42,11 @@ module _ (words : List (List ℕ)) (files : List File) (input : List ℕ) (out o
   abbrev Whole : List File → List ℕ → Type 0
   Whole fs bytes = Answered words fs bytes (host out.written out'.written err.written err'.written now s)
 
-  -- what words come to, of these files and this input
+  -- what words end in, of these files and this input
   abbrev Come : List File → List ℕ → Type 0
   Come fs bytes = IsUnasked words o ⊎ ((c : Command) × IsCommand words c × Closes fs bytes c folder_rose input_rose (end_of o)) ⊎ ((c : Command) × IsCommand words c × IsUntoldAudit (Some files) c (end_of o))
 
-  -- the files after words that come to no command, or find no memory before
+  -- the files after words that are no command, or find no memory before
   unasked_kept : (p : Result (Vec ℕ Global) Failure) → IsUnasked words p → (now ≡ Some files) ⊎ HadFolder words p → ((c : Command) → IsCommand words c → AreKept c (Some input) (stored_name c) folder_rose (Some files) now p) → now ≡ Some files
   unasked_kept p h (inl same) kept = same
   unasked_kept (Ok text) h (inr had) kept = absurd h
@@ -62,7 +62,7 @@ module _ (words : List (List ℕ)) (files : List File) (input : List ℕ) (out o
         closed_answer words files input out out' err err' now no_out no_err h.0 folder_rose input_rose no_folder no_input o s h.1 h.2 stored d
     reported_whole (inr (inr h)) = absurd h.2
 
-    -- where no count of faults rose, and the folder and the input tell what they hold
+    -- where no count of faults rose, and the folder and the input report what they hold
     pub whole_outcome : WordsOutcome words (Some files) (Some input) folder_rose input_rose o → Whole files input
     whole_outcome h =
         reported_whole (subst (λ fs. Come fs input) (sym h.2) (subst (λ bytes. Come h.0 bytes) (sym h.3) h.4))

@@ -67,12 +67,12 @@ input_fault_up c came fr ir (Err (F.Fault O.Out)) r k h = h
 input_fault_up c came fr ir (Err (F.Fault O.Err)) r k h = h
 input_fault_up c came fr ir (Err failure) r k h = h
 
--- what is wanted of a source, by the command
+-- what is required of a source, by the command
 has_wanted : (c : Command) (w : Wanted) (source : List ℕ) → wanted c ≡ Some w → IsReady source w → HasWanted c source
 has_wanted (Run r) w source wants ready = absurd (none-some w wants)
 has_wanted c w source wants ready = subst (IsReadyFor source) (sym wants) ready
 
--- a command comes to its input, where its file is there and has what is wanted
+-- a command reaches its input, where its file is there and has what is required
 come_ready : (c : Command) (w : Wanted) (name : List ℕ) (files : List File) (source : List ℕ) → fetched_name c ≡ Some name → wanted c ≡ Some w → file_of name files ≡ Some source → IsReady source w → ComesToInput c (Some files)
 come_ready c w name files source names wants there ready = subst (HoldsWanted c (Some files)) (sym names) (source, there, has_wanted c w source wants ready)
 
@@ -108,7 +108,7 @@ read_says Is before left rose read o c end le h = (read, whole_of before left re
 pub read_ends : (Is : List ℕ → End → Type 0) (before left : Option (List ℕ)) (rose : Type 0) (read : List ℕ) (e : End) → Consumes before left read → IsAtEnd left → length read ≤ 16777216 → Is read e → ReadOutcome Is before rose e
 read_ends Is before left rose read e c end le m = (read, whole_of before left read c end, inr (inr (le, m)))
 
--- an input that was read to its end, and what a traced run comes to on it
+-- an input that was read to its end, and what a traced run ends in on it
 pub read_traces : (source name : List ℕ) (room : Room) (before left : Option (List ℕ)) (rose : Type 0) (read : List ℕ) (o : Result compiled_file Failure) → Consumes before left read → IsAtEnd left → length read ≤ 16777216 → KeptOrNoMemory (Traces source name read room) o → ReadOutcome (λ input. TracesTo source name input room) before rose (compiled_end o)
 read_traces source name room before left rose read o c end le h = (read, whole_of before left read c end, by o h)
   where
@@ -197,7 +197,7 @@ derive_ends file out source text bytes left ir before mid now o le made derived 
     by input (Ok v) e = ((bytes, made), e ∙ derived)
     by input (Err f) e = tt
 
--- what comes of an input, of a source that has what is wanted
+-- what comes of an input, of a source that has what is required
 pub input_ends : (c : Command) (w : Wanted) (source : List ℕ) (left : Option (List ℕ)) (fr rose : Type 0) (Is : List ℕ → End → Type 0) (e : End) → IsReady source w → ReadsInput c → ((input : List ℕ) (d : End) → Is input d → Does source input c d) → ReadOutcome Is left rose e → SourceOutcome c w source left fr rose e
 input_ends c w source left fr rose Is e ready reads up (input, reported, h) = (input, reported, by h)
   where
@@ -257,7 +257,7 @@ comes_found files input c name o e names is h =
 pub comes_missing : (files : List File) (input : List ℕ) (c : Command) (name : List ℕ) → fetched_name c ≡ Some name → file_of name files ≡ None → ComesTo files input c (Err (F.Fault O.Folder))
 comes_missing files input c name names gone = comes_found files input c name None (Err (F.Fault O.Folder)) names gone refl
 
--- of a source of which all rules are asked
+-- of a source of which all rules are checked
 on_file : (files : List File) (source input : List ℕ) (c : Command) (w : Wanted) (e : End) → wanted c ≡ Some w → OnSource source input c w e → OnFile files source input c e
 on_file files source input (Verify file) w e wants h = absurd (none-some w wants)
 on_file files source input (Upgrade file out) w e wants h = absurd (none-some w wants)
@@ -432,7 +432,7 @@ proof_missing file proof None left fr ir source p holds right gone = absurd gone
 proof_missing file proof (Some all) left fr ir source p holds right gone =
     inl (audit_says file proof all left fr ir source (Err (F.Fault O.Folder)) holds (subst (λ o. Audits source o (Err (F.Fault O.Folder))) (sym gone) (NoProof p right)))
 
--- a fault, or want of memory
+-- a fault, or out of memory
 audit_fault : (file proof : List ℕ) (files : Option (List File)) (left : Option (List ℕ)) (fr ir : Type 0) (e : End) → IsFault (Audit file proof) (ComesToInput (Audit file proof) (Some (any_reported files []).0)) fr ir e → AuditOutcome (Audit file proof) files left fr ir e
 audit_fault file proof files left fr ir e h = let t = any_reported files [] in let i = any_reported left [] in inl (t.0, i.0, t.1, i.1, inl h)
 
@@ -457,7 +457,7 @@ judged_ends file proof files later left ir source text p before mid now o holds 
     by (Err F.NoMemory) ok accepted err = audit_fault file proof files left (Rose before now) ir (Err F.NoMemory) tt
     by (Err f) ok accepted err = absurd err
 
--- one whose report is among those that are asked
+-- one whose report is among those that are checked
 pub reported_ends : (file proof : List ℕ) (files : Option (List File)) (left : Option (List ℕ)) (fr ir : Type 0) (source text : List ℕ) (f : Failure) → HoldsFile files file source → text ≡ source → IsRefusedBy (IsEarlyReport text) f → AuditOutcome (Audit file proof) files left fr ir (Err f)
 reported_ends file proof files left fr ir source text f holds same h =
     let t = held files file source holds in

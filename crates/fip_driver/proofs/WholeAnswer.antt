@@ -34,7 +34,7 @@ module _ (words : List (List ℕ)) (files : List File) (input : List ℕ) (out o
   no_memory s kept same (inl t) = inl (record { ended = t.0; unwritten = ap (λ o. o.written) same; shown = t.1; kept = kept })
   no_memory s kept same (inr t) = absurd (no_err t.1)
 
-  -- words that are no command, or want of memory
+  -- words that are no command, or out of memory
   unasked_reported : (f : Failure) (s : ℕ) → now ≡ Some files → out' ≡ out → IsUnasked words (Err f) → ReportedFailure err err' f s → Whole s
   unasked_reported F.NotUnderstood s kept same none (inl (inl t)) = inr (inl (none, record { ended = t.0; unwritten = ap (λ o. o.written) same; shown = t.1; kept = kept }))
   unasked_reported F.NotUnderstood s kept same none (inl (inr t)) = absurd (no_err t.1)
@@ -71,7 +71,7 @@ module _ (words : List (List ℕ)) (files : List File) (input : List ℕ) (out o
   delivered_end c (Ok text) s stored (inr d) = absurd (no_out d.1)
   delivered_end c (Err f) s stored d = failure_end f s (failed_kept c (stored_name c) files input now f stored) d.0 d.1
 
-  -- where no count of faults rose, an end of a fault is want of memory
+  -- where no count of faults rose, an end of a fault is out of memory
   fault_end : (c : Command) (came folder_rose input_rose : Type 0) → (folder_rose → ⊥) → (input_rose → ⊥) → (e : End) (s : ℕ) → IsFault c came folder_rose input_rose e → Stores c files input (stored_name c) e now → Shown e s → Whole s
   fault_end c came fr ir no_f no_i (Ok text) s h stored t = absurd h
   fault_end c came fr ir no_f no_i (Err F.NoMemory) s h stored t = inl (record { ended = t.0; unwritten = t.1; shown = t.2; kept = failed_kept c (stored_name c) files input now F.NoMemory stored })

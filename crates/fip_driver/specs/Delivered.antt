@@ -11,7 +11,7 @@ use Rattle.command_outcome.specs.Texts.{no_memory_text, out_fault_text, err_faul
 use Rattle.command_outcome.specs.declared.failure.Failure.{Failure}
 use Rattle.command_outcome.specs.declared.failure.Failure.TheVariants as F
 
--- what a command comes to: a text for out, or what keeps it from one
+-- what a command ends in: a text for out, or what keeps it from one
 abbrev pub Outcome : Type 0
 Outcome = Result (Vec ℕ Global) Failure
 
@@ -23,12 +23,12 @@ pub record Seen : Type 0 where
 abbrev pub seen : Option (List ℕ) → ℕ → Seen
 seen written faults = record { written = written; faults = faults }
 
--- A text was tried once: it stands on the sink, or the sink failed after a front part of it.
+-- A text was tried once: it is on the sink, or the sink failed after a front part of it.
 abbrev pub Tried : Seen → Seen → List ℕ → Type 0
 Tried old new text = Appends old.written new.written text
     ⊎ (Rose old.faults new.faults × WritesPrefix old.written new.written text)
 
--- The text stands on a sink, and the status is this one; or the sink failed after a front part of it, its own fault
+-- The text is on a sink, and the status is this one; or the sink failed after a front part of it, its own fault
 -- was then tried to be reported once, and the status is 9.
 abbrev pub Reported : Seen → Seen → ℕ → List ℕ → ℕ → Type 0
 Reported old new status text s =
@@ -36,13 +36,13 @@ Reported old new status text s =
     ⊎ ((s ≡ 9) × Rose old.faults new.faults × ((between : Seen) × Rose old.faults between.faults
     × WritesPrefix old.written between.written text × Tried between new err_fault_text))
 
--- a failure's own text; or that of want of memory, where there was none for the text
+-- a failure's own text; or that of running out of memory, where there was none for the text
 abbrev pub ReportedFailure : Seen → Seen → Failure → ℕ → Type 0
 ReportedFailure old new (F.Fault object) s = (s ≡ 9) × Tried old new (fault_text object)
 ReportedFailure old new failure s = Reported old new (failure_status failure) (failure_text failure) s
     ⊎ Reported old new 10 no_memory_text s
 
--- A result stands on out; or out failed after a front part of it, which was tried to be reported on err.
+-- A result is on out; or out failed after a front part of it, which was tried to be reported on err.
 abbrev pub Delivered : Seen → Seen → Seen → Seen → Outcome → ℕ → Type 0
 Delivered out out' err err' (Ok text) s =
     ((s ≡ 0) × Appends out.written out'.written text.items × (err' ≡ err))

@@ -41,7 +41,7 @@ at_first sink = seen sink.reported sink.before
 abbrev pub at_last : Stream → Seen
 at_last sink = seen sink.reports sink.after
 
--- Where no count of faults rose, and the folder and the input tell what they hold, the words have their answer.
+-- Where no count of faults rose, and the folder and the input report what they hold, the words have their answer.
 abbrev pub AnswersWhole : List (List ℕ) → Folder → Stream → Stream → Stream → ℕ → Type 0
 AnswersWhole words folder input out err s = (files : List File) (bytes : List ℕ) → folder.reported ≡ Some files →
     input.reported ≡ Some bytes → (Failed folder → ⊥) → (Failed input → ⊥) → (Failed out → ⊥) → (Failed err → ⊥) →
@@ -85,8 +85,8 @@ abbrev pub FilesAfter : Command → Folder → Stream → Stream → ℕ → Typ
 FilesAfter c folder input out s =
     AreAfter c input.reported (stored_name c) (Failed folder) (at_first out) (at_last out) folder.reported folder.reports s
 
--- Whatever fails: just what the words come to is delivered to the sinks; where that is before the input's turn, the input is untouched;
--- and a fault of a folder that reports nothing is one that it counted.
+-- Whatever fails: just what the words end in is delivered to the sinks; where that is before the input's turn, the
+-- input is untouched; and a fault of a folder that reports nothing is one that it counted.
 abbrev pub Delivers : List (List ℕ) → Folder → Stream → Stream → Stream → Type 0 → ℕ → Type 0
 Delivers words folder input out err untouched s = (o : Outcome) × (untouched ⊎ HadInput words folder.reported o)
     × WordsOutcome words folder.reported input.reported (Failed folder) (Failed input) o

@@ -64,13 +64,13 @@ ReadFails left left' before now (F.Fault object) = (object ≡ O.Input) × Rose 
 ReadFails left left' before now F.NoMemory = Unit {0}
 ReadFails left left' before now failure = ⊥
 
--- why a file wasn't fetched, or what it has isn't taken; or want of memory
+-- why a file wasn't fetched, or what it has isn't taken; or that memory ran out
 abbrev pub IsEarlyFailure : Failure → Type 0
 IsEarlyFailure (F.Fault O.Folder) = Unit {0}
 IsEarlyFailure (F.Fault object) = ⊥
 IsEarlyFailure failure = IsOfSource failure
 
--- why an input wasn't read, or what is said of it, of a run on it and of a trace that is too long; or want of memory
+-- why an input wasn't read, or what is said of it, of a run on it and of a trace that is too long; or out of memory
 abbrev pub IsLateFailure : Failure → Type 0
 IsLateFailure (F.Fault O.Input) = Unit {0}
 IsLateFailure (F.Fault object) = ⊥

@@ -45,8 +45,8 @@ pub record StoresOf (Made : List ℕ → List ℕ → Type 0) (file fetched out 
   pub holds : HoldsFile old file fetched
   pub stored : done → (bytes : List ℕ) × HoldsFile new out bytes × Made fetched bytes
 
--- Nothing was fetched, or no code was made of what was: the command isn't done, no file changes, and it is refused only where
--- its source, which is the fetched one, hasn't what it wants.
+-- Nothing was fetched, or no code was made of what was: the command isn't done, no file changes, and it is refused only
+-- where its source, which is the fetched one, hasn't what it requires.
 pub record IsUnmade (c : Command) (file : List ℕ) (fetched : Option (List ℕ)) (old new : Option (List File))
     (done refused : Type 0) : Type 0 where
   pub undone : done → ⊥

@@ -1,4 +1,4 @@
--- It serves the proof of `fp2`: what a command comes to, before it is handed to the sinks.
+-- It serves the proof of `fp2`: what a command ends in, before it is handed to the sinks.
 use Rattle.std.specs.Prelude.{◌≡◌, ◌⊎◌, ℕ, ◌<◌, ◌≤◌, Bool, true, false, List, length, Option, Some, None, Result, Ok, Err}
 use Rattle.std.specs.declared.vec.Vec.{Vec}
 use Rattle.std.specs.declared.alloc.Global.{Global}
@@ -42,7 +42,7 @@ abbrev pub compiled_end : Result Compiled Failure → End
 compiled_end (Ok compiled) = Ok compiled.text.items
 compiled_end (Err failure) = Err failure
 
--- want of memory, or a fault of the input that was counted
+-- running out of memory, or a fault of the input that was counted
 abbrev pub IsInputFault : Type 0 → End → Type 0
 IsInputFault rose (Err F.NoMemory) = Unit {0}
 IsInputFault rose (Err (F.Fault O.Input)) = rose
@@ -53,37 +53,38 @@ abbrev pub IsFolderFault : Result (Vec ℕ Global) Failure → Type 0
 IsFolderFault (Err (F.Fault O.Folder)) = Unit {0}
 IsFolderFault o = ⊥
 
--- What reading an input and running on it comes to, by what is said of the end on an input.
+-- What reading an input and running on it ends in, by what is said of the end on an input.
 abbrev pub ReadOutcome : (List ℕ → End → Type 0) → Option (List ℕ) → Type 0 → End → Type 0
 ReadOutcome Is left rose e =
     (input : List ℕ) × IsReported left input × (IsInputFault rose e
     ⊎ (((MOST_FILE_BYTES < length input) × (e ≡ Err (F.BadInput MOST_FILE_BYTES)))
     ⊎ ((length input ≤ MOST_FILE_BYTES) × Is input e)))
 
--- What a command comes to on a source of which all rules are asked.
+-- What a command ends in on a source of which all rules are checked.
 abbrev pub SourceOutcome : Command → Wanted → List ℕ → Option (List ℕ) → Type 0 → Type 0 → End → Type 0
 SourceOutcome c w source left folder_rose input_rose e =
     (input : List ℕ) × IsReported left input × (IsFault c (IsReady source w) folder_rose input_rose e
     ⊎ OnSource source input c w e)
 
--- What a command comes to on a code file.
+-- What a command ends in on a code file.
 abbrev pub CodeOutcome : Command → List ℕ → Option (List ℕ) → Type 0 → Type 0 → End → Type 0
 CodeOutcome c bytes left folder_rose input_rose e =
     (input : List ℕ) × IsReported left input
     × (IsFault c (HasWanted c bytes) folder_rose input_rose e ⊎ OnCode bytes input c e)
 
--- What a command comes to on the files and the input that the folder and the source reported, where they reported something.
+-- What a command ends in on the files and the input that the folder and the source reported, where they reported
+-- something.
 abbrev pub FileOutcome : Command → Option (List File) → Option (List ℕ) → Type 0 → Type 0 → End → Type 0
 FileOutcome c files left folder_rose input_rose e =
     (all : List File) × (input : List ℕ) × IsReported files all × IsReported left input
     × Closes all input c folder_rose input_rose e
 
--- what `audit` comes to
+-- what `audit` ends in
 abbrev pub AuditOutcome : Command → Option (List File) → Option (List ℕ) → Type 0 → Type 0 → End → Type 0
 AuditOutcome c files left folder_rose input_rose e =
     FileOutcome c files left folder_rose input_rose e ⊎ IsUntoldAudit files c e
 
--- what a command comes to, whatever words ask for it
+-- what a command ends in, whatever words ask for it
 abbrev pub CommandOutcome : Command → Option (List File) → Option (List ℕ) → Type 0 → Type 0 →
     Result (Vec ℕ Global) Failure → Type 0
 CommandOutcome c files left folder_rose input_rose o =

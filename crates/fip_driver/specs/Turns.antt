@@ -1,5 +1,5 @@
--- What words come to where an object fails, or reports nothing, and whose turn had come then: first that of the words, then
--- of the folder, of the source or the code that was fetched, and at last of the input.
+-- What words end in where an object fails, or reports nothing, and whose turn had come then: first that of the words,
+-- then of the folder, of the source or the code that was fetched, and at last of the input.
 use Rattle.std.specs.Prelude.{◌≡◌, ◌⊎◌, ℕ, List, Option, Some, None, Ok, Err}
 use Rattle.fip_language.specs.declared.rule.Rule.TheVariants.{E75}
 use Rattle.fip_outside.specs.Files.{File}
@@ -18,15 +18,15 @@ abbrev pub end_of : Outcome → End
 end_of (Ok text) = Ok text.items
 end_of (Err failure) = Err failure
 
--- want of memory, or a fault that was counted of an object that the command calls; of the input only where the command
--- had come to it
+-- running out of memory, or a fault that was counted of an object that the command calls; of the input only where the
+-- command had reached it
 abbrev pub IsFault : Command → Type 0 → Type 0 → Type 0 → End → Type 0
 IsFault c came folder_rose input_rose (Err F.NoMemory) = Unit {0}
 IsFault c came folder_rose input_rose (Err (F.Fault O.Folder)) = folder_rose × (CallsNoFolder c → ⊥)
 IsFault c came folder_rose input_rose (Err (F.Fault O.Input)) = input_rose × ReadsInput c × came
 IsFault c came folder_rose input_rose e = ⊥
 
--- what a command comes to on files, or a fault
+-- what a command ends in on files, or a fault
 abbrev pub Closes : List File → List ℕ → Command → Type 0 → Type 0 → End → Type 0
 Closes files input c folder_rose input_rose e =
     IsFault c (ComesToInput c (Some files)) folder_rose input_rose e ⊎ ComesTo files input c e
@@ -38,15 +38,15 @@ IsUntoldAudit (Some files) c e = ⊥
 IsUntoldAudit None (Audit file proof) e = (source : List ℕ) × (bytes : List ℕ) × Audits source (Some bytes) e
 IsUntoldAudit None c e = ⊥
 
--- what words come to before a command is asked: they are none, or memory runs out
+-- what words end in before there is a command: they are none, or memory runs out
 abbrev pub IsUnasked : List (List ℕ) → Outcome → Type 0
 IsUnasked words (Err F.NotUnderstood) = IsNoCommand words
 IsUnasked words (Err F.NoMemory) = Unit {0}
 IsUnasked words o = ⊥
 
--- What words come to: they ask for no command, or memory runs out; or it is what a command ends with on files and an
--- input, which are what the folder and the input reported, where they reported something; or `audit` where the folder reports
--- none.
+-- What words end in: they ask for no command, or memory runs out; or it is what a command ends with on files and an
+-- input, which are what the folder and the input reported, where they reported something; or `audit` where the folder
+-- reports none.
 abbrev pub WordsOutcome : List (List ℕ) → Option (List File) → Option (List ℕ) → Type 0 → Type 0 → Outcome → Type 0
 WordsOutcome words files left folder_rose input_rose o =
     (all : List File) × (input : List ℕ) × IsReported files all × IsReported left input
@@ -84,7 +84,7 @@ abbrev pub IsBeforeInputOf : Command → Outcome → Type 0
 IsBeforeInputOf (Trace file entry out room) o = IsBeforeTrace o
 IsBeforeInputOf c o = IsBeforeInput o
 
--- The words ask for a command that reads the input, and its turn had come: its file is there and has what is wanted.
+-- The words ask for a command that reads the input, and its turn had come: its file is there and has what is required.
 -- (`trace` may still fail at the folder after its input, and by a rule; the other commands don't.)
 abbrev pub HadInput : List (List ℕ) → Option (List File) → Outcome → Type 0
 HadInput words files o =

@@ -1,4 +1,4 @@
-// What a command comes to: one arm for each, which says in what order the objects of a host are called.
+// What a command ends in: one arm for each, which says in what order the objects of a host are called.
 ghost use Rattle.std.specs.Prelude.{◌≡◌, ◌⊎◌, ℕ, List, OnOk, None};
 ghost use Rattle.std.specs.Io.KnownBytes.{IsAtEnd};
 ghost use Rattle.fip_outside.specs.Faults.{Rose};
@@ -24,8 +24,8 @@ use command_words::Command;
 use fip_outside::outside::{Folder, Source};
 use std::alloc::Global;
 
-/// What a command comes to. What a command that stores fetched is handed out, and the code that `compile` or `trace` made, or
-/// it is the one that is left.
+/// What a command ends in. What a command that stores fetched is handed out, and the code that `compile` or `trace`
+/// made, or it is the one that is left.
 pub fn answer<F: Folder, S: Source>(
     alloc: Global,
     command: &Command<'_>,

@@ -1,4 +1,4 @@
-// What the words of a command line come to, before it is handed to the sinks.
+// What the words of a command line end in, before it is handed to the sinks.
 ghost use Rattle.std.specs.Prelude.{◌≡◌, ◌⊎◌, true, false, None, OnOk, map, string_bytes};
 ghost use Rattle.std.specs.Io.KnownBytes.{IsAtEnd};
 ghost use Rattle.fip_outside.specs.Faults.{Rose};
@@ -23,8 +23,8 @@ use fip_base::plain::Status;
 use fip_outside::outside::{Folder, Source};
 use std::alloc::Global;
 
-/// What the words come to. What a command that stores fetched is handed out, and the code that `compile` or `trace` made, or it
-/// is the one that is left.
+/// What the words end in. What a command that stores fetched is handed out, and the code that `compile` or `trace`
+/// made, or it is the one that is left.
 pub fn outcome<F: Folder, S: Source>(
     alloc: Global,
     words: &[String],

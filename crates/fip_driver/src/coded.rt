@@ -1,4 +1,4 @@
-// The top call, for a host that also wants what was fetched, and the code that was made of a source.
+// The top call, for a host that also needs what was fetched, and the code that was made of a source.
 ghost use Rattle.std.specs.Prelude.{◌≡◌, ◌⊎◌, None, map, string_bytes};
 ghost use Rattle.std.specs.Io.KnownBytes.{IsAtEnd};
 ghost use Rattle.command_words.specs.Words.{Command, IsCommand};

@@ -1,4 +1,4 @@
-// What the commands come to that fetch one file: which object is called when.
+// What the commands end in that fetch one file: which object is called when.
 ghost use Rattle.std.specs.Prelude.{◌≡◌, ◌⊎◌, ℕ, List, Option, IfOk, IfErr, IfSome, OnOk, Some};
 ghost use Rattle.std.specs.Io.KnownBytes.{IsAtEnd};
 ghost use Rattle.fip_outside.specs.Faults.{Rose};
@@ -145,7 +145,7 @@ fn evaluate<S: Source>(
     }
 }
 
-/// What an evaluation of a source comes to, on rows that never change.
+/// What an evaluation of a source ends in, on rows that never change.
 pub fn eval<F: Folder, S: Source>(
     alloc: Global,
     file: &str,

@@ -1,4 +1,4 @@
-// What the commands on derivations come to: which object is called when.
+// What the commands on derivations end in: which object is called when.
 ghost use Rattle.std.specs.Prelude.{◌≡◌, ◌≤◌, ℕ, List, Option, IfOk, IfErr, OnOk, Some};
 ghost use Rattle.fip_outside.specs.Faults.{Rose};
 ghost use Rattle.fip_outside.specs.Files.{HoldsFile};
@@ -79,7 +79,8 @@ fn judge<F: Folder>(
 }
 
 /// Judges whether a proof file is a derivation of a source. It is fetched once the types and matches of the source are
-/// known to be right; the rules on ownership and on credits aren't asked, since a derivation shows that they are kept.
+/// known to be right; the rules on ownership and on credits aren't checked, since a derivation shows that they are
+/// kept.
 pub fn audit<F: Folder>(
     alloc: Global,
     file: &str,

@@ -1,4 +1,4 @@
-// What running an entry comes to: a source's and a code's.
+// What running an entry ends in: a source's and a code's.
 ghost use Rattle.std.specs.Prelude.{◌≡◌, ◌⊎◌, ℕ, List, OnOk};
 ghost use Rattle.std.specs.Io.KnownBytes.{IsAtEnd};
 ghost use Rattle.fip_outside.specs.Faults.{Rose};
@@ -52,7 +52,7 @@ fn run_ready<S: Source>(
     }
 }
 
-/// What a run of a source comes to.
+/// What a run of a source ends in.
 pub fn exec<F: Folder, S: Source>(
     alloc: Global,
     request: &RunRequest<'_>,
@@ -86,7 +86,7 @@ pub fn exec<F: Folder, S: Source>(
     }
 }
 
-/// What a run of a code file comes to.
+/// What a run of a code file ends in.
 pub fn run<F: Folder, S: Source>(
     alloc: Global,
     request: &RunRequest<'_>,

@@ -27,12 +27,12 @@ pub fn fp2<F: Folder, S: Source, O: Sink, E: Sink>(
     err: &mut E,
     left: &mut Option<Left>,
 ) -> Status
-    // Where no count of faults rose, and the folder and the input tell what they hold: status, out, err and files are the
-    // answer of the words, or want of memory.
+    // Where no count of faults rose, and the folder and the input report what they hold: status, out, err and files are
+    // the answer of the words, or out of memory.
     ensures whole { AnswersWhole (map string_bytes words.now) (called F.files F.faults folder.old folder.new)
         (called S.left S.faults input.old input.new) (called O.written O.faults out.old out.new)
         (called E.written E.faults err.old err.new) result.0 }
-    // Whatever fails: just what the words come to is delivered to the sinks.
+    // Whatever fails: just what the words end in is delivered to the sinks.
     ensures answer { Delivers (map string_bytes words.now) (called F.files F.faults folder.old folder.new)
         (called S.left S.faults input.old input.new) (called O.written O.faults out.old out.new)
         (called E.written E.faults err.old err.new) (input.new ≡ input.old) result.0 }

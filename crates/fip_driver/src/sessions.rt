@@ -1,4 +1,4 @@
-// What sessions and tasks come to: which object is called when.
+// What sessions and tasks end in: which object is called when.
 ghost use Rattle.std.specs.Prelude.{◌≡◌, ◌⊎◌, ◌≤◌, ℕ, List, length, OnOk};
 ghost use Rattle.std.specs.Io.KnownBytes.{IsAtEnd};
 ghost use Rattle.fip_language.specs.declared.limits.TheConstants.{MOST_FILE_BYTES};
@@ -22,7 +22,7 @@ use fip_room::Room;
 use fip_session::session_reply;
 use std::alloc::Global;
 
-// The replies to the lines of an input, each ended by LF. Nothing but want of memory ends a session early.
+// The replies to the lines of an input, each ended by LF. Nothing but running out of memory ends a session early.
 fn replies(alloc: Global, front: &Front, input: &[u8], room: Room) -> Result<Vec<u8>, Failure>
     ensures means { (source : List ℕ) → IsFrontOf source front.now → length input.now ≤ MOST_FILE_BYTES →
         OrNoMemory (Replies source input.now (room_of room)) result }
@@ -103,7 +103,7 @@ fn take_turns<S: Source>(
     }
 }
 
-/// What the tasks of the lines of the input come to, over one store and in turns that are drawn from a seed.
+/// What the tasks of the lines of the input end in, over one store and in turns that are drawn from a seed.
 pub fn tasks<F: Folder, S: Source>(
     alloc: Global,
     file: &str,

@@ -56,7 +56,7 @@ ended_bound : (h : FunctionHead) (r : Result) (ls : List Level) (lets : List Bin
 ended_bound h r [] lets bs e ts ds c = c
 ended_bound h r (l ∷ ls) lets bs e ts ds c = c
 
--- A part of what stands in a bracket.
+-- A part of what is in a bracket.
 enter_part : (b : Body) (u : Use) (e : Expression) (ts after : List Token) (ds : List Declaration) → Spelled 0 ts e after → LevelEnds u (Last e) (AfterOperand b ds) after → FromOperand (enter b u) ts ds
 enter_part b u e ts after ds c k = open_operand b.head b.gives (record { before = b.partial; purpose = u } ∷ b.levels) [] None [] e ts after ds c k
 

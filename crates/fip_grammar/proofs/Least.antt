@@ -1,6 +1,6 @@
--- How far the tokens are read: the machine stands after the first i of them, and no rule is broken below i. Then the
+-- How far the tokens are read: the machine is after the first i of them, and no rule is broken below i. Then the
 -- next token shows which rule is broken first, or that one more token may be read. And a source breaks one rule at one
--- place at most, and none where it is spelt.
+-- place at most, and none where it is spelled.
 use Rattle.std.proofs.Common.{◌≡◌, ℕ, zero, suc, ◌+◌, ◌<◌, ◌≤◌, true, false, List, [], ◌∷◌, ◌++◌, take, drop, length, Option, Some, None, ◌⊎◌, inl, inr, refl, sym, ap, subst, ◌∙◌, arith}
 use Rattle.std.specs.List.{slice_get}
 use Rattle.std.proofs.lemmas.Option.{slice_get_within, same_Some}
@@ -27,7 +27,7 @@ seen_more [] i b t e = cc
 seen_more (x ∷ xs) zero b t e = let h : x ≡ t = cc in ap (λ z. following b z.word) h
 seen_more (x ∷ xs) (suc i) b t e = seen_more xs i (following b x.word) t e
 
--- a machine doesn't stop before the place where it stands
+-- a machine doesn't stop before the place where it is
 end_stop : (o : Option Program) (i u : ℕ) → end_outcome o i ≡ Stopped u → i ≡ u
 end_stop None i u e = cc
 end_stop (Some x) i u e = cc
@@ -48,7 +48,7 @@ place_stops_in ts u (Stopped v) e c = ap Stopped (IsPlace-unique Spells ts v u (
 place_stops : (ts : List Token) (u : ℕ) → IsPlace Spells ts u → run machine_step machine_end start ts 0 ≡ Stopped u
 place_stops ts u c = place_stops_in ts u (run machine_step machine_end start ts 0) refl c
 
--- The machine stands in m after the first i tokens, which are like b; no rule is broken at a token below i.
+-- The machine is in m after the first i tokens, which are like b; no rule is broken at a token below i.
 pub record Reads (ts : List Token) (i : ℕ) (m : Machine) (b : Seen) : Type 0 where
   pub within : i ≤ length ts
   pub runs : run machine_step machine_end start ts 0 ≡ run machine_step machine_end m (drop i ts) i

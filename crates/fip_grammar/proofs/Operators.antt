@@ -10,7 +10,7 @@ use Rattle.fip_grammar.specs.Machine.{none_waits}
 use Rattle.fip_language.specs.declared.Operator.TheVariants as O
 use Rattle.fip_grammar.proofs.Residual.{Compared, Grows, Chain}
 
--- what binds tightly may stand where less is asked
+-- what binds tightly may be where less is required
 pub looser : (j k : ℕ) → j ≤ k → (e : Expression) (ts rest : List Token) → Spelled k ts e rest → Spelled j ts e rest
 looser j k l (Variable n p) ts rest c = c
 looser j k l (Literal v p) ts rest c = c

@@ -196,7 +196,7 @@ Compared None v ts e rest = ((e ≡ v) × (ts ≡ rest)) ⊎ ((op : Operator) ×
 abbrev pub Grows : Waiting → Expression → List Token → Expression → List Token → Type 0
 Grows w v ts e rest = (product : Expression) × (a : List Token) × (sum : Expression) × (b : List Token) × Chain 2 (applied w.product v) ts product a × Chain 1 (applied w.sum product) a sum b × Compared w.comparison sum b e rest
 
--- what is asked of an operand or a whole expression and of the tokens after it
+-- what is required of an operand or a whole expression and of the tokens after it
 abbrev pub Then : Type 1
 Then = Expression → List Token → Type 0
 
@@ -211,7 +211,7 @@ ElseOpenFrom q c one go ts = (inner : List Token) × (other : Block) × (end : L
 abbrev pub ElseFrom : Place → Expression → Block → Then → List Token → Type 0
 ElseFrom q c one go ts = (reopen : List Token) × Sees S.Else ts reopen × ElseOpenFrom q c one go reopen
 
--- the block is read of what stands in a bracket
+-- the block is read of what is in a bracket
 abbrev pub LevelEnds : Use → Block → Then → List Token → Type 0
 LevelEnds (ForArguments n q st done) b go ts = (more : Expressions) × (rest : List Token) × Further ts more rest × go (Call n q (onto_types st NoWritten) (onto_expressions done (MoreExpressions (last_of b) more))) rest
 LevelEnds (ForFields n q done) b go ts = (more : Expressions) × (rest : List Token) × Further ts more rest × go (Constructor n q (onto_expressions done (MoreExpressions (last_of b) more))) rest

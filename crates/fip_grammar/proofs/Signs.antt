@@ -1,5 +1,5 @@
--- Each state knows of the last token what a - and a literal ask of it: whether it ends an operand, and whether it is a -
--- that isn't binary.
+-- Each state knows of the last token what a - and a literal require of it: whether it ends an operand, and whether it
+-- is a - that isn't binary.
 use Rattle.std.proofs.Common.{◌≡◌, Bool, true, false, not, ◌&&◌, List, [], ◌∷◌, ◌++◌, Option, Some, None, refl, ap, subst}
 use Rattle.fip_language.specs.declared.Place.{Place}
 use Rattle.fip_language.specs.declared.Operator.{Operator}
@@ -19,7 +19,7 @@ negates (InBody (Minus q) b) = true
 negates (InPattern (PatternMinus q) o b m) = true
 negates _ = false
 
--- what comes next: an operand or a pattern, or what may stand after an operand, or something else
+-- what comes next: an operand or a pattern, or what may occur after an operand, or something else
 pub data Comes : Type 0 where
   Operand : Comes
   Operator' : Comes
@@ -61,7 +61,7 @@ Knows b w Refused = Unit {0}
 Knows b w (Stays s) = Agrees s (following b w)
 Knows b w (Declares d) = Agrees Top (following b w)
 
--- Heads of functions, data types and types: no - comes, and nothing is asked of the last token.
+-- Heads of functions, data types and types: no - comes, and nothing is required of the last token.
 
 know_static_end : (b : Seen) (h : FunctionHead) (w : Word) → Knows b w (static_end h w)
 know_static_end b h (Mark S.Comma) = (refl, tt)

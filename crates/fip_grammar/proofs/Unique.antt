@@ -121,7 +121,7 @@ cut_or_bad source ts p q c d =
     let h = same_pieces c.0 d.0 source [] d.1 c.1 d.2 (inl refl) (inr (d.5, d.6)) in
     absurd (d.4 (sym h.1))
 
--- the first byte that begins no token stands at one place
+-- the first byte that begins no token is at one place
 pub bad_once : (source : List ℕ) (p q : Place) → IsBadByte source p → IsBadByte source q → p ≡ q
 bad_once source p q c d =
     let h = same_pieces c.0 d.0 source c.1 d.1 c.2 d.2 (inr (c.5, c.6)) (inr (d.5, d.6)) in

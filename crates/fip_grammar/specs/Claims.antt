@@ -20,7 +20,7 @@ pub record IsFront (text : List ℕ) (p : Place) (x : Piece) (next : Place) : Ty
   pub some : 0 < length (piece_text x)
   pub moved : next.at ≡ p.at + length (piece_text x)
 
--- what stands at the start of a text that isn't empty
+-- what is at the start of a text that isn't empty
 abbrev pub IsFrontOf : List ℕ → Place → Front → Type 0
 IsFrontOf text p (F.Gap next) = (x : Piece) × IsFront text p x next × (tokens_at p x ≡ [])
 IsFrontOf text p (F.Token w next) = (bs : List ℕ) × IsFront text p (Cut bs (word w)) next

@@ -107,7 +107,7 @@ next_line p = record { line = p.line + 1; col = 1; at = p.at + 1 }
 -- a piece of a source
 pub data Piece : Type 0 where
   Blank : (byte : ℕ) → Piece
-  -- the two slashes, and what stands after them in the line
+  -- the two slashes, and what is after them in the line
   Comment : (text : List ℕ) → Piece
   Cut : (text : List ℕ) (word : Word) → Piece
 
@@ -170,7 +170,7 @@ abbrev pub IsCut : List ℕ → List Token → Place → Type 0
 IsCut source ts end = (xs : List Piece) × Pieces xs source [] × (ts ≡ tokens_of first_place xs)
     × (end ≡ after_all first_place xs)
 
--- At this place stands the first byte of a source that begins no token, no blank and no comment.
+-- At this place is the first byte of a source that begins no token, no blank and no comment.
 abbrev pub IsBadByte : List ℕ → Place → Type 0
 IsBadByte source p = (xs : List Piece) × (rest : List ℕ) × Pieces xs source rest × (p ≡ after_all first_place xs)
     × (rest ≢ []) × (is_gap rest ≡ false) × BeginsNone rest

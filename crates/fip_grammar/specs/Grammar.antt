@@ -45,7 +45,7 @@ use Rattle.fip_grammar.specs.declared.Sign.{Sign}
 use Rattle.fip_grammar.specs.declared.Sign.TheVariants as S
 use Rattle.fip_grammar.specs.Token.{Lower, Upper, Number, Operate, Mark, Token, token, value_of}
 
--- this sign, wherever it stands, and then rest
+-- this sign, wherever it is, and then rest
 abbrev pub Sees : Sign → List Token → List Token → Type 0
 Sees s ts rest = (p : Place) × (ts ≡ token (Mark s) p ∷ rest)
 
@@ -219,7 +219,7 @@ Result' ts (TupleResult p (t ∷ [])) rest = ⊥
 Result' ts (TupleResult p (t ∷ u ∷ us)) rest = (inner : List Token) × (after : List Token)
     × (ts ≡ token (Mark S.RoundOpen) p ∷ inner) × Type' inner t after × FurtherTypeList S.RoundClose after (u ∷ us) rest
 
--- a ^ just where something is lent
+-- a ^ just where something is borrowed
 abbrev pub Lent : List Token → Bool → List Token → Type 0
 Lent ts true rest = Sees S.Caret ts rest
 Lent ts false rest = ts ≡ rest
@@ -286,7 +286,7 @@ Kind' ts K.Fbip cs rest = (after : List Token) × Sees S.Fbip ts after × Credit
 Kind' ts K.Fun [] rest = ts ≡ rest
 Kind' ts K.Fun (c ∷ cs) rest = ⊥
 
--- a function from behind its name on
+-- a function from after its name on
 abbrev pub FunctionParts : List Token → List Static → List Parameter → Result → Block → List Token → Type 0
 FunctionParts ts ss ps r b rest = (open' : List Token) × (inner : List Token) × (colon : List Token)
     × (type' : List Token) × (brace : List Token) × (body : List Token) × (close : List Token) × Statics ts ss open'

@@ -1,5 +1,5 @@
 -- What a source may break beside the grammar: more than 100 brackets are open at once (E03), or a literal hasn't 64
--- bits (E04). Both are asked of the tokens alone, also where the grammar is broken. And which fault of a source is
+-- bits (E04). Both are required of the tokens alone, also where the grammar is broken. And which fault of a source is
 -- named.
 --
 -- A literal may be 2^63 directly after a - that isn't binary, elsewhere 2^63 - 1. A - is binary where the token before
@@ -32,7 +32,7 @@ is_closing (Mark S.SquareClose) = true
 is_closing (Mark S.CurlyClose) = true
 is_closing _ = false
 
--- a token after which a - stands between two operands
+-- a token after which a - is between two operands
 abbrev pub ends_operand : Word → Bool
 ends_operand (Number ds) = true
 ends_operand (Lower n) = true

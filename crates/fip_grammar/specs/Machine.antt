@@ -1,5 +1,5 @@
 -- The grammar as a machine that takes one token after another. A state is what was read so far of the declaration
--- that is open. What stands in brackets is read on a level of its own; lists of what is open have the innermost first.
+-- that is open. What is in brackets is read on a level of its own; lists of what is open have the innermost first.
 use Rattle.std.specs.Prelude.{ℕ, pos, neg_ℤ, Bool, true, false, List, [], ◌∷◌, ◌++◌, Option, Some, None}
 use Rattle.fip_language.specs.declared.Place.{Place}
 use Rattle.fip_language.specs.declared.FunKind.{FunKind}
@@ -286,7 +286,7 @@ abbrev pub parameter_next : FunctionHead → Word → Place → Next
 parameter_next h (Mark S.Caret) p = in_function (ParameterName h)
 parameter_next h w p = parameter_name h false w p
 
--- the mark of a credit, whose + and digits stand there
+-- the mark of a credit, whose + and digits are there
 abbrev pub credit : Place → Place → List ℕ → CreditMark
 credit p q digits = record { place = p; size_place = q; size = value_of digits }
 
@@ -541,7 +541,7 @@ close_match m b = in_body (AtOperator (Match m.destructive m.place m.scrutinee (
 abbrev pub with_clause : OpenMatch → Pattern → Block → OpenMatch
 with_clause m q b = record m { clauses = m.clauses ++ record { pattern = q; body = b } ∷ [] }
 
--- the end of what stands in a bracket, or of a part of it
+-- the end of what is in a bracket, or of a part of it
 abbrev pub end_level : Body → Use → Block → Sign → Next
 end_level b (ForArguments n q ts done) e S.Comma = in_body AtOperand (enter b (ForArguments n q ts (part e done)))
 end_level b (ForArguments n q ts done) e S.RoundClose =
@@ -585,7 +585,7 @@ abbrev pub end_body : FunctionHead → Result → Block → Sign → Next
 end_body h r b S.CurlyClose = Declares (FunctionDeclaration (function_of h r b))
 end_body h r b _ = Refused
 
--- the end of a block, or of an expression that stands in none
+-- the end of a block, or of an expression that is in none
 abbrev pub end_last : FunctionHead → Result → List Level → Block → Sign → Next
 end_last h r [] b s = end_body h r b s
 end_last h r (l ∷ ls) b s = end_level (record { head = h; gives = r; levels = ls; partial = l.before }) l.purpose b s

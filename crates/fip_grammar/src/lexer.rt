@@ -20,7 +20,7 @@ use std::alloc::{AllocError, AllocFailed, Global};
 /// Why a source isn't cut.
 #[derive(Drop)]
 pub enum LexError {
-    /// Want of memory.
+    /// Out of memory.
     Memory,
     /// A byte begins no token (E01).
     BadByte { place: Place },
@@ -58,7 +58,7 @@ fn is_blank(byte: u8) -> bool
     byte == b' ' || byte == b'\t' || byte == b'\n' || byte == b'\r'
 }
 
-// How many bytes of a name stand at the start.
+// How many bytes of a name are at the start.
 fn name_length(text: &[u8]) -> usize
     ensures exact { result ≡ prefix_len C.is_name text.now }
     ensures most { result ≤ length text.now }
@@ -71,7 +71,7 @@ fn name_length(text: &[u8]) -> usize
     text.len()
 }
 
-// How many digits stand at the start.
+// How many digits are at the start.
 fn digits_length(text: &[u8]) -> usize
     ensures exact { result ≡ prefix_len C.is_digit text.now }
     ensures most { result ≤ length text.now }
@@ -90,7 +90,7 @@ fn is_no_lf(byte: u8) -> bool
     byte != b'\n'
 }
 
-// How many bytes stand before the first LF, or in all.
+// How many bytes are before the first LF, or in all.
 fn line_length(text: &[u8]) -> usize
     ensures exact { result ≡ prefix_len C.is_no_lf text.now }
     ensures most { result ≤ length text.now }
@@ -247,7 +247,7 @@ fn first_word<'a>(text: &'a [u8], first: u8, rest: &[u8]) -> Option<(Word<'a>, u
     first_sign(first, rest)
 }
 
-// What stands after the two slashes of a comment.
+// What is after the two slashes of a comment.
 fn comment_rest<'a>(first: u8, rest: &'a [u8]) -> Option<&'a [u8]>
     ensures { MatchOption result (C.is_comment (first ∷ rest.now) ≡ false) (λ r. first ∷ rest.now ≡ 47 ∷ 47 ∷ r.now) }
 {
@@ -263,7 +263,7 @@ fn comment_rest<'a>(first: u8, rest: &'a [u8]) -> Option<&'a [u8]>
     }
 }
 
-/// What stands at the start of a text.
+/// What is at the start of a text.
 #[derive(Clone, Copy)]
 enum Front<'a> {
     /// A blank or a comment, and the place after it.
@@ -287,7 +287,7 @@ fn along(place: Place, count: usize) -> Place
     }
 }
 
-// What stands at the start of a text at this place.
+// What is at the start of a text at this place.
 fn first_piece<'a>(text: &'a [u8], place: Place) -> Front<'a>
     requires line { place.line + length text.now < 2 ^ 64 }
     requires col { place.col + length text.now < 2 ^ 64 }
@@ -327,7 +327,7 @@ fn first_piece<'a>(text: &'a [u8], place: Place) -> Front<'a>
     }
 }
 
-/// The tokens of a source. A byte that is no blank, stands in no comment and begins no token is refused (E01).
+/// The tokens of a source. A byte that is no blank, is in no comment and begins no token is refused (E01).
 pub fn lex<'a>(alloc: Global, source: &'a [u8]) -> Result<Tokens<'a>, LexError>
     // The source is cut into these tokens, and ends at this place.
     ensures found { IfOk result (λ t. C.IsCut source.now (V.tokens t.tokens.items) t.end) }

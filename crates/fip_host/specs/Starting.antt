@@ -52,7 +52,7 @@ pub record IsLost (m : Seen) : Type 0 where
   pub released : m.store.released ≡ []
   pub left : m.left ≡ 0
 
--- Why no run starts: the store is as it was, but where memory was wanting.
+-- Why no run starts: the store is as it was, but where memory ran out.
 abbrev pub KeepsFromText : ℕ → List ℕ → Seen → Seen → Refusal → Type 0
 KeepsFromText f text old new (R.BadInput at) = IsBadText f text old at × (loading_of new ≡ loading_of old)
 KeepsFromText f text old new (R.TooSmall needed given) =

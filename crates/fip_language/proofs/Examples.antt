@@ -29,7 +29,7 @@ no_call_at_all = refl
 
 -- ---- operators
 
--- fip fun NAME(a: int, b: int): int { a OPERATOR b }, where the operator stands at 1:38
+-- fip fun NAME(a: int, b: int): int { a OPERATOR b }, where the operator is at 1:38
 abbrev operation_of : Operator → Function
 operation_of o = record {
   kind = Fip;
@@ -117,7 +117,7 @@ out_comes_before_deep : (increasing 3 2).answer ≡ Out
 unfolding meaning
 out_comes_before_deep = refl
 
--- ---- a lent argument
+-- ---- a borrowed argument
 
 -- fip fun len(^xs: ints, n: int): int { match xs { Nil -> n; Cons(_, t) -> len(t, n + 1) } }
 abbrev len : Function

@@ -1,4 +1,4 @@
--- A text goes wrong at one place at most, and not at all where it is spelt.
+-- A text goes wrong at one place at most, and not at all where it is spelled.
 use Rattle.std.proofs.Common.{◌≡◌, inl, inr, ℕ, zero, suc, ◌<◌, ◌≤◌, List, [], ◌∷◌, ◌++◌, take, drop, length, refl, sym, ap, subst, arith}
 use Rattle.std.proofs.lemmas.List.{take-append-drop}
 use Rattle.fip_language.specs.Prefix.{Begins, IsPlace}

@@ -1,4 +1,4 @@
--- The calls that stand in a body, and which of them stand in tail position.
+-- The calls that are in a body, and which of them are in tail position.
 -- A call is in tail position where nothing is left to do after it: the body of a function is in tail position, and
 -- where an expression is, so are its clauses' bodies and the last expression of its block. A bound expression never is.
 use Rattle.std.specs.Prelude.{◌+◌, Bool, false, List, [], ◌∷◌, ◌++◌}

@@ -1,4 +1,4 @@
--- The core form of a program: all rules and the meaning stand on it.
+-- The core form of a program: all rules and the semantics rest on it.
 -- An argument is a variable, a literal or a constructor applied to arguments; calls, tuples, operators and
 -- scrutinees have only arguments as parts; all else is bound by a let before.
 use Rattle.std.specs.Prelude.{ℕ, ℤ, Bool, List, [], ◌∷◌, Option}
@@ -80,7 +80,7 @@ mutual
     NoClauses : Clauses
     MoreClauses : (pattern : Pattern) (body : Block) (rest : Clauses) → Clauses
 
--- a parameter of a signature: whether it is lent, and its type
+-- a parameter of a signature: whether it is borrowed, and its type
 pub record SignatureParameter : Type 0 where
   pub lent : Bool
   pub type : Written

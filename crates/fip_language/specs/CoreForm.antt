@@ -1,8 +1,8 @@
 -- The core form of the tree of a source text.
 --
 -- Calls, tuples, constructors and operators have parts. A part that is an argument stays; any other is bound by a let
--- before the whole. These lets stand from left to right; where such a part has such parts of its own, their lets
--- stand before its let, in the same list. An operation is bound wherever it stands, except as the whole bound
+-- before the whole. These lets are in order from left to right; where such a part has such parts of its own, their lets
+-- are before its let, in the same list. An operation is bound wherever it is, except as the whole bound
 -- expression of a let. A scrutinee that is no variable is bound, also where it is an argument. An if is a match.
 -- Brackets round an expression that has no lets of its own vanish, and a block that is the last expression of a block
 -- is part of that block.
@@ -11,7 +11,7 @@
 -- Cons(1, Cons(x + 1, Nil)) is let _ = x + 1; let _ = Cons(_, Nil); Cons(1, _).
 -- let y = a + b; c + 1 is let y = a + b; let _ = c + 1; _.
 --
--- Binders are numbered from 0 in each function: its parameters first, then each binder where it comes to stand, so
+-- Binders are numbered from 0 in each function: its parameters first, then each binder where it is put, so
 -- that the binders within a bound expression come before those that its let binds.
 use Rattle.std.specs.Prelude.{ℕ, ◌+◌, false, cond, List, [], ◌∷◌, ◌++◌, length, map, Option, Some, None, codes}
 use Rattle.std.specs.Str.{bytes_eq}
@@ -98,7 +98,7 @@ abbrev mutual
   block_place (C.Last e) = place_of e
   block_place (C.Let bs e rest) = block_place rest
 
--- Expressions. What an expression, a part or a row of parts comes to: the lets that stand before it, what it is then,
+-- Expressions. What an expression, a part or a row of parts gives: the lets that are before it, what it is then,
 -- and the next number of a binder.
 
 pub record Whole : Type 0 where

@@ -1,7 +1,7 @@
 -- The program of the examples, and values for it. It is that of
 -- data ints { Nil; Cons(int, ints) }
 -- fip fun rev(xs: ints, acc: ints): ints { match! xs { Nil -> acc; Cons(x, t) -> rev(t, Cons(x, acc)) } }
--- with one place for all that stands in it.
+-- with one place for all that is in it.
 use Rattle.std.specs.Prelude.{ℕ, ℤ, pos, true, false, [], ◌∷◌, Some, None, codes}
 use Rattle.fip_language.specs.declared.Place.{Place}
 use Rattle.fip_language.specs.declared.FunKind.TheVariants.{Fip}

@@ -1,4 +1,4 @@
--- The two questions that the rules ask of a function's kind.
+-- The two questions on a function's kind that the rules ask.
 use Rattle.std.specs.Prelude.{Bool, true, false}
 use Rattle.fip_language.specs.declared.FunKind.{FunKind}
 use Rattle.fip_language.specs.declared.FunKind.TheVariants.{Fip, Fbip, Fun}

@@ -1,10 +1,10 @@
 -- What a program means: the evaluation of its functions on trees.
 -- Each entry of a function costs one call, the entry function's too; where no call is left, the answer is Out. A call
--- outside tail position holds a frame until it returns; where no frame is free, the answer is Deep. Out is asked before
--- Deep. A function's body, the body of a let and the clauses' bodies are in tail position where the whole is; the bound
--- expression of a let never is. The entry function holds no frame.
+-- outside tail position holds a frame until it returns; where no frame is free, the answer is Deep. Out is checked
+-- before Deep. A function's body, the body of a let and the clauses' bodies are in tail position where the whole is;
+-- the bound expression of a let never is. The entry function holds no frame.
 -- rev(Cons(1, Nil), Nil) with 5 calls gives Cons(1, Nil) and leaves 3: one was for the entry and one for the call.
--- Beside the answer stands the peak: the most frames held and the most words of stack over all entries that were
+-- Beside the answer is the peak: the most frames held and the most words of stack over all entries that were
 -- reached, whatever the answer is. Stuck is what a program gives that isn't well formed.
 use Rattle.std.specs.Prelude.{ℕ, zero, suc, ◌+◌, max, Bool, true, false, List, [], ◌∷◌, Option, Some, None, ◌==◌}
 use Rattle.std.specs.Prelude.{if◌then◌else◌}
@@ -197,13 +197,12 @@ abbrev pub function_run : Core → Calls → ℕ → Closed → Values → ℕ �
 function_run core calls d ClosedInt vs k = ends Stuck
 function_run core calls d (ClosedName name given) vs k = body_run core calls d (function_of core name) given vs k
 
--- what a call gives, where at most so many calls stand above one another
+-- what a call gives, where at most so many calls are nested
 abbrev pub calls_of : Core → ℕ → Calls
 calls_of core zero d f vs k = ends Out
 calls_of core (suc m) d f vs k = function_run core (calls_of core m) d f vs k
 
--- The evaluation of an expression, a block and clauses with k calls left: no more than k calls can stand above one
--- another.
+-- The evaluation of an expression, a block and clauses with k calls left: no more than k calls can be nested.
 unfoldable pub evaluate : Core → Instance → Expression → Bool → ℕ → Environment → ℕ → Run
 evaluate core here e tail d env k = eval core (calls_of core k) here e tail d env k
 

@@ -1,5 +1,5 @@
 -- The registers of a function: one for each parameter, each credit of its header, each binder, and each constructor and
--- literal that stands in its body, in patterns and in expressions. A frame has two words more.
+-- literal that is in its body, in patterns and in expressions. A frame has two words more.
 -- rev(xs, acc) { match! xs { Nil -> acc; Cons(x, t) -> rev(t, Cons(x, acc)) } } has 2 parameters, 2 binders and 3
 -- constructors, so 7 registers, and its frame has 9 words. fip +2 fun push(x, xs) { Cons(x, xs) } has 2 parameters, a
 -- credit and a constructor, so 4 registers.

@@ -5,7 +5,7 @@ use Rattle.fip_language.specs.declared.rule.Rule.{Rule}
 use Rattle.fip_language.specs.declared.rule.Rule.TheVariants as R
 pub use Rattle.fip_language.specs.RuleNumber.{number}
 
--- the phase in which a rule is asked, from 1
+-- the phase in which a rule is checked, from 1
 abbrev pub phase : Rule → ℕ
 -- the source's length
 phase R.E05 = 1

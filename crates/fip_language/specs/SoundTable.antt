@@ -1,4 +1,4 @@
--- What is asked of a table of types before values of its types are read or written.
+-- What is required of a table of types before values of its types are read or written.
 -- Constructors have upper-case names, no two of a type are alike, a constructor has at most 16 fields, the types of
 -- the fields are there, and every type has a value.
 use Rattle.std.specs.Prelude.{◌≡◌, ℕ, suc, ◌<◌, ◌≤◌, true, List, [], ◌∷◌, length, Some, slice_get}

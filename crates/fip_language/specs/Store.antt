@@ -51,7 +51,7 @@ abbrev pub words_of : Parts → List ℕ
 words_of NoParts = []
 words_of (MoreParts x xs) = word_of x ∷ words_of xs
 
--- the places of its cells, each as often as it stands in the tree
+-- the places of its cells, each as often as it is in the tree
 abbrev mutual
   pub places : Placed → List ℕ
   places (PlacedInt i) = []
@@ -66,7 +66,7 @@ abbrev mutual
 abbrev pub one_at : ℕ → ℕ → ℕ
 one_at q p = if nat_eq q p then 1 else 0
 
--- how often a place stands in a list
+-- how often a place occurs in a list
 abbrev pub count : ℕ → List ℕ → ℕ
 count q [] = 0
 count q (p ∷ ps) = one_at q p + count q ps

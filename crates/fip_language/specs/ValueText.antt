@@ -1,6 +1,6 @@
 -- The text of values, as it is read: a line for each parameter, in order.
 -- A constructor without fields is its name, one with fields Name(v, v). An int is digits, with a - directly before
--- them where it is negative; it may have leading zeros. Blanks may stand before each token and after a value. An LF
+-- them where it is negative; it may have leading zeros. Blanks may occur before each token and after a value. An LF
 -- ends a line, and may miss after the last; after the last value only blanks and LFs come. A function without
 -- parameters takes blanks and LFs alone.
 -- So for two parameters, a list and an int, `Cons(1 ,Nil)`, LF, `-007` is a text, and `Cons(1,Nil)  -7` is none.

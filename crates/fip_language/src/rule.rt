@@ -41,7 +41,7 @@ pub enum Rule {
     E30,
     /// A variable is unknown.
     E31,
-    /// A constructor of a type with parameters stands where no type is expected.
+    /// A constructor of a type with parameters occurs where no type is expected.
     E32,
     /// The number of arguments or fields is wrong.
     E33,
@@ -51,19 +51,19 @@ pub enum Rule {
     E40,
     /// A clause is never reached.
     E41,
-    /// A variable stands twice in a pattern or a binder.
+    /// A variable occurs twice in a pattern or a binder.
     E42,
     /// A match is too large.
     E43,
     /// An owned variable is used up twice.
     E50,
-    /// An owned variable is lent after it was used up.
+    /// An owned variable is borrowed after it was used up.
     E51,
     /// An owned variable isn't used up.
     E52,
     /// A borrowed variable is used up.
     E53,
-    /// Something is lent that can't be lent there.
+    /// Something is borrowed that can't be borrowed there.
     E54,
     /// A function of a weaker kind is called.
     E55,
@@ -77,7 +77,7 @@ pub enum Rule {
     E59,
     /// A function has too many registers.
     E60,
-    /// No code file spells the code.
+    /// No code file encodes the code.
     E61,
     /// A header states more credits than its body needs.
     E62,

@@ -58,7 +58,7 @@ fn typed_of(alloc: Global, source: &[u8]) -> Result<Typed, PhaseError>
     }
 }
 
-// The core form of a source that is spelt.
+// The core form of a source that is spelled.
 fn core_form_of(alloc: Global, source: &[u8]) -> Result<Core, PhaseError>
     ensures core { (c : a_core) → IsParsed source.now c →
         MatchResult result (λ d. core_view.core d ≡ c) (λ e. e ≡ no_memory) }

@@ -1,6 +1,6 @@
 -- A step of a task leads from a moment of the run that the definition says to the next one.
--- The idea: what a step came to is reported by what the definition says comes next; then each way that a next state may come
--- about is a case. Where no call is left, a call ends the run, and nothing else does so.
+-- The idea: what a step ended in is reported by what the definition says comes next; then each way that a next state
+-- may come about is a case. Where no call is left, a call ends the run, and nothing else does so.
 use Rattle.std.proofs.Common.{◌≡◌, ◌≢◌, ◌⊎◌, inl, inr, ℕ, zero, suc, ◌+◌, ◌-◌, ◌<◌, ◌≤◌, length, take, Bool, true, false, List, [], ◌∷◌, Option, Some, None, refl, sym, ap, subst, ◌∙◌, arith}
 use Rattle.std.specs.Prelude.{option_and_then, not}
 use Rattle.fip_language.specs.declared.TrapKind.{TrapKind}
@@ -38,7 +38,7 @@ use Rattle.fip_machine.proofs.Mosts.{MostAre, after_later, always, going_state, 
 use Rattle.fip_machine.proofs.Tasked.{room_same}
 pub use Rattle.fip_language.proofs.Facts.{false_of_not as not_on}
 
--- an instruction that is no call enters no function and asks no frame
+-- an instruction that is no call enters no function and requires no frame
 
 abbrev NotCalled : Next → Type 0
 NotCalled (Went t) = Unit {0}
@@ -87,7 +87,7 @@ no_call code ks s (Some (I.Tail f ss)) e = absurd cc
 no_call code ks s (Some (I.Ret ss)) e = has_returned code s s.waiting (read_all s.running.words ss)
 no_call code ks s (Some (I.Jump target)) e = has_gone s (done code.types ks s (I.Jump target))
 
--- what a step came to, by the run after it
+-- what a step ended in, by the run after it
 
 abbrev EnteredIn : Run → ℕ → Bool → State → List ℕ → Type 0
 EnteredIn m zero call new given = call ≡ false → IsOver m M.Out new given
@@ -136,7 +136,7 @@ came_along kinds code (Over Out s l k) left now r new given h c = absurd h
 came_along kinds code (Over Deep s l k) left now r new given h c = absurd h
 came_along kinds code (Over Unsound s l k) left now r new given h c = came_stuck s l k left (is_call_in (instr_of code now)) r new given
 
--- the task's moment after what a step came to
+-- the task's moment after what a step ended in
 came_to : (o : Origin) (t : Stand) (left steps : ℕ) (r : Stepped) (u : Stand) (w : Stored) → u.code ≡ o.code → KnowsRun o.code o.kinds o.first o.calls → IsSmall w.cells → w.pushed ≡ [] → IsMeasured u → (ended_by r ≡ None → u.ended ≡ None) → (UnlessStuck (at_step o steps) (state_of (at_step o steps) ≡ state_in o u w) → UnlessStuck (at_step o steps) (HasMost o steps u)) → CameIn (at_step o steps) left (calls_next o.code t) r (state_in o u w) u.given → CameTo o left (calls_next o.code t) r u w
 came_to o t left steps r u w code knows small empty measured ends most came = by r ends came
   where
@@ -286,7 +286,7 @@ led_on : (o : Origin) (left f w n : ℕ) (old new : State) → Moment o left f w
 led_on o left f w zero old new m l = subst (λ (t : State). Moment o left f w t) (sym l) m
 led_on o left f w (suc n) old new m l = one_on o left f w l.0 new [] (led_on o left f w n old l.0 m l.1) l.2
 
--- what such a turn came to
+-- what such a turn ended in
 turned_to : (o : Origin) (t : Stand) (left steps : ℕ) (r : Stepped) (u : Stand) (w : Stored) (old : State) → u.code ≡ o.code → KnowsRun o.code o.kinds o.first o.calls → IsSmall w.cells → w.pushed ≡ [] → IsMeasured u → IsRaised t u → u.ended ≡ None → is_call_in (instr_of (plain o.code.code) old) ≡ calls_next o.code t → IsGoing (at_step o steps) old left → UnlessStuck (at_step o steps) (HasMost o steps t) → ComesWithMore o.kinds (plain o.code.code) old (next o.kinds (plain o.code.code) old) r (state_in o u w) u.given → CameTo o left (calls_next o.code t) r u w
 turned_to o t left steps r u w old code knows small empty measured raised going call run most m = by r m
   where

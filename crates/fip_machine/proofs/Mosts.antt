@@ -130,7 +130,7 @@ most_stays o k left f w old new given going most c = by (at_step o k) refl going
         let b = most.words in
         record { frames = omega (arith, frames, first, fewer, a); words = omega (arith, words, second, shorter, b) }) lower
 
--- a task that stands there has them
+-- a task that is there has them
 pub most_there : (o : Origin) (k : ℕ) (t u : Stand) (w : Stored) → UnlessStuck (at_step o k) (MostAre o k t.most_frames t.most_words) → IsMeasured u → IsRaised t u → UnlessStuck (at_step o k) (state_of (at_step o k) ≡ state_in o u w) → UnlessStuck (at_step o k) (HasMost o k u)
 most_there o k t u w most measured raised there = both (at_step o k) (MostAre o k t.most_frames t.most_words) (state_of (at_step o k) ≡ state_in o u w) (HasMost o k u) (λ m same.
     let first = frames_last o.kinds (plain o.code.code) k (begun o.first o.calls) in

@@ -1,6 +1,6 @@
--- A run that never comes to an instruction that can't be done: at each of its moments what comes next can be done.
--- The idea: instructions that aren't calls take no call, so the run of the definition goes with them; where one could not
--- be done it would be over, unsound.
+-- A run that never reaches an instruction that can't be done: at each of its moments what comes next can be done.
+-- The idea: instructions that aren't calls take no call, so the run of the definition goes with them; where one could
+-- not be done it would be over, unsound.
 use Rattle.std.proofs.Common.{◌≡◌, ◌≢◌, ℕ, zero, suc, ◌-◌, List, [], refl, sym, ap, subst, ◌∙◌}
 use Rattle.cell_store.specs.Made.{Stored}
 use Rattle.machine_step.specs.code_verify.Checked.{Checked}

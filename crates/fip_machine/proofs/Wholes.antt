@@ -1,6 +1,6 @@
 -- A whole run of a machine: its task runs over its cells, or over a recorder of them, and its gauge sees the first state
 -- and the last one.
--- The idea: of each size the first state has the most held cells and the last one the least; so two looks tell of all.
+-- The idea: of each size the first state has the most held cells and the last one the least; so two looks report all.
 use Rattle.std.proofs.Common.{◌≡◌, ◌≢◌, ℕ, zero, suc, ◌+◌, ◌-◌, ◌<◌, ◌≤◌, Bool, true, false, List, [], ◌∷◌, Some, None, max, refl, sym, ap, subst, ◌∙◌, arith}
 use Rattle.std.specs.Prelude.{Result, Err, IsErrAnd, slice_index_or, nat_eq, if◌then◌else◌}
 use Rattle.fip_language.specs.declared.limits.TheConstants.{MOST_FIELDS}
@@ -120,7 +120,7 @@ first_words kinds code (suc n) (Going s left m) = omega arith
 first_words kinds code zero (Over e s left m) = omega arith
 first_words kinds code (suc n) (Over e s left m) = omega arith
 
--- two looks tell of all states
+-- two looks report all states
 reports : (kinds : Kinds) (lent : List Typed) (t u : Stand) (s w : Stored) (calls n : ℕ) (g h i : Gauge) → IsUnseen g → Saw g h s.cells s.released t.frames t.words → Saw h i w.cells w.released u.most_frames u.most_words → IsMeasured t → IsFresh t → state_of (at_step (origin_of kinds lent t s calls) n) ≡ state_in (origin_of kinds lent t s calls) u w → HasMost (origin_of kinds lent t s calls) n u → Reports i (seen_to (origin_of kinds lent t s calls) n)
 reports kinds lent t u s w calls n g h i unseen first last measured fresh there most = record {
   lowest = λ k low high.

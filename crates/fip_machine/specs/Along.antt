@@ -98,7 +98,7 @@ pub record IsAlong (o : Origin) (t : Stand) (s : Stored) (left : ℕ) : Type 0 w
   pub most : UnlessStuck (at_step o steps) (HasMost o steps t)
   pub measured : IsMeasured t
 
--- The run came to this end, and the task stands there.
+-- The run reached this end, and the task is there.
 abbrev pub HasRun : Origin → Ended → Stand → Stored → Type 0
 HasRun o e t s =
     (n : ℕ) × IsOver (at_step o n) e (state_in o t s) t.given × UnlessStuck (at_step o n) (HasMost o n t)
@@ -137,7 +137,7 @@ abbrev pub IsDeep : Origin → ℕ → Bool → Stand → Stored → Type 0
 IsDeep o zero call u w = call ≡ false → HasRun o M.Deep u w
 IsDeep o (suc left) call u w = HasRun o M.Deep u w
 
--- what a step came to, from a moment with so many calls left, and whether a call was next
+-- what a step ended in, from a moment with so many calls left, and whether a call was next
 abbrev pub CameTo : Origin → ℕ → Bool → Stepped → Stand → Stored → Type 0
 CameTo o left call S.Went u w = IsAlong o u w left
 CameTo o left call S.Entered u w = HasEntered o left call u w

@@ -1,7 +1,7 @@
 -- How a run came out, against the run that the definition says: it ended so, in this state, with these words of
 -- results. Where an instruction can't be done nothing is said: of sound code this never happens. rev of two items and
 -- none, with 2 calls: the definition's run is over after 8 steps, out of calls, before the call that isn't left. So
--- the machine answers Out, and stands before that call.
+-- the machine answers Out, and is before that call.
 use Rattle.std.specs.Prelude.{◌≡◌, ℕ, List, [], None}
 use Rattle.machine_step.specs.code_verify.Checked.{Checked}
 use Rattle.cell_code.specs.Plain.{PlainCode, plain}
@@ -34,11 +34,11 @@ abbrev pub IsOver : Run → Ended → State → List ℕ → Type 0
 IsOver (Going s left n) e new given = ⊥
 IsOver (Over end s left n) e new given = EndsAs end s e new given
 
--- The run from the first state, with so many calls, comes to this end.
+-- The run from the first state, with so many calls, reaches this end.
 abbrev pub RunsTo : Kinds → PlainCode → State → ℕ → Ended → State → List ℕ → Type 0
 RunsTo kinds code first calls e new given = (n : ℕ) × IsOver (after kinds code n (begun first calls)) e new given
 
--- The machine is to run with so many calls, and never comes to an instruction that can't be done; what its Drops release
+-- The machine is to run with so many calls, and never reaches an instruction that can't be done; what its Drops release
 -- is what the verifier knows. So it is of sound code at a loaded state.
 pub record IsSafeRun (m : Seen) (calls : ℕ) : Type 0 where
   pub going : m.stack.ended ≡ None

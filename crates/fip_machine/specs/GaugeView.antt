@@ -39,7 +39,7 @@ ReportsOver (Over Out s left n) g ss = Reports g ss
 ReportsOver (Over Deep s left n) g ss = Reports g ss
 ReportsOver (Over Unsound s left n) g ss = Unit {0}
 
--- The run from the first state, with so many calls, comes to an end, and the gauge reports of all its states.
+-- The run from the first state, with so many calls, reaches an end, and the gauge reports of all its states.
 abbrev pub ReportsRun : Kinds → PlainCode → State → ℕ → Gauge → Type 0
 ReportsRun kinds code first calls g =
     (n : ℕ) × ReportsOver (after kinds code n (begun first calls)) g (seen kinds code n (begun first calls))

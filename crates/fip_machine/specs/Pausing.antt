@@ -1,4 +1,4 @@
--- A task that was laid aside, over the code that it was started at: what callers see of it, and that it can be taken up
+-- A task that was put aside, over the code that it was started at: what callers see of it, and that it can be taken up
 -- again. Nothing is said of one over another code.
 use Rattle.std.specs.Prelude.{ℕ, ◌+◌, ◌-◌, List, [], Option, Some, None, slice_get, take}
 use Rattle.std.specs.Vec.{vec_capacity, vec_len}
@@ -33,7 +33,7 @@ cursor_of v p = record {
   highest = p.highest;
 }
 
--- It was laid aside as a task of this code.
+-- It was put aside as a task of this code.
 abbrev pub CanResume : Checked → Paused → Type 0
 CanResume v p = IsTask v p.bounds p.words.items (vec_capacity p.words) (vec_len p.beside.spare) (cursor_of v p.place)
     p.ended

@@ -39,7 +39,7 @@ abbrev pub DeepWith : (ℕ → Type 0) → Origin → ℕ → Bool → Stand →
 DeepWith X o zero call t s = call ≡ false → RunWith X o M.Deep t s
 DeepWith X o (suc left) call t s = RunWith X o M.Deep t s
 
--- what a step came to
+-- what a step ended in
 abbrev pub CameWith : (ℕ → Type 0) → Origin → ℕ → Bool → Stepped → Stand → Stored → Type 0
 CameWith X o left call S.Went t s = AlongWith X o t s left
 CameWith X o left call S.Entered t s = EnteredWith X o left call t s

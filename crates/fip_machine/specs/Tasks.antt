@@ -59,7 +59,7 @@ pub record IsFresh (t : Stand) : Type 0 where
   pub frames : t.most_frames ≡ t.frames
   pub words : t.most_words ≡ t.words
 
--- The state of a run, with these cells. The words of the entry's lent arguments are not kept: they are given.
+-- The state of a run, with these cells. The words of the entry's borrowed arguments are not kept: they are given.
 abbrev pub state_with : Stand → List Typed → Store → State
 state_with t lent s = record { store = s; running = t.running; waiting = t.waiting; free = t.free; lent = lent }
 

@@ -121,9 +121,9 @@ impl<'a> Machine<'a> {
     }
 
     /// Runs to the end, with so many calls: the entry takes one, and each Call and Tail one. The end, the cells and the
-    /// results are those of the run that the definition says. Asks a machine that was just started, and a gauge that
-    /// has seen no state; it sees each state of the run. Cells are only released in a run, so the first state has the
-    /// highest numbers of them and the last one the lowest.
+    /// results are those of the run that the definition says. Requires a machine that was just started, and a gauge
+    /// that has seen no state; it sees each state of the run. Cells are only released in a run, so the first state has
+    /// the highest numbers of them and the last one the lowest.
     pub fn run(&mut self, calls: u64, gauge: &mut Gauge) -> Ended
         ensures code { self.new.stack.code ≡ self.old.stack.code }
         ensures run { (kinds : Kinds) (lent : List Typed) → KnowsRun self.old.stack.code kinds
@@ -139,8 +139,8 @@ impl<'a> Machine<'a> {
         self.run_with::<false>(calls, gauge)
     }
 
-    /// Runs to the end as `run` does. Where it is `sure`, no cell is looked for: that asks a run that never comes to an
-    /// instruction that can't be done, as those of sound code that begin in a loaded state.
+    /// Runs to the end as `run` does. Where it is `sure`, no cell is looked for: that requires a run that never reaches
+    /// an instruction that can't be done, as those of sound code that begin in a loaded state.
     pub fn run_sure(&mut self, sure: bool, calls: u64, gauge: &mut Gauge) -> Ended
         requires safe { sure ≡ true → IsSafeRun self.old calls }
         ensures code { self.new.stack.code ≡ self.old.stack.code }

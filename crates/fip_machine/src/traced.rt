@@ -19,9 +19,9 @@ use machine_step::Stepped;
 use std::alloc::Global;
 
 impl<'a> Machine<'a> {
-    /// Runs as `run` does, and keeps what each step writes to the cells. Asks a machine that was just started, whose
-    /// cells aren't released, and a gauge that has seen no state. The end, the cells and the results are those of the
-    /// run that the definition says.
+    /// Runs as `run` does, and keeps what each step writes to the cells. Requires a machine that was just started,
+    /// whose cells aren't released, and a gauge that has seen no state. The end, the cells and the results are those of
+    /// the run that the definition says.
     ///
     /// The trace is there exactly where the run gives a value. TooLong where it gives one and the file of its trace has
     /// more than `limit` bytes, or there are more than 4,294,967,295 events or more steps than 64 bits count; NoMemory

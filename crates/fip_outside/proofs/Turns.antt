@@ -16,6 +16,6 @@ Consumes-append (Some a) None c xs ys h k = absurd h
 Consumes-append (Some a) (Some b) None xs ys h k = absurd k
 Consumes-append (Some a) (Some b) (Some c) xs ys h k = h ∙ ap (λ z. xs ++ z) k ∙ sym (append_assoc xs ys c)
 
--- n bytes from a place on stand in front of a buffer, and what comes after them is left.
+-- n bytes from a place on are in front of a buffer, and what comes after them is left.
 pub drop-moved : (bs : List ℕ) (start n : ℕ) (ys rest : List ℕ) → start + n ≤ length bs → ys ≡ take (start + n - start) (drop start bs) → drop start bs ≡ take n (ys ++ rest) ++ drop (start + n) bs
 drop-moved bs start n ys rest h e = grind (arith, common_steps, take-append-drop n (drop start bs))

@@ -1,4 +1,4 @@
--- A source, a sink or a folder counts how often it failed. The count never falls, and stands still at the greatest
+-- A source, a sink or a folder counts how often it failed. The count never falls, and stays at the greatest
 -- number of 64 bits, which is `2 ^ 64 - 1`.
 use Rattle.std.specs.Prelude.{ℕ, ◌+◌, ◌-◌, ◌^◌, ◌≤◌, min}
 
@@ -6,7 +6,7 @@ use Rattle.std.specs.Prelude.{ℕ, ◌+◌, ◌-◌, ◌^◌, ◌≤◌, min}
 abbrev pub one_more : ℕ → ℕ
 one_more count = min (count + 1) (2 ^ 64 - 1)
 
--- The count rose from the first number to the second, or stands at its greatest: `Rose 3 4` holds, `Rose 3 3` doesn't,
--- and a count that stands at `2 ^ 64 - 1` is always taken to have risen.
+-- The count rose from the first number to the second, or is at its greatest: `Rose 3 4` holds, `Rose 3 3` doesn't,
+-- and a count that is at `2 ^ 64 - 1` is always taken to have risen.
 abbrev pub Rose : ℕ → ℕ → Type 0
 Rose before now = one_more before ≤ now

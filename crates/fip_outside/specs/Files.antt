@@ -12,7 +12,7 @@ pub record File : Type 0 where
 abbrev pub has_name : List ℕ → File → Bool
 has_name name file = bytes_eq file.name name
 
--- The bytes under a name; where it stands twice, the first ones count.
+-- The bytes under a name; where it occurs twice, the first ones count.
 -- `file_of (97 ∷ [])` is `Some (7 ∷ [])` in a list of just the file `a` with the byte 7, and `file_of []` is `None`.
 abbrev pub file_of : List ℕ → List File → Option (List ℕ)
 file_of name [] = None

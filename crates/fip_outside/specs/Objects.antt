@@ -15,7 +15,7 @@ pub record CallLog : Type 0 where
 abbrev pub no_calls : List ℕ → CallLog
 no_calls fails = record { fails = fails; made = 0; faults = 0 }
 
--- The number of the next call. Calls are numbered from 1; the number stands still at the greatest of 64 bits.
+-- The number of the next call. Calls are numbered from 1; the number stays at the greatest of 64 bits.
 abbrev pub next_call : CallLog → ℕ
 next_call log = one_more log.made
 

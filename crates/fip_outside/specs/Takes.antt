@@ -1,4 +1,4 @@
--- What was read from a source and written to a sink in several turns. Nothing is claimed where they tell no bytes.
+-- What was read from a source and written to a sink in several turns. Nothing is claimed where they report no bytes.
 use Rattle.std.specs.Prelude.{◌≡◌, ℕ, ◌≤◌, List, length, take, Option}
 use Rattle.std.specs.Io.KnownBytes.{Appends, Consumes}
 

@@ -174,7 +174,7 @@ impl Model for MemSink {
 
 impl MemSink {
     /// A sink for `room` bytes, for all of which it takes memory here. `pieces` and `fails` are as in
-    /// `MemSource::new`. Want of memory is the one error.
+    /// `MemSource::new`. Running out of memory is the one error.
     pub fn new(
         alloc: Global,
         room: usize,
@@ -248,7 +248,7 @@ impl Model for MemFolder {
     ghost view = { λ s. record { files = files_in s.files.items; calls = s.calls } };
 }
 
-// Where the first file of this name stands.
+// Where the first file of this name is.
 fn index_of(files: &[(String, Vec<u8>)], name: &str) -> Option<usize>
     ensures { result ≡ position (λ entry. has_name name.now (file_in entry)) files.now }
 {
@@ -256,7 +256,7 @@ fn index_of(files: &[(String, Vec<u8>)], name: &str) -> Option<usize>
 }
 
 impl MemFolder {
-    /// A folder of these files, names with their bytes; of a name that stands twice the first counts.
+    /// A folder of these files, names with their bytes; of a name that occurs twice the first counts.
     /// `fails` has the numbers of the calls that fail, from 1, fetches and stores numbered together. What
     /// is fetched or stored is held in memory of `alloc`.
     pub fn new(alloc: Global, files: Vec<(String, Vec<u8>)>, fails: Vec<u64>) -> MemFolder

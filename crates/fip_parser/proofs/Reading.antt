@@ -85,7 +85,7 @@ only_one source p (Err (E.Refused x)) a b h = absurd (spelt_or_misspelt source p
 pub refused_so : (source : List ℕ) (r : Result tree.Program ParseError) (x : Refusal) → IfErr r (λ e. IsRefused source e) → r ≡ Err (E.Refused x) → (rule : Rule) × (place : Place) × IsMisspelt source rule place × (x ≡ refusal_of rule place)
 refused_so source r x h e = subst (λ z. IfErr z (λ y. IsRefused source y)) e h
 
--- Where the loop stands among the tokens.
+-- Where the loop is among the tokens.
 
 pub at_token : (xs ys : List code.Token) (i : ℕ) (d : code.Token) → ys ≡ xs → i < length ys → slice_get (tokens xs) i ≡ Some (token (get_or ys i d))
 at_token xs ys i d e l =

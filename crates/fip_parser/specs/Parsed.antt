@@ -1,4 +1,4 @@
--- What the parser's loop comes to: the machine that a reading stands for, and how a token stops it.
+-- What the parser's loop reaches: the machine that a reading stands for, and how a token stops it.
 use Rattle.std.specs.Prelude.{◌≡◌, ◌⊎◌, ◌≤◌, ℕ, Bool, true, List, [], map, Option, Some, None}
 use Rattle.fip_language.specs.declared.Place.{Place}
 use Rattle.fip_language.specs.declared.limits.TheConstants.{MOST_BRACKETS}
@@ -37,7 +37,7 @@ seen_of b = record { open' = b.brackets; ends_operand = b.ends_operand; is_sign 
 abbrev pub machine_of : List Declaration → State → Machine
 machine_of ds s = record { done = map declaration ds; state = state s }
 
--- The token breaks neither of the rules that are asked of tokens alone.
+-- The token breaks neither of the rules that are required of tokens alone.
 abbrev pub IsWithin : Seen → T.Word → Type 0
 IsWithin b w = (is_opening w ≡ true → MOST_BRACKETS ≤ b.open' → ⊥) × (IsAbove b.is_sign w → ⊥)
 

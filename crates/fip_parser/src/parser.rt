@@ -33,7 +33,7 @@ use std::alloc::{AllocError, Global};
 /// Why a source isn't parsed.
 #[derive(Drop)]
 pub enum ParseError {
-    /// Want of memory.
+    /// Out of memory.
     NoMemory,
     /// A rule from E01 to E04 is broken at a place.
     Refused(Refusal),

@@ -15,7 +15,7 @@ more_variables_long (v ∷ vs) rest =
     let b = more_variables_long vs rest in
     omega (arith, a, b)
 
--- but for one, before which no blank stands
+-- but for one, before which no blank is
 variables_long : (vs rest : List ℕ) → length vs + length rest ≤ length (variables_text vs rest) + 1
 variables_long [] rest = omega arith
 variables_long (v ∷ vs) rest =

@@ -27,7 +27,7 @@ use fip_trees::program::{Instance, Typed};
 use fip_trees::scalars::Scalars;
 use std::alloc::Global;
 
-/// The text of the derivation of a typed program, which is asked to break no rule on ownership and credits, and whose
+/// The text of the derivation of a typed program, which must break no rule on ownership and credits, and whose
 /// needs these are. TooLong: it has more than `limit` bytes. NoMemory: no memory is left. It takes memory for one
 /// instance and for the limit.
 pub fn derivation_text(
@@ -36,7 +36,7 @@ pub fn derivation_text(
     needs: &Needs,
     limit: usize,
 ) -> Result<Vec<u8>, TextError>
-    // Of a program that is asked for it is the text of what is made.
+    // Of a program that is as required it is the text of what is made.
     ensures text { IfOk result (λ t. IsReady (V.program typed.now.program) needs.now →
         t.items ≡ lines_text (made_entries (V.program typed.now.program) 0 (V.program typed.now.program).instances)) }
     // Where the program keeps the limit on registers, too, it is read again as that.

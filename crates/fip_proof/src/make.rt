@@ -14,12 +14,12 @@ use fip_trees::needs::Needs;
 use fip_trees::program::Typed;
 use std::alloc::Global;
 
-/// The derivation of a typed program, which is asked to break no rule on ownership and credits, and whose needs these
+/// The derivation of a typed program, which must break no rule on ownership and credits, and whose needs these
 /// are. NoMemory: no memory is left.
 pub fn derive(alloc: Global, typed: &Typed, needs: &Needs) -> Result<Derivation, NoMemory>
     // The nodes of each line are those of a tree.
     ensures trees { IfOk result (λ d. AreTrees d.lines.items) }
-    // Of a program that is asked for it is what is made.
+    // Of a program that is as required it is what is made.
     ensures made { IfOk result (λ d. IsReady (V.program typed.now.program) needs.now →
         entries d ≡ made_entries (V.program typed.now.program) 0 (V.program typed.now.program).instances) }
     // So it is a derivation of the program.

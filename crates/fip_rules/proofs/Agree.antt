@@ -24,7 +24,7 @@ data Status : Type 0 where
   Lent : Status
   Own : (used here : Bool) → Status
 
--- the lending occurrences that stand in a bound expression and are exposed all the same
+-- the borrowing occurrences that are in a bound expression and are exposed all the same
 abbrev Deep : ℕ → Shape → Breach → Type 0
 Deep i Skip v = ⊥
 Deep i (Use m) v = ⊥
@@ -35,7 +35,7 @@ Deep i (Either a b) v = Deep i a v ⊎ Deep i b v
 Deep i (Bound a) v = (owns v.mark.id a ≡ true) × Exposed i a v
 Deep i (Scope k m a) v = Deep i a v
 
--- those that stand in none
+-- those that are in none
 abbrev Direct : ℕ → Shape → Breach → Type 0
 Direct i Skip v = ⊥
 Direct i (Use m) v = ⊥

@@ -109,7 +109,7 @@ distinct_same : (xs : List ℕ) → Once xs → distinct xs ≡ xs
 distinct_same [] h = refl
 distinct_same (x ∷ xs) h = rw (h.0) (ap (λ q. x ∷ q) (distinct_same xs h.1))
 
--- what alternatives use up on every path stands in the list once
+-- what alternatives use up on every path is in the list once
 pub distinct_both : (zs xs : List ℕ) → distinct (filter (λ y. has zs y) (distinct xs)) ≡ filter (λ y. has zs y) (distinct xs)
 distinct_both zs xs = distinct_same (filter (λ y. has zs y) (distinct xs)) (filter_once zs (distinct xs) (distinct_once xs))
 

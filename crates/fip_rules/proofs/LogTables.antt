@@ -19,7 +19,7 @@ end_from p (f ∷ es) e x = ap (or_later (if f == x then Some p else None)) (end
 pub last_end : (es : List ℕ) (e x : ℕ) → last (es ++ e ∷ []) x ≡ (if e == x then Some (length es) else last es x)
 last_end es e x = end_from 0 es e x ∙ ap (λ n. if e == x then Some n else last es x) (omega arith)
 
--- what stands in the list that begins at place p stands at p or later
+-- what is in the list that begins at place p is at p or later
 abbrev Late : ℕ → Option ℕ → Type 0
 Late p None = Unit {0}
 Late p (Some l) = p ≤ l

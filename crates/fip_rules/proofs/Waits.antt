@@ -1,4 +1,4 @@
--- The lending occurrences that wait, in the walk's own lists.
+-- The borrowing occurrences that wait, in the walk's own lists.
 use Rattle.std.proofs.Common.{◌≡◌, ℕ, ◌≤◌, ◌-◌, sym, ap, ◌∙◌, List, [], take, drop, length, map, Option, arith}
 use Rattle.std.proofs.lemmas.List.{take-map, drop-map}
 use Rattle.std.proofs.lemmas.Grind.{common_steps}

@@ -6,8 +6,8 @@ use Rattle.fip_trees.specs.declared.least.Violation.{Violation}
 use Rattle.fip_trees.specs.Least.{violation}
 use Rattle.fip_rules.specs.declared.scope.Ownership.{Ownership}
 
--- An occurrence of a variable, or its binder: what the variable is known by in its instance (how many binders stand
--- before its own in the text, so that no two variables share it), its number in the tree, and where it stands with
+-- An occurrence of a variable, or its binder: what the variable is known by in its instance (how many binders are
+-- before its own in the text, so that no two variables share it), its number in the tree, and where it is with
 -- which name.
 pub record Mark : Type 0 where
   pub id : ℕ
@@ -15,7 +15,7 @@ pub record Mark : Type 0 where
   pub place : Place
   pub name : List ℕ
 
--- a variable in scope: its binder, how it is bound, and how many bound expressions stand around its binder
+-- a variable in scope: its binder, how it is bound, and how many bound expressions are around its binder
 pub record Entry : Type 0 where
   pub mark : Mark
   pub ownership : Ownership

@@ -1,5 +1,5 @@
 -- For the proofs alone: what one walk notes. It knows the scope, how many bound expressions are around, and as lists
--- which variables were used on some path to here, which on every path, and which lending occurrences wait for the end
+-- which variables were used on some path to here, which on every path, and which borrowing occurrences wait for the end
 -- of the bound expression around them.
 use Rattle.std.specs.Prelude.{ℕ, suc, List, [], ◌∷◌, ◌++◌, filter, Option, Some, None, ◌==◌, ◌≡◌, ◌⊎◌}
 use Rattle.std.specs.Prelude.{Bool, true, false, not, ◌&&◌, if◌then◌else◌}
@@ -22,7 +22,7 @@ abbrev pub or_else : Option Entry → Option Entry → Option Entry
 or_else o None = o
 or_else o (Some e) = Some e
 
--- each once, where it stands last
+-- each once, where it is last
 abbrev pub distinct : List ℕ → List ℕ
 distinct [] = []
 distinct (x ∷ xs) = if has xs x then distinct xs else x ∷ distinct xs
@@ -82,7 +82,7 @@ abbrev pub if_waits : Option Entry → ℕ → Mark → List Mark
 if_waits None l m = []
 if_waits (Some e) l m = if is_owned e.ownership && not (e.level == l) then m ∷ [] else []
 
--- the lending occurrences that wait
+-- the borrowing occurrences that wait
 abbrev pub waits : List Entry → ℕ → Shape → List Mark
 waits es l Skip = []
 waits es l (Use m) = []

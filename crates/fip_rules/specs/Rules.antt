@@ -1,9 +1,8 @@
 -- The rules on ownership, each said of a variable and its scope. A path takes one of two alternatives; what comes first
 -- in Then comes earlier. `i` is the number of the instance.
 --
--- In let y = f(x); g(x, y), where f and g own what they are given, the second x breaks E50: the first one stands
--- earlier on a path through both. In match! b { True -> f(x); False -> g(x) } no path goes through both, so nothing is
--- broken.
+-- In let y = f(x); g(x, y), where f and g own what they are given, the second x breaks E50: the first one is earlier on
+-- a path through both. In match! b { True -> f(x); False -> g(x) } no path goes through both, so nothing is broken.
 use Rattle.std.specs.Prelude.{◌≡◌, ℕ, suc, ◌<◌, ◌≤◌, ◌⊎◌, Bool, true, false, ◌==◌, ◌||◌}
 use Rattle.fip_trees.specs.fip_language.declared.rule.Rule.{Rule}
 use Rattle.fip_trees.specs.fip_language.declared.rule.Rule.TheVariants.{E50, E51, E52, E53, E54}
@@ -37,7 +36,7 @@ Uses r i (Either a b) v = Uses r i a v ⊎ Uses r i b v
 Uses r i (Bound a) v = Uses r i a v
 Uses r i (Scope k m a) v = Uses r i a v
 
--- the same of a lending one
+-- the same of a borrowing one
 abbrev pub Lends : Rule → ℕ → Shape → Breach → Type 0
 Lends r i Skip v = ⊥
 Lends r i (Use m) v = ⊥
@@ -59,7 +58,7 @@ Again i (Either a b) v = Again i a v ⊎ Again i b v
 Again i (Bound a) v = Again i a v
 Again i (Scope k m a) v = Again i a v
 
--- E51: a lending occurrence with an earlier owning one
+-- E51: a borrowing occurrence with an earlier owning one
 abbrev pub Late : ℕ → Shape → Breach → Type 0
 Late i Skip v = ⊥
 Late i (Use m) v = ⊥
@@ -81,7 +80,7 @@ Misses x (Either a b) = Misses x a ⊎ Misses x b
 Misses x (Bound a) = Misses x a
 Misses x (Scope k m a) = Misses x a
 
--- E54: a lending occurrence that stands in no bound expression without an owning occurrence of its variable
+-- E54: a borrowing occurrence that is in no bound expression without an owning occurrence of its variable
 abbrev pub Exposed : ℕ → Shape → Breach → Type 0
 Exposed i Skip v = ⊥
 Exposed i (Use m) v = ⊥

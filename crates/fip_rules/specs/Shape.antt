@@ -1,6 +1,6 @@
--- What of a body matters to the rules on ownership: where its variables are used up, are lent, are bound and go out of
--- scope; which parts come after each other, which are alternatives, which is the bound expression of a let; and where a
--- rule is broken by itself.
+-- What of a body matters to the rules on ownership: where its variables are used up, are borrowed, are bound and go out
+-- of scope; which parts come after each other, which are alternatives, which is the bound expression of a let; and
+-- where a rule is broken by itself.
 --
 -- For example let y = f(x); y is Then (Bound (Use x)) (Scope Owned y (Use y)), where f owns its argument, and
 -- Then (Bound (Lend x)) (Scope Owned y (Use y)), where it borrows it.

@@ -1,6 +1,6 @@
 -- The shape of a typed body.
 --
--- A variable is known by how many binders stand before its own in the text. An occurrence with the number of a binder
+-- A variable is known by how many binders are before its own in the text. An occurrence with the number of a binder
 -- means the innermost one in scope that has this number; one of none means nothing, and no rule speaks of it.
 use Rattle.std.specs.Prelude.{ℕ, suc, Bool, true, false, not, ◌&&◌, List, [], ◌∷◌, ◌++◌, Option, Some, None, ◌==◌}
 use Rattle.std.specs.Prelude.{if◌then◌else◌}
@@ -19,7 +19,7 @@ use Rattle.fip_rules.specs.Shape as S
 use Rattle.fip_rules.specs.Rules.{next}
 use Rattle.fip_rules.specs.World.{World, lends, weaker, ownership}
 
--- the binders in scope, the innermost last, and how many binders stand before
+-- the binders in scope, the innermost last, and how many binders are before
 pub record Names : Type 0 where
   pub marks : List Mark
   pub next : ℕ
@@ -67,7 +67,7 @@ abbrev mutual
   owning_all ms NoArguments = S.Skip
   owning_all ms (MoreArguments a as') = S.Then (owning ms a) (owning_all ms as')
 
--- One in a borrowed position. A constructor of a type that isn't scalar stands wrong there; what is in it is owned.
+-- One in a borrowed position. A constructor of a type that isn't scalar is wrong there; what is in it is owned.
 abbrev pub lending : World → List Mark → Argument → S.Shape
 lending w ms (Variable x n p) = lent_by ms x p n
 lending w ms (Literal i p) = S.Skip
@@ -96,7 +96,7 @@ pub record Bind : Type 0 where
 abbrev pub mark : ℕ → Binder → Mark
 mark i b = record { id = i; number = b.number; place = b.place; name = b.name }
 
--- the scopes of some binders around a part; n binders stand before them
+-- the scopes of some binders around a part; n binders are before them
 abbrev pub binds : ℕ → List Bind → S.Shape → S.Shape
 binds n [] e = e
 binds n (b ∷ bs) e = S.Scope b.ownership (mark n b.binder) (binds (suc n) bs e)
@@ -110,7 +110,7 @@ within c (b ∷ bs) = within record { marks = c.marks ++ mark c.next b.binder �
 abbrev pub following : Names → S.Shape → Names
 following c e = record { marks = c.marks; next = next c.next e }
 
--- binders whose values are taken, or only lent
+-- binders whose values are taken, or only borrowed
 abbrev pub taking : World → Bool → List Binder → List Bind
 taking w taken [] = []
 taking w taken (b ∷ bs) = record { ownership = ownership w taken b.ty; binder = b } ∷ taking w taken bs

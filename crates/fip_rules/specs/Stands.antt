@@ -1,4 +1,4 @@
--- For the proofs alone: where the walk stands, and what each of its steps does.
+-- For the proofs alone: where the walk is, and what each of its steps does.
 use Rattle.std.specs.Prelude.{◌≤◌, ℕ, suc, List, [], ◌∷◌, ◌++◌, map, take, drop, filter, Option, Some, None, Bool}
 use Rattle.std.specs.Prelude.{◌==◌, if◌then◌else◌}
 use Rattle.fip_trees.specs.declared.least.Violation.{Violation}
@@ -141,7 +141,7 @@ with_walked s t =
 abbrev pub kept_use : ℕ → Stand → Stand
 kept_use i t = with_walked (with_used (t.walked.used ++ i ∷ []) (t.walked.always ++ i ∷ []) t.walked) t
 
--- more lending occurrences wait
+-- more borrowing occurrences wait
 abbrev pub awaiting : Stand → List Mark → Stand
 awaiting t ms =
     record {

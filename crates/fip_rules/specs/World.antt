@@ -1,4 +1,5 @@
--- What the rules look up: which types are scalar, the instances, and the kind of the instance in which they are asked.
+-- What the rules look up: which types are scalar, the instances, and the kind of the instance in which they are
+-- checked.
 use Rattle.std.specs.Prelude.{ℕ, Bool, true, false, not, ◌&&◌, List, Option, Some, None, slice_get, if◌then◌else◌}
 use Rattle.fip_trees.specs.fip_language.declared.FunKind.{FunKind}
 use Rattle.fip_trees.specs.fip_language.declared.FunKind.TheVariants.{Fip, Fbip, Fun}
@@ -25,7 +26,7 @@ abbrev pub lends_to : World → Option Instance → ℕ → Bool
 lends_to w None j = false
 lends_to w (Some d) j = lends_parameter w (slice_get d.params j)
 
--- Whether the argument of a call at place j, from 0, stands in a borrowed position: the parameter is lent, and of a
+-- Whether the argument of a call at place j, from 0, is in a borrowed position: the parameter is borrowed, and of a
 -- type that isn't scalar.
 abbrev pub lends : World → ℕ → ℕ → Bool
 lends w g j = lends_to w (slice_get w.instances g) j
@@ -47,6 +48,6 @@ weaker_than k (Some d) = is_weaker k d.kind
 abbrev pub weaker : World → ℕ → Bool
 weaker w g = weaker_than w.kind (slice_get w.instances g)
 
--- how a variable of a type is bound where its value is taken, or only lent
+-- how a variable of a type is bound where its value is taken, or only borrowed
 abbrev pub ownership : World → Bool → ℕ → Ownership
 ownership w taken t = if w.scalar t then Scalar else (if taken then Owned else Borrowed)

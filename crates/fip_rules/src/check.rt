@@ -21,17 +21,17 @@ use fip_trees::program::{Binder, Instance, Program, Typed};
 use fip_trees::scalars::Scalars;
 use std::alloc::Global;
 
-/// Checks that each fip and fbip instance of a typed program uses what it owns once, and lends it only while it has it.
-/// A path takes one clause at each match. An argument in a borrowed position and the scrutinee of a `match` are lent,
-/// each other occurrence of a variable uses it up.
+/// Checks that each fip and fbip instance of a typed program uses what it owns once, and borrows it only while it has
+/// it. A path takes one clause at each match. An argument in a borrowed position and the scrutinee of a `match` are
+/// borrowed, each other occurrence of a variable uses it up.
 ///
 /// Refused exactly where one of these rules is broken, for the least violation by place, rule, instance and name:
 /// - E50: an owned variable is used up with an earlier use on a path through both.
-/// - E51: it is lent with an earlier use on a path through both.
+/// - E51: it is borrowed with an earlier use on a path through both.
 /// - E52: in a fip instance, some path through its scope doesn't use it up.
 /// - E53: a borrowed variable that isn't scalar is used up.
-/// - E54: an owned variable is lent, but in no bound expression of a let within its scope that doesn't use it up; or a
-///   constructor of a type that isn't scalar stands in a borrowed position.
+/// - E54: an owned variable is borrowed, but in no bound expression of a let within its scope that doesn't use it up;
+///   or a constructor of a type that isn't scalar is in a borrowed position.
 /// - E55: a call of a weaker kind.
 ///
 /// NoMemory: no memory is left.

@@ -8,18 +8,18 @@ use fip_base::plain::NoMemory;
 use std::alloc::Global;
 use std::marker::Model;
 
-// A variable's number, and the place before this one where it stands too.
+// A variable's number, and the place before this one where it is too.
 #[derive(Clone, Copy)]
 struct Step {
     number: usize,
     before: Option<usize>,
 }
 
-/// A list of variables by numbers. Whether a variable stands in it, or in its end, is known at once.
+/// A list of variables by numbers. Whether a variable is in it, or in its end, is known at once.
 #[derive(Drop)]
 pub struct Log {
     steps: Vec<Step>,
-    // For each number the last place where it stands.
+    // For each number the last place where it is.
     last: Vec<Option<usize>>,
 }
 
@@ -49,14 +49,14 @@ impl Log {
         self.steps.len()
     }
 
-    /// The last place where a variable stands.
+    /// The last place where a variable is.
     pub fn last_place(&self, number: usize) -> Option<usize>
         ensures place { result ≡ last self.now number }
     {
         place_at(&self.last, number)
     }
 
-    /// Whether a variable stands in it.
+    /// Whether a variable is in it.
     #[tactic(auto, using(crate::proofs::LogTables::has_is))]
     pub fn has(&self, number: usize) -> bool
         ensures held { result ≡ has self.now number }
@@ -64,7 +64,7 @@ impl Log {
         self.last_place(number).is_some()
     }
 
-    /// Whether a variable stands after the first `kept` ones.
+    /// Whether a variable is after the first `kept` ones.
     pub fn has_since(&self, kept: usize, number: usize) -> bool
         ensures held { result ≡ has (drop kept self.now) number }
     {
@@ -147,7 +147,7 @@ impl Log {
         Ok(out)
     }
 
-    /// Those of a list that stand after the first `kept` ones.
+    /// Those of a list that are after the first `kept` ones.
     pub fn common_since(
         &self,
         alloc: Global,

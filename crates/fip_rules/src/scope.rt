@@ -10,10 +10,10 @@ use std::alloc::Global;
 use std::marker::Model;
 
 /// An occurrence of a variable, or its binder: what the variable is known by in its instance, its number in the tree,
-/// and where it stands with which name.
+/// and where it is with which name.
 #[derive(Clone, Copy)]
 pub struct Mark<'a> {
-    /// How many binders stand before the variable's own; no two variables of an instance have the same.
+    /// How many binders are before the variable's own; no two variables of an instance have the same.
     pub id: usize,
     pub number: usize,
     pub place: Place,
@@ -28,7 +28,7 @@ pub enum Ownership {
     Owned,
 }
 
-/// A variable in scope, with its binder, and how many bound expressions stand around that.
+/// A variable in scope, with its binder, and how many bound expressions are around that.
 #[derive(Clone, Copy)]
 pub struct Entry<'a> {
     pub mark: Mark<'a>,

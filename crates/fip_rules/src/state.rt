@@ -1,4 +1,4 @@
-// Where a walk stands: which variables are in scope, which were used up, which lending occurrences wait for the end of
+// Where a walk is: which variables are in scope, which were used up, which borrowing occurrences wait for the end of
 // the bound expression around them, and the least violation so far.
 ghost use Rattle.std.specs.Prelude.{◌≡◌, ◌<◌, ◌≤◌, ◌-◌, ℕ, List, [], ◌∷◌, ◌++◌, length, map, take, drop, filter, OnOk, IfOk};
 ghost use Rattle.std.specs.Prelude.{Option, Some, ◌==◌, not, ◌&&◌, if◌then◌else◌};
@@ -22,7 +22,7 @@ use fip_trees::program::Binder;
 use std::alloc::Global;
 use std::marker::Model;
 
-/// Where the walk through an instance stands.
+/// Where the walk through an instance is.
 #[derive(Drop)]
 pub struct State<'a> {
     alloc: Global,
@@ -30,13 +30,13 @@ pub struct State<'a> {
     is_fip: bool,
     least: Least,
     scope: Scope<'a>,
-    // One for each of the bound expressions around; only how many there are is asked.
+    // One for each of the bound expressions around; only how many there are matters.
     around: Vec<Kept>,
     // The variables that were used up on some path to here, and those that were on every path.
     used: Log,
     always: Log,
     waiting: Vec<Mark<'a>>,
-    // One for each binder that came into scope so far; only how many there are is asked, so that memory bounds it.
+    // One for each binder that came into scope so far; only how many there are matters, so that memory bounds it.
     entered: Vec<Place>,
 }
 
@@ -55,7 +55,7 @@ impl<'a> Model for State<'a> {
     ghost invariant = { λ s. Rises 0 s.scope (length s.entered.items) };
 }
 
-/// Where the walk stood at some time.
+/// Where the walk was at some time.
 #[derive(Clone, Copy)]
 pub struct Kept {
     pub(crate) level: usize,
@@ -104,7 +104,7 @@ impl<'a> State<'a> {
         self.least
     }
 
-    /// Where the walk stands now.
+    /// Where the walk is now.
     pub fn kept(&self) -> Kept
         ensures level { result.level ≡ self.now.walked.level }
         ensures waiting { result.waiting ≡ length self.now.waiting }
@@ -138,7 +138,7 @@ impl<'a> State<'a> {
         Ok(())
     }
 
-    /// A rule that is broken as it stands.
+    /// A rule that is broken as it is.
     #[tactic(auto, using(crate::proofs::Theorems::go_fault))]
     pub fn fault(&mut self, rule: Rule, place: Place, name: &[u8]) -> Result<(), NoMemory>
         ensures noted { OnOk result (self.new ≡ go self.old (S.Fault rule (token place name.now))) }
@@ -219,7 +219,7 @@ impl<'a> State<'a> {
         }
     }
 
-    /// A lending occurrence of a variable; nothing where it isn't in scope.
+    /// A borrowing occurrence of a variable; nothing where it isn't in scope.
     pub fn lend(
         &mut self,
         binder: Option<usize>,
@@ -257,7 +257,7 @@ impl<'a> State<'a> {
         }
     }
 
-    // A lending occurrence of a variable that is bound outside of the innermost bound expression waits for its end.
+    // A borrowing occurrence of a variable that is bound outside of the innermost bound expression waits for its end.
     fn lend_out(
         &mut self,
         ownership: Ownership,
@@ -292,7 +292,7 @@ impl<'a> State<'a> {
         Ok(())
     }
 
-    // E51: the variable was used up before. E54: no bound expression stands around it within the variable's scope.
+    // E51: the variable was used up before. E54: no bound expression is around it within the variable's scope.
     fn note_lend(
         &mut self,
         ownership: Ownership,
@@ -344,7 +344,7 @@ impl<'a> State<'a> {
         Ok(())
     }
 
-    /// Out of a bound expression, before which the walk stood there. E54: the variable of a lending occurrence that
+    /// Out of a bound expression, before which the walk was there. E54: the variable of a borrowing occurrence that
     /// waits was used up in it.
     pub fn surface(&mut self, kept: Kept) -> Result<(), NoMemory>
         requires { kept.level ≤ self.old.walked.level }
@@ -441,14 +441,14 @@ fn is_owned(ownership: Ownership) -> bool
     }
 }
 
-// Whether a lending occurrence waits: of an owned variable that is bound outside of the bound expression.
+// Whether a borrowing occurrence waits: of an owned variable that is bound outside of the bound expression.
 fn is_waiting(ownership: Ownership, is_bare: bool) -> bool
     ensures { result ≡ (is_owned ownership && not is_bare) }
 {
     is_owned(ownership) && !is_bare
 }
 
-// Notes the lending occurrences from a place on whose variables were used up after the first `kept` uses.
+// Notes the borrowing occurrences from a place on whose variables were used up after the first `kept` uses.
 #[tactic(auto, using(crate::proofs::Shared::noting))]
 fn note_exposed(
     least: &mut Least,

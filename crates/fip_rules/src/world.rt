@@ -1,4 +1,4 @@
-// What the rules ask of types and of the instances that are called.
+// What the rules require of types and of the instances that are called.
 ghost use Rattle.std.specs.Prelude.{◌≡◌};
 ghost use Rattle.fip_trees.specs.TreeView as V;
 ghost use Rattle.fip_rules.specs.Shapes.{takes};
@@ -38,7 +38,7 @@ impl World<'_> {
         }
     }
 
-    /// Whether the argument in this place of a call, from 0, stands in a borrowed position: the parameter is lent, and
+    /// Whether the argument in this place of a call, from 0, is in a borrowed position: the parameter is borrowed, and
     /// of a type that isn't scalar.
     pub fn lends(&self, callee: u32, place: usize) -> bool
         ensures lends { result ≡ W.lends (world_of self.now) callee place }
@@ -62,7 +62,7 @@ impl World<'_> {
         }
     }
 
-    /// How a variable of a type is bound where its value is taken, or only lent.
+    /// How a variable of a type is bound where its value is taken, or only borrowed.
     pub fn ownership(&self, is_taken: bool, ty: u32) -> Ownership
         ensures bound { result ≡ W.ownership (world_of self.now) is_taken ty }
     {

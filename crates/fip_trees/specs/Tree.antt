@@ -58,7 +58,7 @@ mutual
     NoClauses : Clauses
     MoreClauses : (pattern : Pattern) (body : Block) (rest : Clauses) → Clauses
 
--- An instance of a function; what each field says stands beside the code's type of this name.
+-- An instance of a function; what each field says is beside the code's type of this name.
 pub record Instance : Type 0 where
   pub name : Name
   pub place : Place

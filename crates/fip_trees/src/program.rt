@@ -148,7 +148,7 @@ pub struct Instance {
     /// Whether it has no static parameters, so that it can be an entry.
     pub root: bool,
     pub kind: FunKind,
-    /// The types of the parameters, and which are lent.
+    /// The types of the parameters, and which are borrowed.
     pub params: Params,
     /// The parameters' binders, numbered from 0.
     pub binders: Vec<Binder>,

@@ -32,7 +32,7 @@ abbrev pub slot_entries : List Binder → Scope
 slot_entries [] = []
 slot_entries (b ∷ bs) = entry (Some b.ty) b ∷ slot_entries bs
 
--- the cells held where binders are bound to values; n binders stand before them
+-- the cells held where binders are bound to values; n binders are before them
 abbrev pub held_all : (ℕ → Bool) → ℕ → List Binder → Values → Held → Held
 held_all scalar n [] vs held = held
 held_all scalar n (b ∷ bs) End held = held

@@ -1,5 +1,5 @@
--- An evaluation that gives values counts as the calculus says: by induction on the trees. So the theorem of the calculus on
--- cells holds of it, and by induction on the calls that stand above one another of each fip instance.
+-- An evaluation that gives values counts as the calculus says: by induction on the trees. So the theorem of the
+-- calculus on cells holds of it, and by induction on the calls that are nested of each fip instance.
 use Rattle.std.proofs.Common.{◌≡◌, ◌<◌, ◌⊎◌, inl, inr, ⊎_elim, ℕ, zero, suc, ◌+◌, ℤ, pos, Bool, true, false, not, List, ◌++◌, map, length, Option, Some, None, slice_get, if◌then◌else◌, refl, sym, ap, ◌∙◌, subst, arith, int_div, int_rem, ◌+ℤ◌, ◌-ℤ◌, ◌*ℤ◌}
 use Rattle.tail_groups.specs.fip_language.declared.Place.{Place}
 use Rattle.tail_groups.specs.fip_language.declared.FunKind.{FunKind}

@@ -1,4 +1,4 @@
--- The owned parameters of an instance together hold the cells of the arguments that aren't lent.
+-- The owned parameters of an instance together hold the cells of the arguments that aren't borrowed.
 use Rattle.std.proofs.Common.{◌≡◌, ◌<◌, ℕ, suc, ◌+◌, Bool, true, false, List, [], ◌∷◌, map, length, if◌then◌else◌, ◌==◌, refl, sym, ap, ◌∙◌, subst, arith}
 use Rattle.tail_groups.specs.fip_language.Values.{Value, Values, End, More, cells}
 use Rattle.tail_groups.specs.fip_language.Table.{Table, is_scalar, HasType, HaveTypes}

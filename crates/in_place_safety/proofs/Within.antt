@@ -1,4 +1,4 @@
--- The numbers that are found of the instances bound their runs: they solve the inequations that runs ask.
+-- The numbers that are found of the instances bound their runs: they solve the inequations that runs require.
 use Rattle.std.proofs.Common.{◌≡◌, ◌≢◌, ◌≤◌, ℕ, zero, suc, ◌+◌, Bool, true, false, not, List, [], ◌∷◌, map, get_or, Some, None, slice_get, if◌then◌else◌, refl, sym, ap, ◌∙◌, subst, arith}
 use Rattle.tail_groups.specs.fip_language.declared.limits.TheConstants.{FRAME_WORDS}
 use Rattle.tail_groups.specs.fip_language.Values.{Values}

@@ -1,5 +1,5 @@
--- What the theorem on the stack says of a run: with so many free frames it doesn't end for want of one, and it never holds
--- more frames and words than its numbers say.
+-- What the theorem on the stack says of a run: with so many free frames it doesn't end for lack of one, and it never
+-- holds more frames and words than its numbers say.
 -- For example where f of 5 words waits for g of 7, which calls itself in tail position, a run of f holds one frame and
 -- 12 words at the most, and one free frame is enough for it.
 use Rattle.std.specs.Prelude.{◌≢◌, ◌≤◌, ℕ, List}

@@ -1,6 +1,6 @@
--- What a run of a fip instance comes to in a program that passes all checks: values of its results' types, with as many
--- cells of each size as its owned arguments and its header's credits together, or a trap, or no call was left. It is
--- never stuck, and never too deep where it has as many free frames as its stack number says.
+-- What a run of a fip instance ends with in a program that passes all checks: values of its results' types, with as
+-- many cells of each size as its owned arguments and its header's credits together, or a trap, or no call was left. It
+-- is never stuck, and never too deep where it has as many free frames as its stack number says.
 -- For example `rev` of three items, with enough calls and no free frame, gives a list of three items.
 use Rattle.std.specs.Prelude.{◌≡◌, ℕ, List}
 use Rattle.tail_groups.specs.fip_language.Values.{Values, cells_of_all}

@@ -54,7 +54,7 @@ pub fn fip_instances_have_a_stack()
 {}
 
 /// Fip instances that are derived call fip ones alone, so their stack numbers are what they are found to be. For who
-/// asks what groups and numbers ask.
+/// asks what groups and numbers require.
 #[tactic(auto, using(crate::proofs::Strong::fip_calls_fip))]
 pub fn derived_instances_call_fip_ones()
     ensures theorem { (program : Program) → IsFormed program → AreFipDerived program program.instances →

@@ -8,7 +8,7 @@ ghost use Rattle.type_safety.specs.instance_semantics.Meaning.{flat_meaning};
 ghost use Rattle.in_place_safety.specs.Bounds.{IsWithin, AreBounded};
 
 /// A run of an instance that has a stack number never holds more frames and words than it says, and with so many free
-/// frames it doesn't end for want of one. For who reserves a stack.
+/// frames it doesn't end for lack of one. For who reserves a stack.
 #[tactic(auto, using(crate::proofs::Within::meaning_within))]
 pub fn runs_stay_within_their_stack()
     ensures theorem { (program : Program) (members : List Member) (i : ℕ) (m : Member) (s : Stack) (arguments : Values)

@@ -1,4 +1,4 @@
--- The bound on calls that stand above one another doesn't matter, as long as it isn't below the calls left.
+-- The bound on calls that are nested doesn't matter, as long as it isn't below the calls left.
 -- Two ways to call that agree below so many calls give an expression the same evaluation with that many: a call costs
 -- one, and nothing leaves more calls than it was given.
 use Rattle.std.proofs.Common.{◌≡◌, ℕ, zero, suc, ◌<◌, ◌≤◌, Bool, true, false, Option, Some, None, slice_get, arith, refl, ap}

@@ -1,4 +1,4 @@
--- More free frames change no evaluation but one that ended for want of them.
+-- More free frames change no evaluation but one that ended for lack of them.
 use Rattle.std.proofs.Common.{◌≡◌, ◌≢◌, ℕ, zero, suc, ◌+◌, List, Bool, true, false, Option, Some, None, slice_get, arith, refl, ap, sym, subst}
 use Rattle.fip_trees.specs.fip_language.Values.{Value, Values}
 use Rattle.fip_trees.specs.fip_language.Matching.{Binding}

@@ -1,5 +1,5 @@
 -- Each instance means what its function means: registers, arguments, matches and evaluations are the same, by induction
--- on the trees, and calls by induction on those that stand above one another.
+-- on the trees, and calls by induction on those that are nested.
 use Rattle.std.proofs.Common.{◌≡◌, ℕ, zero, suc, ◌+◌, Bool, true, false, List, [], ◌∷◌, length, Option, Some, None, slice_get, if◌then◌else◌, ◌==◌, refl, sym, ap, ◌∙◌}
 use Rattle.fip_trees.specs.fip_language.Values.{Value, Int, Node, Values, End, More}
 use Rattle.fip_trees.specs.fip_language.Core as C

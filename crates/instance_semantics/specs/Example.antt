@@ -3,7 +3,7 @@
 -- fip fun rev(xs: ints, acc: ints): ints { match! xs { Nil -> acc; Cons(x, t) -> rev(t, Cons(x, acc)) } }
 -- fbip fun inc(xs: ints): ints { match! xs { Nil -> Nil; Cons(x, t) -> Cons(x + 1, inc(t)) } }
 -- fip fun number(^b: bool): int { match b { False -> 0; True -> 1 } }
--- with one place for all that stands in it but the `+`, which stands at 3:77. Type 1 is bool and type 2 is ints; Nil is
+-- with one place for all that is in it but the `+`, which is at 3:77. Type 1 is bool and type 2 is ints; Nil is
 -- its constructor 0 and Cons its constructor 1. The instances are rev, 0, inc, 1, and number, 2.
 use Rattle.std.specs.Prelude.{ℕ, pos, true, false, List, [], ◌∷◌, Some, None, codes}
 use Rattle.fip_trees.specs.fip_language.declared.FunKind.TheVariants.{Fip, Fbip}

@@ -1,7 +1,7 @@
 -- What a program without static parameters means: the evaluation of its instances, by their numbers, on trees.
 -- Calls, frames, tail positions and the peak are counted as in the meaning of a source program. Each entry of an
 -- instance costs one call, the entry instance's too; where no call is left, the answer is Out. A call outside tail
--- position holds a frame until it returns; where no frame is free, the answer is Deep. Out is asked before Deep. The
+-- position holds a frame until it returns; where no frame is free, the answer is Deep. Out is checked before Deep. The
 -- body of an instance, the rest of a let and the clauses' bodies are in tail position where the whole is; the bound
 -- expression of a let never is. Of a node only numbers are read, never its slot: so a program means the same before it
 -- is typed and after it.
@@ -80,13 +80,13 @@ body_run calls d (Some f) vs k =
     entered (frame_words f)
     (eval_block calls (frame_words f) f.body true d (bind_binders nothing_bound f.binders vs) k)
 
--- what a call gives, where at most so many calls stand above one another
+-- what a call gives, where at most so many calls are nested
 abbrev pub calls_of : Program → ℕ → Calls
 calls_of program zero d i vs k = ends Out
 calls_of program (suc m) d i vs k = body_run (calls_of program m) d (slice_get program.instances i) vs k
 
 -- The evaluation of an expression, a block and clauses with k calls left, in an instance whose frame has so many words:
--- no more than k calls can stand above one another.
+-- no more than k calls can be nested.
 unfoldable pub evaluate : Program → ℕ → Expression → Bool → ℕ → Environment → ℕ → Run
 evaluate program words e tail d env k = eval (calls_of program k) words e tail d env k
 

@@ -1,5 +1,5 @@
 -- The registers of an instance: one for each parameter, each credit of its header, each binder, and each constructor
--- and literal that stands in its body, in patterns and in expressions. They are those of the function that it is an
+-- and literal that is in its body, in patterns and in expressions. They are those of the function that it is an
 -- instance of, and its frame has two words more.
 -- For example rev(xs, acc) { match! xs { Nil -> acc; Cons(x, t) -> rev(t, Cons(x, acc)) } } has 2 parameters, 2 binders
 -- and 3 constructors, so 7 registers, and its frame has 9 words.

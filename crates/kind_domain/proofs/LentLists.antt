@@ -1,4 +1,4 @@
--- Lists of registers, in which each stands once.
+-- Lists of registers, in which each occurs once.
 use Rattle.std.proofs.Common.{◌≡◌, ℕ, zero, suc, ◌<◌, ◌≤◌, ◌+◌, ◌⊎◌, inl, inr, List, [], ◌∷◌, ◌++◌, length, take, drop, set, refl, sym, ap, ◌∙◌, subst, arith}
 use Rattle.std.specs.Prelude.{Bool, true, false, ◌||◌, Option, Some, None, slice_get, ◌==◌}
 use Rattle.cell_code.specs.declared.kind.Kind.{Kind}

@@ -343,7 +343,7 @@ swapped_twice a b r =
       ]
     ]
 
--- A register that is lent of another once roots have changed was lent of the one that stood for it.
+-- A register that is borrowed from another once roots have changed was borrowed from the one that stood for it.
 pub lent_swapped : (a b x : ℕ) (k : Kind) → is_lent_of x (rooted (swapped a b) k) ≡ true →
     is_lent_of (swapped a b x) k ≡ true
 lent_swapped a b x Gone e = absurd (cc)
@@ -354,7 +354,7 @@ lent_swapped a b x (Lent t s (Some r) from) e =
     eq-eqb r (swapped a b x) (sym (swapped_twice a b r) ∙ ap (swapped a b) (same_from (swapped a b r) x e))
 lent_swapped a b x (Credit k) e = absurd (cc)
 
--- What is lent of neither stays.
+-- What is borrowed from neither stays.
 pub rooted_apart : (a b : ℕ) (k : Kind) → is_lent_of a k ≡ false → is_lent_of b k ≡ false →
     rooted (swapped a b) k ≡ k
 rooted_apart a b Gone e g = refl

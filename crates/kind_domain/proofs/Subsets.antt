@@ -191,7 +191,7 @@ rise_beyond low n (x ∷ xs) r =
 pub rise_at_beyond : (n : ℕ) (xs : List ℕ) → Rise xs → RiseFrom (n + 1) (beyond n xs)
 rise_at_beyond n xs r = subst (λ z. RiseFrom z (beyond n xs)) (omega arith) (rise_beyond 0 n xs r)
 
--- Where a list is cut between those that aren't greater and those that are, the second part stands beyond.
+-- Where a list is cut between those that aren't greater and those that are, the second part is beyond.
 pub cut_beyond : (n p : ℕ) (xs : List ℕ) → ((k : ℕ) → k < p → k < length xs → get_or xs k 0 ≤ n) →
     ((k : ℕ) → p ≤ k → k < length xs → n < get_or xs k 0) → drop p xs ≡ beyond n xs
 cut_beyond n zero [] a b = refl

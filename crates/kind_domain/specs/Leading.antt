@@ -27,7 +27,7 @@ is_lent_in o (Owned t s) = false
 is_lent_in o (Lent t s root from) = same_root root o
 is_lent_in o (Credit k) = false
 
--- A register of this kind leads to register r: it came from its cell, or is lent of it.
+-- A register of this kind leads to register r: it came from its cell, or is borrowed from it.
 abbrev pub leads : ℕ → Kind → Bool
 leads r k = names r (from_of k) || is_lent_of r k
 
@@ -82,7 +82,7 @@ pub record Gathers (ks : List Kind) (r : ℕ) (qs : List ℕ) : Type 0 where
   pub own : (q : ℕ) → leads r (at ks q) ≡ true → has qs q ≡ true
   pub further : (p q : ℕ) → has qs p ≡ true → leads p (at ks q) ≡ true → has qs q ≡ true
 
--- What leads to a register of a list is in the list, unless that register stands from place n on.
+-- What leads to a register of a list is in the list, unless that register is from place n on.
 abbrev pub ClosedBelow : List Kind → List ℕ → ℕ → Type 0
 ClosedBelow ks qs n =
     (p q : ℕ) → has qs p ≡ true → leads p (at ks q) ≡ true → (has (drop n qs) p ≡ true) ⊎ (has qs q ≡ true)

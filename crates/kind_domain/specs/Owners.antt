@@ -1,5 +1,5 @@
--- Only what this crate keeps: the root of a lent register is kept as a name of the register that owns the tree, so that
--- another register can become the owner of all that is lent of one.
+-- Only what this crate keeps: the root of a borrowed register is kept as a name of the register that owns the tree, so
+-- that another register can become the owner of all that is borrowed from one.
 use Rattle.std.specs.Prelude.{◌≡◌, ℕ, List, Option, Some, None, length, slice_get, ◌==◌, if◌then◌else◌}
 use Rattle.cell_code.specs.declared.kind.Kind.{Kind}
 use Rattle.cell_code.specs.declared.kind.Kind.TheVariants.{Gone, Scalar, Owned, Lent, Credit}

@@ -20,7 +20,7 @@ abbrev pub is_one : Option ℕ → ℕ → Bool
 is_one None x = false
 is_one (Some c) x = x == c
 
--- what stands after the first numbers that aren't greater
+-- what is after the first numbers that aren't greater
 abbrev pub beyond : ℕ → List ℕ → List ℕ
 beyond n [] = []
 beyond n (x ∷ xs) = if nat_lt n x then x ∷ xs else beyond n xs

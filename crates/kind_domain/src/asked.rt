@@ -1,4 +1,4 @@
-// What label maps ask of registers.
+// What label maps require of registers.
 ghost use Rattle.std.specs.Prelude.{◌≡◌, ◌<◌, ◌≤◌, ◌++◌, ◌+◌, ℕ, length, map, IfOk, OnOk};
 ghost use Rattle.cell_code.specs.Plain.{plain_label};
 ghost use Rattle.code_rules.specs.Kinds.{is_free};
@@ -29,14 +29,15 @@ pub struct Ask {
     pub says: Says,
 }
 
-/// What a label map asks: the registers of which it says more than Gone, and how many of them may not be overwritten.
+/// What a label map requires: the registers of which it says more than Gone, and how many of them may not be
+/// overwritten.
 #[derive(Drop)]
 pub struct Asked {
     pub asks: Vec<Ask>,
     pub busy: usize,
 }
 
-/// What each of some label maps asks, one after another. NoMemory: no memory is left.
+/// What each of some label maps requires, one after another. NoMemory: no memory is left.
 pub fn asked_by(alloc: Global, labels: &[Label]) -> Result<Vec<Asked>, NoMemory>
     ensures asks { IfOk result (λ v. AreAsked (map plain_label labels.now) v.items) }
     ensures many { IfOk result (λ v. length v.items ≡ length labels.now) }
@@ -48,7 +49,7 @@ pub fn asked_by(alloc: Global, labels: &[Label]) -> Result<Vec<Asked>, NoMemory>
     Ok(asked)
 }
 
-// What a label map asks.
+// What a label map requires.
 fn asked_of(alloc: Global, label: &Label) -> Result<Asked, NoMemory>
     ensures is { IfOk result (λ a. length (plain_label label.now).kinds < 65536 →
         IsAsked (plain_label label.now).kinds a) }

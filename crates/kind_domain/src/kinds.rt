@@ -1,4 +1,4 @@
-// What is known of each register, with names for the roots of lent ones.
+// What is known of each register, with names for the roots of borrowed ones.
 ghost use Rattle.std.specs.Prelude.{◌≡◌, ◌∷◌, ◌+◌, ◌<◌, ℕ, [], set, map, drop, length, None, IfOk, IfSome};
 ghost use Rattle.code_rules.specs.Kinds.{are_free, at};
 ghost use Rattle.kind_domain.specs.Owners.{number_at, root_by, rooted, swapped};
@@ -9,8 +9,8 @@ use fip_base::plain::NoMemory;
 use std::alloc::Global;
 use std::marker::Model;
 
-/// What is known of each register. The root of a lent one is kept as a name of the register that owns the tree, so that
-/// another can become the owner of all that is lent of one.
+/// What is known of each register. The root of a borrowed one is kept as a name of the register that owns the tree, so
+/// that another can become the owner of all that is borrowed from one.
 #[derive(Drop)]
 pub struct Kinds<'a> {
     items: Vec<Known<'a>>,
@@ -91,7 +91,7 @@ impl<'a> Kinds<'a> {
         }
     }
 
-    /// What is lent of one of two registers is lent of the other from now on.
+    /// What is borrowed from one of two registers is borrowed from the other from now on.
     pub fn swap(&mut self, one: u16, other: u16)
         requires one { one < length self.now }
         requires other { other < length self.now }

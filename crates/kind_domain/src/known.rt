@@ -102,7 +102,7 @@ impl<'a> Known<'a> {
         }
     }
 
-    /// Whether it is lent.
+    /// Whether it is borrowed.
     pub fn is_lent(self) -> bool
         ensures is { result ≡ is_lent (kind_of self.entry) }
     {
@@ -194,7 +194,7 @@ impl<'a> Known<'a> {
         }
     }
 
-    /// Whether it may be lent as a tree of a type: in a tail call only where a frame below owns it.
+    /// Whether it may be borrowed as a tree of a type: in a tail call only where a frame below owns it.
     pub fn is_lendable(self, in_tail: bool, wanted: u32) -> bool
         ensures is { result ≡ is_lendable in_tail wanted (kind_of self.entry) }
     {
@@ -416,7 +416,7 @@ impl<'a> Known<'a> {
         }
     }
 
-    /// The same, owned where it was lent.
+    /// The same, owned where it was borrowed.
     pub fn inherited(self) -> Known<'a>
         ensures is { kind_of result ≡ inherited (kind_of self.entry) }
     {

@@ -8,7 +8,7 @@ use fip_base::plain::NoMemory;
 use std::alloc::Global;
 use std::marker::Model;
 
-/// A list of registers, in which each stands once. It has room for all. Beside each an heir may be kept.
+/// A list of registers, in which each occurs once. It has room for all. Beside each an heir may be kept.
 #[derive(Drop)]
 pub struct Lents {
     items: Vec<u16>,

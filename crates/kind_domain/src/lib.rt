@@ -1,5 +1,5 @@
 // The abstract domain of the verifier: what is known of one register, the sets of constructors that are part of it, what
-// label maps ask, and the lists by which a step finds the registers that it changes.
+// label maps require, and the lists by which a step finds the registers that it changes.
 #![tactic(auto)]
 
 pub mod asked;

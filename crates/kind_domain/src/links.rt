@@ -1,4 +1,4 @@
-// Which registers may lead to a register: came from its cell, or are lent of it.
+// Which registers may lead to a register: came from its cell, or are borrowed from it.
 ghost use Rattle.std.specs.Prelude.{◌≡◌, ℕ, true, IfSome};
 ghost use Rattle.code_rules.specs.Kinds.{has};
 ghost use Rattle.kind_domain.specs.Leading.{Linked};

@@ -77,7 +77,7 @@ impl<'a> Set<'a> {
     }
 }
 
-// Whether a number stands among numbers, where they rise.
+// Whether a number is among numbers, where they rise.
 pub(crate) fn is_listed(numbers: &[u32], number: u32) -> bool
     ensures is { Rise numbers.now → result ≡ has numbers.now number }
 {
@@ -225,7 +225,7 @@ fn has_below(numbers: &[u32], low: u32, end: u32) -> bool
     has_all(numbers, low, end - 1)
 }
 
-// Whether rising numbers have all from behind one to another.
+// Whether rising numbers have all from after one to another.
 fn has_after(numbers: &[u32], start: u32, high: u32) -> bool
     requires rise { Rise numbers.now }
     ensures yes { result ≡ true → (x : ℕ) → start < x → x ≤ high → has numbers.now x ≡ true }
@@ -365,7 +365,7 @@ pub(crate) fn is_lacked(lacked: Option<u32>, number: u32) -> bool
     }
 }
 
-// What stands after a number in a rising list; none where it isn't there. Numbers that follow one another are found at
+// What is after a number in a rising list; none where it isn't there. Numbers that follow one another are found at
 // once.
 pub(crate) fn following(numbers: &[u32], number: u32) -> Option<&[u32]>
     requires rise { Rise numbers.now }
@@ -397,7 +397,7 @@ fn search(numbers: &[u32], number: u32) -> Option<&[u32]>
 }
 
 // Among how many of rising numbers one has to be looked for: all after these are greater. It is at most twice the
-// place where it stands, but for one.
+// place where it is, but for one.
 fn enough(numbers: &[u32], number: u32) -> usize
     ensures within { result ≤ length numbers.now }
     ensures greater { result < length numbers.now → number < get_or numbers.now result 0 }

@@ -1,2 +1,2 @@
-// The programs of the library as values of typed programs: what the text of each comes to.
+// The programs of the library as values of typed programs: what the text of each denotes.
 #![tactic(auto)]

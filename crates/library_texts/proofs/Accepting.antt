@@ -36,7 +36,7 @@ within_limits tb ms i (d ∷ ds) v h (inr b) = within_limits tb ms (suc i) ds v 
 
 -- ---- all rules after typing
 
--- Each part computes; what is told of the calls is told.
+-- Each part computes; what is said of the calls is said.
 pub record BreaksNone (p : Program) (t : Told) : Type 0 where
   pub shapes : shape_faults 0 p.instances ≡ []
   pub matches : all_right p.types p.instances ≡ true

@@ -1,4 +1,4 @@
--- What a text comes to, by computation: each phase's result is one, so it is the one that is computed here. The tokens
+-- What a text denotes, by computation: each phase's result is one, so it is the one that is computed here. The tokens
 -- are cut off one after another, the grammar's machine reads the tree, and the instances and the types are numbered
 -- for the case that each function is a root, and that each type is named by one.
 use Rattle.std.proofs.Common.{◌≡◌, ◌≤◌, ℕ, Bool, true, false, ◌&&◌, if◌then◌else◌, List, [], ◌∷◌, ◌++◌, length, append-nil, append_assoc, refl, sym, ap, ap₂, subst, ◌∙◌, arith}
@@ -43,7 +43,7 @@ abbrev pub tree_or_none : Outcome Surface.Program → Surface.Program
 tree_or_none (Accepted x) = x
 tree_or_none (Stopped at) = []
 
--- the tree of a text that is spelt
+-- the tree of a text that is spelled
 abbrev pub tree_in : List ℕ → Surface.Program
 tree_in text = tree_or_none (run machine_step machine_end start (tokens_in text) 0)
 
@@ -58,7 +58,7 @@ met true x next again on = again
 met false x [] again on = false
 met false x (e ∷ es) again on = same_closed x e && on e es
 
--- After those that were seen, just the next ones stand first in the list, in this order. The seen ones are written
+-- After those that were seen, just the next ones are first in the list, in this order. The seen ones are written
 -- out at each step, so that the rest of the list is looked at once.
 abbrev pub follow : List Closed → List Closed → List Closed → Bool
 follow seen next [] = none_left next

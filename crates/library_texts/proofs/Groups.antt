@@ -1,5 +1,5 @@
--- The groups of a program, as they are told, are right, and no instance waits for its own group: by computation. What a
--- function reaches is a list that no call leads out of.
+-- The groups of a program, as they are written out, are right, and no instance waits for its own group: by computation.
+-- What a function reaches is a list that no call leads out of.
 use Rattle.std.proofs.Common.{◌≡◌, ◌<◌, inl, inr, ℕ, zero, suc, ◌+◌, Bool, true, false, ◌&&◌, ◌||◌, not, ◌==◌, if◌then◌else◌, List, [], ◌∷◌, length, Option, Some, None, refl, sym, ap, subst, ◌∙◌, arith}
 use Rattle.std.specs.Prelude.{◌↔◌, slice_get}
 use Rattle.std.specs.List.{list_any}

@@ -1,4 +1,4 @@
--- The text `list` comes to its program, by computation.
+-- The text `list` denotes its program, by computation.
 use Rattle.std.proofs.Common.{◌<◌, ℕ, zero, suc, List, [], ◌∷◌, refl, arith}
 use Rattle.library_sources.specs.declared.list.TheConstants.{TEXT}
 use Rattle.source_report.specs.data_types.Declarations.{declarations}

@@ -17,7 +17,7 @@ use Rattle.source_report.proofs.fip_grammar.Least.{Reads, reads_start, reads_nex
 use Rattle.library_texts.proofs.Cutting.{none_held, all_pieces, tokens_in, is_cut}
 use Rattle.library_texts.proofs.Deriving.{tree_in}
 
--- ---- what is asked of a token
+-- ---- what is required of a token
 
 abbrev pub is_shallow : Bool → ℕ → Bool
 is_shallow opens n = not opens || nat_lt n 100

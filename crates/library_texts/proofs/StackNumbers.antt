@@ -1,5 +1,5 @@
--- What is told of a program's calls is right, and so are its stack numbers: by computation. They keep each inequation, and
--- each is a base or comes of a call of a function of a lower rank, so they are the least.
+-- What is said of a program's calls is right, and so are its stack numbers: by computation. They keep each inequation,
+-- and each is a base or comes of a call of a function of a lower rank, so they are the least.
 use Rattle.std.proofs.Common.{◌≡◌, ◌<◌, ◌≤◌, ◌⊎◌, inl, inr, ℕ, zero, suc, ◌+◌, Bool, true, false, ◌&&◌, ◌||◌, not, ◌==◌, List, [], ◌∷◌, length, map, Option, Some, None, get_or, refl, sym, ap, subst, arith}
 use Rattle.std.specs.Prelude.{◌↔◌, slice_get, nat_le, nat_lt}
 use Rattle.std.proofs.lemmas.Bool.{and_parts, cases_lt}
@@ -132,7 +132,7 @@ module _ (rs : List (List Call)) (frames : List (Option ℕ)) (base own nums ran
 abbrev stacks_agree : List (Option ℕ) → List (Option Stack) → ℕ → Bool
 stacks_agree frames ss f = agree (is_full (slice_get frames f)) (has_stack (slice_get ss f))
 
--- what is told of a program's calls: frames, groups, registers and stack numbers, and ranks for both of these
+-- what is said of a program's calls: frames, groups, registers and stack numbers, and ranks for both of these
 pub record Told : Type 0 where
   pub calls : List (List Call)
   pub frames : List (Option ℕ)
@@ -192,7 +192,7 @@ registers_agree (Some d) (Some m) = m.registers == registers d
 abbrev counts_agree : List Instance → List Member → ℕ → Bool
 counts_agree ds ms i = registers_agree (slice_get ds i) (slice_get ms i)
 
--- what is told is right
+-- what is said is right
 pub record IsTold (ds : List Instance) (t : Told) : Type 0 where
   pub calls : call_rows ds ≡ t.calls
   pub frames : map frame ds ≡ t.frames

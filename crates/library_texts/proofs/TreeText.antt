@@ -1,4 +1,4 @@
--- The text `tree` comes to its program, by computation.
+-- The text `tree` denotes its program, by computation.
 use Rattle.std.proofs.Common.{◌<◌, ℕ, zero, suc, List, [], ◌∷◌, refl, arith}
 use Rattle.library_sources.specs.declared.tree.TheConstants.{TEXT}
 use Rattle.source_report.specs.data_types.Declarations.{declarations}

@@ -26,7 +26,7 @@ use Rattle.library_texts.proofs.Cutting.{all_pieces, tokens_in}
 use Rattle.library_texts.proofs.Deriving.{tree_in, at_most, IsPlain, numbers_of, plain_few, program_of}
 use Rattle.library_texts.proofs.Reading.{reads, is_spelt}
 
--- The text is cut, read and spelt, and no longer than a source may be.
+-- The text is cut, read and spelled, and no longer than a source may be.
 pub record IsReadable (text : List ℕ) : Type 0 where
   pub cut : is_some (all_pieces (length text) text) ≡ true
   pub read : reads nothing_seen start (tokens_in text) ≡ true

@@ -1,4 +1,4 @@
--- What a text comes to, if anything: no other program is its typed program. A text that breaks a rule comes to any
+-- What a text denotes, if anything: no other program is its typed program. A text that breaks a rule denotes any
 -- program; that one is accepted at all is another statement.
 use Rattle.std.specs.Prelude.{◌≡◌, ℕ, List}
 use Rattle.source_report.specs.fip_trees.Tree.{Program}

@@ -1,4 +1,4 @@
-// What the texts of the library come to: each to the program that is written out. The theorems are the contracts of
+// What the texts of the library denote: each the program that is written out. The theorems are the contracts of
 // functions that do nothing.
 #![tactic(auto)]
 
@@ -22,8 +22,8 @@ pub fn the_texts_come_to_the_programs()
     ensures finger { ComesTo finger_text.TEXT.now finger_program }
 {}
 
-/// Each text of the library is spelt, its declarations, its uses of functions and its types break no rule, and its typed
-/// program is the one that is written out. For who has the program typed again.
+/// Each text of the library is spelled, its declarations, its uses of functions and its types break no rule, and its
+/// typed program is the one that is written out. For who has the program typed again.
 pub fn the_texts_are_well_typed()
     ensures list { IsTyped list_text.TEXT.now list_program }
     ensures tree { IsTyped tree_text.TEXT.now tree_program }

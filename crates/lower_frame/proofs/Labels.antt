@@ -1,4 +1,4 @@
--- Labels that are made, or get their place, and what is reported where they stand.
+-- Labels that are made, or get their place, and what is reported where they are.
 use Rattle.std.proofs.Common.{◌≡◌, ◌⊎◌, inl, inr, refl, sym, ap, ◌∙◌, subst, arith, true≢false, ℕ, zero, suc, ◌≤◌, ◌<◌, ◌-◌, Bool, true, false, List, [], ◌∷◌, ◌++◌, length, length-append, map, take, Option, Some, None, slice_get, slice_set}
 use Rattle.std.specs.Prelude.{option_map, is_some, if◌then◌else◌, ◌==◌}
 use Rattle.std.proofs.lemmas.Bool.{cases_eq, eqb-true, eqb-false}

@@ -56,7 +56,7 @@ abbrev pub is_held_of : List Held → ℕ → Option Credit → Bool
 is_held_of hs n None = false
 is_held_of hs n (Some c) = (c.size == n) && is_credit (slice_get hs c.register)
 
--- none stands from place a up to b
+-- none is from place a up to b
 abbrev pub NoneBetween : ℕ → ℕ → List Held → List Credit → ℕ → Type 0
 NoneBetween a b hs cs n = (i : ℕ) → a ≤ i → i < b → is_held_of hs n (slice_get cs i) ≡ false
 

@@ -1,7 +1,8 @@
--- It serves the proof that the code of a source has a file: what is lowered can be spelt. Each instruction of a function
--- has a text, and so has each kind of its label maps; instructions and maps are so few that four bytes tell how many.
+-- It serves the proof that the code of a source has a file: what is lowered can be encoded. Each instruction of a
+-- function has a text, and so has each kind of its label maps; instructions and maps are so few that four bytes hold
+-- how many.
 --
--- Ret [0] is spelt, by the bytes 14, 1, 0 and 0. Ret of 300 registers isn't, since their count stands in one byte.
+-- Ret [0] is encoded, by the bytes 14, 1, 0 and 0. Ret of 300 registers isn't, since their count is in one byte.
 use Rattle.std.specs.Prelude.{◌≡◌, ◌<◌, ℕ, true, List, length, Option, Some, is_some, slice_get}
 use Rattle.cell_code.specs.declared.kind.Kind.{Kind}
 use Rattle.cell_code.specs.declared.kind.Label.{Label}

@@ -15,8 +15,8 @@ use std::alloc::Global;
 use std::marker::Model;
 
 /// Instructions, whose jumps and tests go to labels; the places of labels, where they are known; and what is known of
-/// the registers at some places, which rise and have a label each. A file spells all of it. Where a label has its place,
-/// it is reported what is known, but at the first instruction; each tree may have some constructor.
+/// the registers at some places, which rise and have a label each. A file encodes all of it. Where a label has its
+/// place, it is reported what is known, but at the first instruction; each tree may have some constructor.
 #[derive(Drop)]
 pub struct Buffer {
     instrs: Vec<Instr>,
@@ -58,7 +58,7 @@ impl Buffer {
         self.instrs.len() as u32
     }
 
-    /// Writes an instruction; a jump or a test names a label. An error where no file spells it, or one more.
+    /// Writes an instruction; a jump or a test names a label. An error where no file encodes it, or one more.
     #[tactic(auto, using(crate::proofs::Labels::placing, crate::proofs::Spelt::spelling))]
     pub fn add(&mut self, instr: Instr) -> Result<(), NoMemory>
         ensures added { OnOk result (self.new ≡ added self.old instr) }
@@ -87,8 +87,8 @@ impl Buffer {
     }
 
     /// The place of a label is that of the next instruction, and these kinds are known there, in the place of narrower
-    /// ones that were reported; an error where the label has a place, where no file spells one of the kinds, or where a tree
-    /// has no constructor. After an error all is as it was.
+    /// ones that were reported; an error where the label has a place, where no file encodes one of the kinds, or where
+    /// a tree has no constructor. After an error all is as it was.
     #[tactic(auto, using(crate::proofs::Labels::placing, crate::proofs::Spelt::spelling))]
     pub fn put_label(&mut self, label: u32, kinds: Vec<Kind>) -> Result<(), NoMemory>
         ensures extends { OnOk result (Extends self.old self.new) }
@@ -111,7 +111,7 @@ impl Buffer {
     }
 
     /// The instructions, with the places of labels for the labels, and what is known at places. For a label that has no
-    /// place stands that of the first instruction.
+    /// place is that of the first instruction.
     pub fn into_parts(self) -> Result<(Vec<Instr>, Vec<Label>), NoMemory>
         ensures instrs { IfOk result (λ p. p.0.items ≡ map (settled (place_of self.places)) self.instrs) }
         ensures few { IfOk result (λ p. length p.1.items ≤ labels self) }

@@ -174,7 +174,7 @@ impl Frame {
         }
     }
 
-    /// Where a register holds an owned tree, this is used up, and what was lent of it isn't read any more.
+    /// Where a register holds an owned tree, this is used up, and what was borrowed from it isn't read any more.
     pub fn use_up(&mut self, register: u16)
         ensures used { self.new ≡ K.using self.old (K.used self.old.held register) }
     {
@@ -273,7 +273,7 @@ impl Frame {
         None
     }
 
-    // Whether a credit of a size stands at a place, whose register holds it.
+    // Whether a credit of a size is at a place, whose register holds it.
     #[tactic(auto, using(crate::proofs::Accounts::looking))]
     fn is_held_of(&self, place: usize, size: usize) -> bool
         ensures is { result ≡ is_held_of self.now.held size (slice_get self.now.credits place) }
@@ -377,7 +377,7 @@ fn is_credit(held: Held) -> bool
     }
 }
 
-// What was lent of a register isn't read any more.
+// What was borrowed from a register isn't read any more.
 #[tactic(auto, using(crate::proofs::Frames::mapping))]
 fn lose_lent(helds: &mut Vec<Held>, register: u16)
     ensures { helds.new.items ≡ map (K.without register) helds.old.items }

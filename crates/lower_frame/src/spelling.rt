@@ -1,7 +1,7 @@
-// Whether a code file spells what is lowered. All that it doesn't spell is answered here: no program that keeps the
+// Whether a code file encodes what is lowered. All that it doesn't encode is answered here: no program that keeps the
 // rules has any of it, since no constructor has more than 16 fields, no function more than 4,096 registers or 8
-// results, no program more than 4,096 types, and none of the types that are reported of where instructions meet more than
-// 65,535 constructors.
+// results, no program more than 4,096 types, and none of the types of which labels report something more
+// than 65,535 constructors.
 ghost use Rattle.std.specs.Prelude.{◌≡◌, true};
 ghost use Rattle.cell_code.specs.declared.code.Instr.TheVariants as I;
 ghost use Rattle.cell_code.specs.declared.kind.Kind.TheVariants as K;
@@ -13,7 +13,7 @@ ghost use Rattle.lower_frame.specs.Spelled.{IsSpelt, AreKindsSpelt};
 use cell_code::{From, Instr, Kind};
 use fip_base::plain::Operator;
 
-/// Whether a file spells an instruction.
+/// Whether a file encodes an instruction.
 pub fn is_spelt(instr: &Instr) -> bool
     ensures spelt { result ≡ true → IsSpelt (instr_text instr.now) }
 {
@@ -179,7 +179,7 @@ fn jump(target: u32) -> bool
     true
 }
 
-// Two bytes tell the number of a type.
+// Two bytes hold the number of a type.
 #[tactic(auto, using(crate::proofs::Spelt::numbers))]
 fn is_type(ty: u32) -> bool
     ensures spelt { result ≡ true → IsSpelt (two ty) }
@@ -194,14 +194,14 @@ fn list(registers: &[u16]) -> bool
     registers.len() <= u8::MAX as usize
 }
 
-// Two bytes tell how many registers there are.
+// Two bytes hold how many registers there are.
 fn are_arguments(registers: &[u16]) -> bool
     ensures spelt { result ≡ true → IsSpelt (arguments_text registers.now) }
 {
     registers.len() <= u16::MAX as usize
 }
 
-/// Whether a file spells each of these kinds.
+/// Whether a file encodes each of these kinds.
 pub fn are_spelt(kinds: &[Kind]) -> bool
     ensures spelt { result ≡ true → AreKindsSpelt kinds.now }
 {
@@ -265,7 +265,7 @@ fn credit(size: u8) -> bool
     true
 }
 
-// Two bytes tell how many constructors there are.
+// Two bytes hold how many constructors there are.
 fn set(constructors: &[u32]) -> bool
     ensures spelt { result ≡ true → IsSpelt (set_text constructors.now) }
 {

@@ -1,4 +1,4 @@
--- The function of `digit` is laid out as its body asks: its clauses meet after the second one.
+-- The function of `digit` is laid out as its body requires: its clauses meet after the second one.
 use Rattle.std.proofs.Common.{◌≡◌, ◌⊎◌, inl, inr, ℕ, zero, suc, ◌<◌, true, false, true≢false, List, [], ◌∷◌, Some, None, refl, sym, ap, ◌∙◌, subst, arith, slice_get}
 use Rattle.std.specs.Prelude.{codes}
 use Rattle.std.proofs.lemmas.Option.{same_Some}
@@ -161,7 +161,7 @@ failed_sight = record { root = refl; parts = λ z a. absurd a; others = others }
     others (suc (suc (suc zero))) ne away = refl
     others (suc (suc (suc (suc r)))) ne away = refl
 
--- ---- where labels stand
+-- ---- where labels are
 
 abbrev shown : (p : ℕ) (map : List Kind) (m : ℕ → Kind) → label_at choosing_digit.labels p ≡ Some map → Reports 4 map m → Shows choosing_digit p m
 shown p map m there reports other e = subst (λ map. Reports 4 map m) (same_Some map other (sym there ∙ e)) reports

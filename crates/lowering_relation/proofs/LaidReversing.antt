@@ -1,4 +1,4 @@
--- The function of `rev` is laid out as its body asks: its labels tell what is known, and each test leads to one.
+-- The function of `rev` is laid out as its body requires: its labels report what is known, and each test leads to one.
 use Rattle.std.proofs.Common.{◌≡◌, inl, inr, ℕ, zero, suc, ◌<◌, ◌≤◌, true, false, true≢false, List, [], ◌∷◌, Option, Some, None, refl, sym, ap, ◌∙◌, subst, arith, slice_get}
 use Rattle.std.specs.Prelude.{codes}
 use Rattle.std.proofs.lemmas.Option.{same_Some}
@@ -156,7 +156,7 @@ failed_sight = record { root = refl; parts = unread; others = others }
     others (suc (suc (suc (suc (suc (suc zero)))))) ne away = refl
     others (suc (suc (suc (suc (suc (suc (suc r))))))) ne away = refl
 
--- no label stands at 0, 2 and 5
+-- no label is at 0, 2 and 5
 abbrev shown : (p : ℕ) (map : List Kind) (m : ℕ → Kind) → label_at reversing.labels p ≡ Some map → Reports 7 map m → Shows reversing p m
 shown p map m there reports other e = subst (λ map. Reports 7 map m) (same_Some map other (sym there ∙ e)) reports
 

@@ -1,4 +1,4 @@
--- Lists: what stands where after a change, credits that are taken, numbers that are apart.
+-- Lists: what is there where after a change, credits that are taken, numbers that are apart.
 use Rattle.std.proofs.Common.{◌≡◌, ◌⊎◌, inl, inr, ℕ, zero, suc, ◌<◌, ◌≤◌, List, [], ◌∷◌, ◌++◌, Option, Some, None, Bool, true, false, refl, sym, ap, ◌∙◌, subst, ⊎_elim, arith, slice_get, slice_set}
 use Rattle.std.specs.Prelude.{option_map, ◌==◌, if◌then◌else◌}
 use Rattle.std.proofs.lemmas.Option.{slice_get-map}
@@ -11,7 +11,7 @@ use Rattle.lowering_relation.specs.declared.held.Credit.{Credit}
 use Rattle.lowering_relation.specs.Known.{IsTaken, is_owned, lent_by, without, used_if, used, used_all}
 pub use Rattle.match_knowledge.proofs.fip_base.fip_language.Facts.{same_some}
 
--- what stands at j after a change at i
+-- what is at j after a change at i
 pub set_get : {A : Type 0} (xs : List A) (i : ℕ) (x : A) (j : ℕ) (y : A) → slice_get (slice_set xs i x) j ≡ Some y → ((j ≡ i → ⊥) × (slice_get xs j ≡ Some y)) ⊎ ((j ≡ i) × (x ≡ y))
 set_get [] i x j y h = absurd (cc)
 set_get (z ∷ zs) zero x zero y h = inr (refl, same_some x y h)

@@ -1,4 +1,4 @@
--- The function of `pick` is laid out as its body asks: each clause drops what it leaves over.
+-- The function of `pick` is laid out as its body requires: each clause drops what it leaves over.
 use Rattle.std.proofs.Common.{◌≡◌, ◌⊎◌, inl, inr, ℕ, zero, suc, ◌<◌, true, false, true≢false, List, [], ◌∷◌, Some, None, refl, sym, ap, ◌∙◌, subst, arith, slice_get, take, ◌-◌}
 use Rattle.std.specs.Prelude.{codes}
 use Rattle.std.proofs.lemmas.Option.{same_Some}
@@ -173,7 +173,7 @@ failed_sight = record { root = refl; parts = λ z a. absurd a; others = others }
     others (suc (suc (suc zero))) ne away = refl
     others (suc (suc (suc (suc r)))) ne away = refl
 
--- ---- where labels stand
+-- ---- where labels are
 
 abbrev shown : (p : ℕ) (map : List Kind) (m : ℕ → Kind) → label_at picking.labels p ≡ Some map → Reports 4 map m → Shows picking p m
 shown p map m there reports other e = subst (λ map. Reports 4 map m) (same_Some map other (sym there ∙ e)) reports

@@ -61,7 +61,7 @@ mutual
       (extends_on x.written (read_one x r i (register s)).written (reading p k s (read_one x r i (register s))).written (read_one_extends x r i (register s)) (reading_extends p k s (read_one x r i (register s))))
       (first_extends ps ks ss r (suc i) x)
 
--- where the code comes to, and what registers hold there
+-- what the code reaches, and what registers hold there
 pub record Reads (x y : Reading) (code : List Instr) (cs : Contents) (within : List ℕ) : Type 0 where
   pub contents : Contents
   pub reaches : Reaches code (place (size x.written) cs) (place (size y.written) contents)

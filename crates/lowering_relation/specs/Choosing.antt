@@ -1,7 +1,7 @@
 -- It serves the proofs on lowered code: which instructions choose the clause of a match. They test the scrutinee and
 -- read its parts, and lead to the entry of the first clause that matches, with the values of its variables in their
--- registers. It is said what these instructions come to, not which they are.
--- In match! xs { Nil -> a; Cons(x, t) -> b } with xs in register 0, from Test 0 0 7 a list Cons(1, Nil) comes to the
+-- registers. It is said what these instructions end in, not which they are.
+-- In match! xs { Nil -> a; Cons(x, t) -> b } with xs in register 0, from Test 0 0 7 a list Cons(1, Nil) reaches the
 -- entry of b, where the registers of x and t hold 1 and Nil.
 use Rattle.std.specs.Prelude.{◌≡◌, ◌⊎◌, ◌≤◌, ℕ, zero, suc, List, [], ◌∷◌, Option, Some, None, option_map}
 use Rattle.std.specs.Prelude.{option_and_then, slice_get, if◌then◌else◌}

@@ -1,4 +1,4 @@
--- It serves the proof that lowered code is sound: how results are handed on, and how operators and calls stand in a
+-- It serves the proof that lowered code is sound: how results are handed on, and how operators and calls are in a
 -- function's code, with what is given up before its end.
 use Rattle.std.specs.Prelude.{◌≡◌, ℕ, suc, Bool, List, [], ◌∷◌, ◌++◌, Some, slice_get}
 use Rattle.tree_semantics.specs.fip_language.declared.Place.{Place}

@@ -1,6 +1,6 @@
 -- It serves the proof that lowered code is sound: how the clauses of a match that is bound by a let meet. Where the
 -- body of a clause ends, constructors that were matched are used up, and in fbip what it leaves over is given up. All
--- clauses but the last one jump to the place where they meet, which stands after the last one's. What is known there
+-- clauses but the last one jump to the place where they meet, which is after the last one's. What is known there
 -- is what is known at the ends of all.
 -- In  let y = match! xs { Nil -> a; Cons(x, t) -> b };  the code of the first clause ends in a move to the register of
 -- y, which is Move 3 1, and a Jump after that of the second one. Where register 1 owns a list at the end of the first
@@ -82,8 +82,8 @@ pub record Met (k l m : Known) : Type 0 where
   pub credits : m.credits ≡ still_held m.held k.credits
   pub next : m.next ≡ k.next
 
--- Where the clauses meet a label stands, and more registers may be used already. The label takes what is reported where
--- other code stands there; where other clauses meet at the same place, it takes what is reported of these.
+-- Where the clauses meet there is a label, and more registers may be used already. The label takes what is reported
+-- where other code is there; where other clauses meet at the same place, it takes what is reported of these.
 pub record Meets (f : PlainFunction) (met : Known) (end : ℕ) (after : Known) : Type 0 where
   pub next : ℕ
   pub more : met.next ≤ next

@@ -58,7 +58,7 @@ abbrev pub lent_by : ℕ → Option ℕ → Held → Held
 lent_by r None h = h
 lent_by r (Some q) h = if q == r then H.Nothing else h
 
--- what was lent of register r isn't read any more
+-- what was borrowed from register r isn't read any more
 abbrev pub without : ℕ → Held → Held
 without r H.Nothing = H.Nothing
 without r (H.Scalar t) = H.Scalar t

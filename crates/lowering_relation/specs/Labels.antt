@@ -1,4 +1,4 @@
--- It serves the proof that lowered code is sound: what the labels of a function tell, and which stand in a straight
+-- It serves the proof that lowered code is sound: what the labels of a function report, and which are in a straight
 -- part of its code.
 use Rattle.std.specs.Prelude.{◌≡◌, ℕ, ◌<◌, true, List, Some, None, length}
 use Rattle.code_rules.specs.cell_code.declared.kind.Kind.{Kind}
@@ -18,7 +18,7 @@ pub record Takes (n : ℕ) (map : List Kind) (m : ℕ → Kind) : Type 0 where
   pub wide : length map ≡ n
   pub each : (r : ℕ) → fits (at map r) (m r) ≡ true
 
--- a label stands at p and takes these kinds
+-- a label is at p and takes these kinds
 pub record Catches (f : PlainFunction) (p : ℕ) (m : ℕ → Kind) : Type 0 where
   pub map : List Kind
   pub there : label_at f.labels p ≡ Some map
@@ -33,7 +33,7 @@ pub record Reports (n : ℕ) (map : List Kind) (m : ℕ → Kind) : Type 0 where
 abbrev pub Shows : PlainFunction → ℕ → (ℕ → Kind) → Type 0
 Shows f p m = (map : List Kind) → label_at f.labels p ≡ Some map → Reports f.registers map m
 
--- From a up to b no label stands after a, and one at a reports just these kinds.
+-- From a up to b no label is after a, and one at a reports just these kinds.
 pub record Quiet (f : PlainFunction) (a b : ℕ) (m : ℕ → Kind) : Type 0 where
   pub first : a < b → Shows f a m
   pub others : (p : ℕ) → a < p → p < b → label_at f.labels p ≡ None

@@ -1,5 +1,5 @@
 -- It serves the proof that lowered code is sound: which instructions compute an expression or a block, with the labels
--- and the instructions that give up what is left. The bodies of a match's clauses stand in the order of the text, each
+-- and the instructions that give up what is left. The bodies of a match's clauses are in the order of the text, each
 -- after the tests that choose it; where a let binds the match, they give its value to the let's registers and meet
 -- after the last one.
 use Rattle.std.specs.Prelude.{◌≡◌, ◌⊎◌, ◌≤◌, ℕ, suc, Bool, List, [], ◌∷◌}
@@ -19,7 +19,7 @@ use Rattle.lowering_relation.specs.Credits.{LastGone}
 use Rattle.lowering_relation.specs.Joins.{BaresEnd, ClauseEnds, Met, Meets}
 use Rattle.lowering_relation.specs.Handed.{GivenLaid, OperationLaid, CallLaid}
 
--- Values are computed into registers, and nothing else stands there. The last credits of each size are used.
+-- Values are computed into registers, and nothing else is there. The last credits of each size are used.
 pub record ValuesLaid (c : PlainCode) (st : Setting) (f : PlainFunction) (at : ℕ) (k : Known) (as' : Arguments)
     (rs : List ℕ) (mid : ℕ) (m : Known) : Type 0 where
   pub arguments : ArgumentsAt st f.instrs at k as' rs mid m

@@ -1,6 +1,6 @@
 -- It serves the proof that lowered code is sound: the functions of three examples, with their labels.
 -- fip fun rev(xs: ints, acc: ints): ints { match! xs { Nil -> acc; Cons(x, t) -> rev(t, Cons(x, acc)) } }
--- is lowered to Test 0 0 3; Take 0 []; Ret [1]; Take 0 [2, 3]; Put 0 2 1 [2, 1]; Tail 0 [3, 0]. Labels stand at 1,
+-- is lowered to Test 0 0 3; Take 0 []; Ret [1]; Take 0 [2, 3]; Put 0 2 1 [2, 1]; Tail 0 [3, 0]. Labels are at 1,
 -- where the list is Nil, at 3, where the test of Nil failed, and at 4, where Cons(x, t) was taken apart.
 use Rattle.std.specs.Prelude.{pos, true, false, List, [], ◌∷◌, None, codes, replicate}
 use Rattle.tree_semantics.specs.fip_language.declared.FunKind.TheVariants.{Fip, Fbip}
@@ -43,7 +43,7 @@ abbrev pub lists_code : PlainCode
 lists_code = record { types = lists.types; functions = reversing ∷ [] }
 
 -- fip fun digit(^b: bool): int { let n = match b { False -> 0; True -> 1 }; n }
--- is lowered to Test 0 0 4; Const 2 0; Move 1 2; Jump 6; Const 3 1; Move 1 3; Ret [1]. Labels stand at the clauses'
+-- is lowered to Test 0 0 4; Const 2 0; Move 1 2; Jump 6; Const 3 1; Move 1 3; Ret [1]. Labels are at the clauses'
 -- bodies, 1 and 4, and at 6, where the clauses meet: there the register of n holds an int, and nothing is known of 2
 -- and 3, which one clause alone has written.
 abbrev pub choosing : Expression

@@ -1,4 +1,4 @@
--- It serves the proofs on lowered code: what the tests of a match come to. From a place where something is known of the
+-- It serves the proofs on lowered code: what the tests of a match end in. From a place where something is known of the
 -- scrutinee's value and some of its parts were read, the code leads to the label of the first clause that matches, with
 -- the values of its variables in their registers.
 use Rattle.std.specs.Prelude.{◌≡◌, ◌<◌, ◌≤◌, ℕ, Bool, true, false, List, Option, Some, None}

@@ -3,9 +3,8 @@
 -- names of the registers that arguments are computed into; of an operator or a call they get registers of their own.
 -- The last expression of
 --   let y = x + 1; f(y)
--- where x is in register 0 and 1 is the next one, is lowered to Const 2 1; Arith 1 + 0 2; Tail f [1].
--- Of the instructions that choose the clause of a match it says only what they come to; each clause has its body
--- once.
+-- where x is in register 0 and 1 is the next one, is lowered to Const 2 1; Arith 1 + 0 2; Tail f [1]. Of the
+-- instructions that choose the clause of a match it says only what they end in; each clause has its body once.
 use Rattle.std.specs.Prelude.{◌≡◌, ◌⊎◌, ◌<◌, ◌≤◌, ◌+◌, ℕ, suc, Bool}
 use Rattle.std.specs.Prelude.{true, false, List, [], ◌∷◌, ◌++◌, Option, Some, None}
 use Rattle.std.specs.Prelude.{length, slice_get, slice_set, get_or, if◌then◌else◌}
@@ -135,7 +134,7 @@ pub record IsOperation (code : List Instr) (at : ℕ) (k : Known) (o : Operator)
 
 -- a call
 
--- what isn't lent is used up
+-- what isn't borrowed is used up
 abbrev pub handed : List Held → List Param → List ℕ → List Held
 handed hs [] rs = hs
 handed hs (p ∷ ps) [] = hs
@@ -234,13 +233,13 @@ abbrev pub Joins : List Instr → Bool → Target → ℕ → Known → ℕ → 
 Joins code first Return last m end after = Unit {0}
 Joins code first (Into ds) last m end after = IsJoin code first last m end after
 
--- a clause with this entry, the first one or another, whose body stands so
+-- a clause with this entry, the first one or another, whose body is so
 abbrev pub ClauseAt :
     (ℕ → Known → ℕ → Known → Type 0) → List Instr → Known → ℕ → Entry → Bool → Target → ℕ → Known → Type 0
 ClauseAt body code l r e first target end after =
     (last : ℕ) × (m : Known) × Opens l r e.known × body e.at e.known last m × Joins code first target last m end after
 
--- From `at` to `end` stands what computes an expression, or a block, and hands its results to the target.
+-- From `at` to `end` is what computes an expression, or a block, and hands its results to the target.
 abbrev mutual
   pub ExpressionAt : Setting → List Instr → ℕ → Known → Expression → Target → ℕ → Known → Type 0
   ExpressionAt s code at k (Give a) target end after =

@@ -1,7 +1,7 @@
 -- It serves the proof that lowered code is sound: how a match begins, and what is known at the entries of its clauses.
 -- Its scrutinee is a variable. A tree that was just built has one constructor; tests ask for others too, so a label
--- that takes all of them stands before. Each position below the scrutinee has a register of its own that wasn't used
--- before. A label stands at the entry of each clause's body, but at the start of a function, and takes what is reported
+-- that takes all of them is before. Each position below the scrutinee has a register of its own that wasn't used
+-- before. A label is at the entry of each clause's body, but at the start of a function, and takes what is reported
 -- there.
 use Rattle.std.specs.Prelude.{◌≡◌, ◌⊎◌, ℕ, ◌<◌, ◌≤◌, Bool, ◌&&◌, not, List, [], ◌∷◌, Option, Some, None, map, slice_get}
 use Rattle.tree_semantics.specs.fip_language.Table.{Table}

@@ -1,6 +1,6 @@
--- It serves the proof that lowered code is sound: where the label maps of a function stand, and that none of them reports
+-- It serves the proof that lowered code is sound: where the label maps of a function are, and that none of them reports
 -- of a tree that it has no constructor.
--- In a function of seven instructions maps may stand at 3 and 5, and none at 0 or at 7.
+-- In a function of seven instructions maps may occur at 3 and 5, and none at 0 or at 7.
 use Rattle.std.specs.Prelude.{◌≡◌, ℕ, ◌<◌, ◌==◌, Bool, true, ◌&&◌, not, List, [], ◌∷◌, length}
 use Rattle.code_rules.specs.cell_code.declared.kind.Kind.{Kind}
 use Rattle.code_rules.specs.cell_code.declared.kind.Kind.TheVariants as K
@@ -28,7 +28,7 @@ abbrev pub AreOpen : List LabelMap → Type 0
 AreOpen [] = Unit {0}
 AreOpen (m ∷ ms) = (are_open m.kinds ≡ true) × AreOpen ms
 
--- the maps of f stand after its first instruction, in order, and tell of each tree some constructor
+-- the maps of f are after its first instruction, in order, and report some constructor of each tree
 pub record MapsStand (f : PlainFunction) : Type 0 where
   pub rising : AreRising (length f.instrs) 0 f.labels
   pub opens : AreOpen f.labels

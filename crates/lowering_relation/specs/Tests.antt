@@ -131,7 +131,7 @@ abbrev pub TakenAt : PlainCode → PlainFunction → Holding → Choice → ℕ 
 TakenAt c f g ch at k read =
     ((m : ℕ → Kind) → Sight c.types g ch.type ch.root k read m → Catches f at m) ⊎ BeginsBody c f ch at k read
 
--- the test of what a pattern asks for first; a label stands where what fails it goes, and takes what is reported there
+-- the test of what a pattern asks for first; a label is where what fails it goes, and takes what is reported there
 pub record TestLaid (c : PlainCode) (f : PlainFunction) (g : Holding) (ch : Choice) (at : ℕ) (p : M.Pattern)
     (k : Known) (read : List ℕ) (next : ℕ) (more : List ℕ) : Type 0 where
   pub mid : ℕ

@@ -15,7 +15,7 @@ abbrev pub is_number : Option ℕ → ℕ → Bool
 is_number None y = false
 is_number (Some x) y = x == y
 
--- variable y stands in an argument
+-- variable y is in an argument
 abbrev mutual
   pub uses : ℕ → Argument → Bool
   uses y (Variable x n p) = is_number x y
@@ -26,7 +26,7 @@ abbrev mutual
   uses_all y NoArguments = false
   uses_all y (MoreArguments a as') = uses y a || uses_all y as'
 
--- a parameter that isn't lent
+-- a parameter that isn't borrowed
 abbrev pub is_taken : Option Param → Bool
 is_taken None = false
 is_taken (Some p) = not p.lent

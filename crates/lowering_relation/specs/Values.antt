@@ -86,7 +86,7 @@ pub record IsVariable (at : ℕ) (k : Known) (x : Option ℕ) (r end : ℕ) (aft
   pub nothing : end ≡ at
   pub known : after ≡ k
 
--- From `at` to `end` stands what computes an argument into register r, and one that computes arguments into registers.
+-- From `at` to `end` is what computes an argument into register r, and one that computes arguments into registers.
 abbrev mutual
   pub ArgumentAt : Setting → List Instr → ℕ → Known → Argument → ℕ → ℕ → Known → Type 0
   ArgumentAt s code at k (Variable x n p) r end after = IsVariable at k x r end after

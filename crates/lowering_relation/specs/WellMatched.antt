@@ -1,4 +1,4 @@
--- It serves the proofs on lowered code: the patterns of each match are of the match's type; and what is asked of the
+-- It serves the proofs on lowered code: the patterns of each match are of the match's type; and what is required of the
 -- numbers of patterns, beside their types: literals have 64 bits, and a constructor's number is one of its type's.
 -- match xs { Nil -> a; Cons(x, t) -> b } of the type of lists is so, with Nil and Cons the constructors 0 and 1.
 use Rattle.std.specs.Prelude.{◌<◌, ℕ, length, FitsSigned}

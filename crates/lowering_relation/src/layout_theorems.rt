@@ -5,18 +5,18 @@ ghost use Rattle.lowering_relation.specs.LaidExample.{choosing_digit, digit, lis
 ghost use Rattle.lowering_relation.specs.LaidFunctions.{FunctionLaid};
 ghost use Rattle.lowering_relation.specs.LoweredExample.{lists_setting};
 
-/// The function of `rev` is laid out as its body asks. For who asks whether the definitions are met.
+/// The function of `rev` is laid out as its body requires. For who asks whether the definitions are met.
 pub fn an_example_is_laid()
     ensures theorem { FunctionLaid lists_code lists_setting Bool.true reversing rev }
 {}
 
-/// The function of `digit`, whose body binds a match by a let, is laid out as it asks.
+/// The function of `digit`, whose body binds a match by a let, is laid out as it requires.
 pub fn an_example_with_a_let_is_laid()
     ensures theorem { FunctionLaid lists_code lists_setting Bool.true choosing_digit digit }
 {}
 
-/// The fbip function of `pick`, whose body binds a match by a let, is laid out as it asks: each clause drops what it
-/// leaves over.
+/// The fbip function of `pick`, whose body binds a match by a let, is laid out as it requires: each clause drops what
+/// it leaves over.
 pub fn an_example_that_drops_is_laid()
     ensures theorem { FunctionLaid lists_code lists_setting Bool.false picking pick }
 {}

@@ -52,7 +52,7 @@ more_inv None p vs e = absurd cc
 more_inv (Some w) None vs e = absurd cc
 more_inv (Some w) (Some ws) vs e = (w, ws, refl, refl, cc)
 
--- A function's code, as it stands in a whole code: instruction p of `is` is instruction p of function f.
+-- A function's code, as it is in a whole code: instruction p of `is` is instruction p of function f.
 module _ (code : PlainCode) (width : ℕ → ℕ) (f : ℕ) (is : List Instr) (has : (p : ℕ) (i : Instr) → slice_get is p ≡ Some i → instr_at code f p ≡ Some i) (waiting : List Frame) (free : ℕ) where
   -- its frame runs, at p and with these registers
   abbrev pub state : ℕ → Contents → State

@@ -277,7 +277,7 @@ module _ (code : PlainCode) (width : ℕ → ℕ) (program : Program) (setting :
   values_run (Match ds t p a q b cs) rs at k end l env cs' left to h w go = absurd h
   values_run (Nested b) rs at k end l env cs left to h w go = absurd h
 
-  -- the same continuation, seen from behind a let
+  -- the same continuation, seen from after a let
   on_inner : (target : Target) (l : Known) (env more : Environment) (end : ℕ) (a b : Answer) (go : Values → ℕ → Coming) → ((x : ℕ) (v : Value) → env x ≡ Some v → more x ≡ Some v) → a ≡ b → On target l env end a go → On target l more end b go
   on_inner Return l env more end a b go wider e goes = goes
   on_inner (Into ds) l env more end a b go wider e goes = λ vs n es f less w held. goes vs n es (e ∙ f) less (world_less l env more es wider w) held

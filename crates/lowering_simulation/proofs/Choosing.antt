@@ -1,4 +1,4 @@
--- A run of the tests of a match comes to the clause that they choose, and what is known there is so.
+-- A run of the tests of a match reaches the clause that they choose, and what is known there is so.
 use Rattle.std.proofs.Common.{◌≡◌, ℕ, zero, suc, List, Bool, true, false, Option, Some, None, refl, sym, ap, ◌∙◌, subst, ⊎_elim, slice_get}
 use Rattle.std.specs.Prelude.{option_map, option_and_then, if◌then◌else◌}
 use Rattle.tree_refinement.specs.fip_language.Values.{Value, Values}

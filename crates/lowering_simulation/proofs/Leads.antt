@@ -1,4 +1,4 @@
--- From one state a run comes to another, or to an answer: it ends as it would from there, and its peak is the higher of
+-- From one state a run reaches another, or an answer: it ends as it would from there, and its peak is the higher of
 -- that from there and of the states between. No steps are counted.
 use Rattle.std.proofs.Common.{◌≡◌, ℕ, zero, suc, ◌+◌, List, length, Option, Some, None, refl, sym, ap, ap₂, ◌∙◌, subst, arith}
 use Rattle.tree_refinement.specs.fip_language.Values.{Value, Values}
@@ -57,7 +57,7 @@ ComesTo code width (After p c) e = (r : Evaluation) × ComesTo code width c r ×
 pub record LeadsTo (code : PlainCode) (width : ℕ → ℕ) (c d : Coming) : Type 0 where
   pub by : (e : Evaluation) → ComesTo code width d e → ComesTo code width c e
 
--- what an answer asks of the run, where its values go on so
+-- what an answer requires of the run, where its values go on so
 abbrev pub answer_coming : Answer → (Values → ℕ → Coming) → Coming
 answer_coming (Gives vs k) go = go vs k
 answer_coming (Trap kind line col) go = Ends (Trap kind line col)
@@ -65,7 +65,7 @@ answer_coming Out go = Ends Out
 answer_coming Deep go = Ends Deep
 answer_coming Stuck go = Ends Stuck
 
--- what an evaluation asks of it, whose peak stands above others so
+-- what an evaluation requires of it, whose peak is above others so
 abbrev pub run_coming : (Peak → Peak) → Evaluation → (Values → ℕ → Coming) → Coming
 run_coming up r go = After (up r.peak) (answer_coming r.answer go)
 
@@ -160,7 +160,7 @@ module _ (code : PlainCode) (width : ℕ → ℕ) where
   pub too_deep : (s : State) (left : ℕ) → next code s ≡ TooDeep → LeadsTo code width (At s (suc left)) (After (height width s) (Ends Deep))
   too_deep s left is = record { by = λ e h n. last_step Deep s (suc left) left n TooDeep e is refl (ap (after (height width s)) (sym h.1) ∙ h.2) }
 
-  -- the instruction that stands there
+  -- the instruction that is there
   pub next_is : (s : State) (i : Instr) → instr_at code s.running.function s.running.at ≡ Some i → next code s ≡ act code s i
   next_is s i h = ap (act_at code s) h
 

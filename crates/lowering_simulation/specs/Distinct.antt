@@ -1,5 +1,5 @@
 -- It serves the proof that lowered code means what its program means: the binders of an instance have different
--- numbers, as far as an evaluation asks. No binder has the number of one in whose scope it stands.
+-- numbers, as far as an evaluation requires. No binder has the number of one in whose scope it is.
 -- In `let x = f(y); let z = x; g(x, z)` x and z have different numbers, and both have others than the parameters.
 use Rattle.std.specs.Prelude.{◌≡◌, ℕ, List, [], ◌∷◌, ◌++◌, map, length}
 use Rattle.tree_refinement.specs.fip_language.Every.{Every, Among}

@@ -1,5 +1,5 @@
 -- It serves the proof that lowered code means what its program means: a program keeps its types. Each match that an
--- evaluation comes to has a value of the match's type, and each call has arguments of its parameters' types. A test of
+-- evaluation reaches has a value of the match's type, and each call has arguments of its parameters' types. A test of
 -- a value of another type would say nothing.
 use Rattle.std.specs.Prelude.{◌≡◌, ℕ, false, List, map, Some, slice_get}
 use Rattle.tree_refinement.specs.fip_language.Values.{Value, Values}

@@ -15,7 +15,7 @@ ghost use Rattle.lowering_simulation.specs.RunEnds.{EndsIn};
 ghost use Rattle.lowering_simulation.specs.Guarded.{IsGuarded, Takes};
 ghost use Rattle.lowering_relation.specs.WellMatched.{ArePatternsFormed, IsWellMatched};
 
-/// In a typed program each match that an evaluation comes to has a value of the match's type, and each call has
+/// In a typed program each match that an evaluation reaches has a value of the match's type, and each call has
 /// arguments of its parameters' types. For who leaves out a test that no value of the type fails.
 pub fn typed_programs_keep_their_types()
     ensures theorem { (program : Program) → IsFormed program → IsFilled program → IsGuarded program }

@@ -1,5 +1,5 @@
--- Arguments are computed: each instruction is as asked, and after them what is known goes with the variables that are
--- still owned and with the registers of the arguments.
+-- Arguments are computed: each instruction is as required, and after them what is known goes with the variables that
+-- are still owned and with the registers of the arguments.
 use Rattle.std.proofs.Common.{◌≡◌, ◌⊎◌, inl, inr, ℕ, zero, suc, ◌+◌, ◌<◌, ◌≤◌, Bool, true, false, List, [], ◌∷◌, length, Some, refl, sym, ap, ◌∙◌, subst, true≢false, arith, slice_get, if◌then◌else◌, ◌==◌}
 use Rattle.std.proofs.lemmas.Option.{none-some}
 use Rattle.separation.specs.fip_language.Table.{Table, Shape, is_scalar, all_bare, no_fields, shapes}
@@ -138,7 +138,7 @@ module _ (c : PlainCode) (f : PlainFunction) (fip : Bool) (s : Scope) (B : ℕ �
             (subst (λ ns. Stays (held_at m.held) (held_at l.held) (λ q. owners ns (own X) q + e q)) a.names b.stays);
       }
 
-  -- both stand in their registers
+  -- both are in their registers
   pub computed_both : (Y X : Item → ℕ) (e : ℕ → ℕ) (at : ℕ) (k : Known) (a u : ℕ) (mid : ℕ) (m : Known) (rs ts : List ℕ) (end : ℕ) (l : Known) → ((x : ℕ) → X (Own x) ≤ Y (Own x)) → Computed c f fip s B K Y e at k (a ∷ []) (u ∷ []) mid m → Computed c f fip s B K X (λ q. owe c.types u a q + e q) mid m rs ts end l → Computed c f fip s B K X e at k (a ∷ rs) (u ∷ ts) end l
   computed_both Y X e at k a u mid m rs ts end l less x y =
       let low = x.grows in

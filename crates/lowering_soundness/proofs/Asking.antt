@@ -187,7 +187,7 @@ module _ (c : PlainCode) (st : Setting) (wd : W.World) (w : R.World) (shares : S
   scalar_uses z (Constructor u d m n p NoArguments) t x typed scalar used = absurd (true≢false (sym used))
   scalar_uses z (Constructor u d m n p (MoreArguments a as')) t x typed scalar used = absurd (no_field z t m a as' typed.2 scalar)
 
-  -- what isn't lent is taken
+  -- what isn't borrowed is taken
   not_lent : (o : Option Instance) (j : ℕ) → takes_of o j ≡ true → lends_to w o j ≡ false
   not_lent None j e = refl
   not_lent (Some d) j e = by (slice_get d.params j) e

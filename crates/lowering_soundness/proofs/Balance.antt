@@ -69,7 +69,7 @@ using_other g r q ne same =
 pub using_tree : (g : Holding) (r q : ℕ) → (q ≡ r → ⊥) → is_tree (g q) ≡ true → using g r q ≡ g q
 using_tree g r q ne e = using_other g r q ne (tree_without r (g q) e)
 
--- what owns no tree and isn't lent
+-- what owns no tree and isn't borrowed
 pub using_plain : (g : Holding) (r q : ℕ) → is_tree (g q) ≡ false → without r (g q) ≡ g q → using g r q ≡ g q
 using_plain g r q none same = elim (or_not (q == r)) as (λ v. using g r q ≡ g q) [
   | inl e ↦ using_none g r (subst (λ p. is_tree (g p) ≡ false) (equal q r e) none) q

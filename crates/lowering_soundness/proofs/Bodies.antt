@@ -274,7 +274,7 @@ module _ (c : PlainCode) (f : PlainFunction) (st : Setting) (wd : W.World) (w : 
   named_last at k (Match g t p a q body cs) rs mid m h = absurd h
   named_last at k (Nested body) rs mid m h = absurd h
 
-  -- variables in scope stand before those of a let's binders
+  -- variables in scope are before those of a let's binders
   before_let : (s : Scope) (sc : Scalars) (n : Names) (e : Expression) → Placed c s sc n → (x u : ℕ) → of_binder s (Some x) ≡ Some (Some u) → x < (following n (shape w n e)).next
   before_let s sc n e placed x u o = let a = placed.before x u o in let b = later n e in omega (arith, a, b)
 

@@ -20,7 +20,7 @@ use Rattle.lowering_soundness.proofs.Parts.{known_reported, shows_admits, after_
 use Rattle.lowering_soundness.proofs.Arguments.{quiet_back}
 
 module _ (c : PlainCode) (f : PlainFunction) where
-  -- kinds that come to a target fit its label
+  -- kinds that reach a target fit its label
   caught_fits : (target : ℕ) (away : ℕ → Kind) (j : ℕ) (left map : List Kind) → Catches f target away → j ≡ target → Covered f.registers away left → label_at f.labels j ≡ Some map → fit_all map left ≡ true
   caught_fits target away j left map caught there cov e =
       let same : caught.map ≡ map = same_Some caught.map map (sym caught.there ∙ (ap (label_at f.labels) (sym there) ∙ e)) in

@@ -1,4 +1,4 @@
--- A call: its arguments and its credits are as asked, and its results come into registers that wait for them.
+-- A call: its arguments and its credits are as required, and its results come into registers that wait for them.
 use Rattle.std.proofs.Common.{◌≡◌, ℕ, zero, suc, ◌+◌, ◌≤◌, Bool, true, false, ◌&&◌, ◌||◌, not, List, [], ◌∷◌, ◌++◌, length, drop, Some, None, refl, sym, ap, ap₂, ◌∙◌, subst, subst₂, true≢false, arith, if◌then◌else◌, ◌==◌}
 use Rattle.separation.specs.fip_language.Table.{Table}
 use Rattle.separation.specs.fip_base.declared.plain.Param.{Param}
@@ -49,7 +49,7 @@ drop_front [] cs (suc n) many = absurd (omega (arith, many))
 drop_front (r ∷ rs) cs zero many = absurd (omega (arith, many))
 drop_front (r ∷ rs) cs (suc n) many = drop_front rs cs n (omega (arith, many))
 
--- what is asked of a call, by its parameters and its credits
+-- what is required of a call, by its parameters and its credits
 pub record CanCallBy (w : Table) (tail : Bool) (g : Holding) (ps : List Param) (ks : List ℕ) (as' : List ℕ) : Type 0 where
   pub many : length as' ≡ length ps + length ks
   pub passes : can_pass w g ps as' ≡ true
@@ -67,7 +67,7 @@ can_call_by c tail g f d as' is can = record {
 pub after_by : (c : PlainCode) (g : Holding) (f : ℕ) (d : Instance) (as' : List ℕ) → IsFunctionOf c f d → after_call c g f as' ≡ handing_all (passing_all g d.params as') d.credits (drop (length d.params) as')
 after_by c g f d as' is = ap₂ (λ ps ks. handing_all (passing_all g ps as') ks (drop (length ps) as')) is.params is.credits
 
--- ---- what may be lent
+-- ---- what may be borrowed
 
 lies_more : (n m : ℕ → ℕ) (r : ℕ) (h : Held) → ((q : ℕ) → n q ≤ m q) → LiesIn n r h → LiesIn m r h
 lies_more n m r H.Nothing le x = tt
@@ -163,7 +163,7 @@ pass_many w s B k (p ∷ ps) [] h = absurd h
 pass_many w s B k (p ∷ ps) (r ∷ rs) h = ap suc (pass_many w s B k ps rs h.1)
 
 module _ (c : PlainCode) (f : PlainFunction) (fip : Bool) (s : Scope) (B : ℕ → Bool) (K : ℕ → Item → ℕ) where
-  -- the arguments and credits of a call are as asked; l is known after them
+  -- the arguments and credits of a call are as required; l is known after them
   pub record Called (tail : Bool) (X : Item → ℕ) (e : ℕ → ℕ) (k : Known) (d : Instance) (rs cs : List ℕ) (l : Known) : Type 0 where
     pub can : CanCallBy c.types tail (held_at k.held) d.params d.credits (rs ++ cs)
     pub following : handing_all (passing_all (held_at k.held) d.params (rs ++ cs)) d.credits (drop (length d.params) (rs ++ cs)) ≡ held_at l.held

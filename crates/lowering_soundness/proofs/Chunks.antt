@@ -104,7 +104,7 @@ sight_looks c g ch k read m sight = record { sight = sight; froms = record { eac
       ]
     ]
 
--- ---- instructions up to a place to which nothing goes on from before, or where a label stands
+-- ---- instructions up to a place to which nothing goes on from before, or where a label is
 
 pub record Stretch (c : PlainCode) (f : PlainFunction) (a : ℕ) (m : ℕ → Kind) (b : ℕ) : Type 0 where
   pub grows : a ≤ b

@@ -34,7 +34,7 @@ covers_spare w (H.Bare t c) k s e = absurd (true≢false (sym s))
 pub covered_same : (n : ℕ) (m l : ℕ → Kind) (ks : List Kind) → Covered n m ks → ((r : ℕ) → m r ≡ l r) → Covered n l ks
 covered_same n m l ks c e = record { wide = c.wide; each = λ r. subst (λ k. Covers k (at ks r)) (e r) (c.each r) }
 
--- what is known of one register stands within the list
+-- what is known of one register is within the list
 pub reported_within : (w : Table) (n : ℕ) (g : Holding) (ks : List Kind) (r : ℕ) → Covered n (kinds_of w g) ks → (at ks r ≡ Gone → ⊥) → r < n
 reported_within w n g ks r c h = let e = c.wide in let i = not_gone_within ks r h in omega arith
 

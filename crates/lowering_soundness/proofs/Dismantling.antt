@@ -1,4 +1,4 @@
--- The cells of a chosen pattern are taken apart, one after another: each is as asked.
+-- The cells of a chosen pattern are taken apart, one after another: each is as required.
 use Rattle.std.proofs.Common.{◌≡◌, ◌⊎◌, inl, inr, ℕ, zero, suc, ◌+◌, ◌<◌, ◌≤◌, Bool, true, false, List, [], ◌∷◌, ◌++◌, length, Option, Some, None, refl, sym, ap, ◌∙◌, subst, true≢false, arith, if◌then◌else◌, ◌==◌}
 use Rattle.separation.specs.fip_language.Table.{Table}
 use Rattle.separation.specs.fip_language.Every.{Among}
@@ -123,7 +123,7 @@ inside_none r xs k h ne = by (is_lent_of r k) (λ e. ne (h.roots r e))
     by true ne = absurd (ne refl)
     by false ne = refl
 
--- No register outside of these is lent of one, or has a from that names one.
+-- No register outside of these is borrowed from one, or has a from that names one.
 abbrev pub Alone : List ℕ → (ℕ → Kind) → Type 0
 Alone zs m = (q : ℕ) → (Among q zs → ⊥) → ((z : ℕ) → Among z zs → is_lent_of z (m q) ≡ false) × ((g : From) → from_of (m q) ≡ Some g → Among g.register zs → ⊥)
 
@@ -135,7 +135,7 @@ alone_outside r zs m alone q ne =
     }
 
 module _ (c : PlainCode) (f : PlainFunction) where
-  -- after some that are taken apart: registers outside stay, but for what is lent of r
+  -- after some that are taken apart: registers outside stay, but for what is borrowed from r
   pub record Took (zs : List ℕ) (r : ℕ) (P : (ℕ → Kind) → Type 0) (at : ℕ) (m : ℕ → Kind) (end : ℕ) : Type 0 where
     pub following : ℕ → Kind
     pub came : Came c f at m end following
@@ -279,7 +279,7 @@ module _ (c : PlainCode) (f : PlainFunction) where
   apart_of s ss z differ b (inl y) = differ.1 (subst (λ q. Among q (all_in ss)) y b)
   apart_of s ss z differ b (inr y) = differ.2 z y b
 
-  -- the same of several, of which nothing is lent elsewhere
+  -- the same of several, of which nothing is borrowed elsewhere
   pub record TookAll (zs : List ℕ) (P : (ℕ → Kind) → Type 0) (at : ℕ) (m : ℕ → Kind) (end : ℕ) : Type 0 where
     pub following : ℕ → Kind
     pub came : Came c f at m end following

@@ -90,7 +90,7 @@ without_fits w r (H.Lent t (Some q)) b e = ap (λ h. fits (kind_of w h) (K.Lent 
 without_fits w r (H.Credit n) b e = fits_self (K.Credit n)
 without_fits w r (H.Bare t c) b e = fits_self (K.Owned t (c ∷ []))
 
--- what was lent of the scrutinee's tree isn't any more
+-- what was borrowed from the scrutinee's tree isn't any more
 pub without_gone : (w : Table) (r : ℕ) (h : Held) → is_lent_of r (kind_of w h) ≡ true → without r (widened h) ≡ H.Nothing
 without_gone w r H.Nothing e = absurd (true≢false (sym e))
 without_gone w r (H.Scalar t) e = absurd (true≢false (sym e))

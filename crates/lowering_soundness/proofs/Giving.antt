@@ -1,4 +1,4 @@
--- Registers that are given or handed over are as asked, and after that what is reported of the kinds stays so.
+-- Registers that are given or handed over are as required, and after that what is reported of the kinds stays so.
 use Rattle.std.proofs.Common.{◌≡◌, inl, inr, ℕ, ◌+◌, ◌<◌, Bool, true, false, ◌&&◌, ◌||◌, not, List, [], ◌∷◌, length, Some, None, refl, sym, ap, ◌∙◌, true≢false, if◌then◌else◌, ◌==◌, drop, nat_lt}
 use Rattle.std.specs.Prelude.{option_and_then}
 use Rattle.separation.specs.fip_language.Table.{Table}

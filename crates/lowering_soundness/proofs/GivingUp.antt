@@ -12,7 +12,7 @@ use Rattle.lowering_soundness.proofs.Cells.{using_beside, using_all_beside}
 
 -- ---- registers in another order
 
--- what isn't lent of either
+-- what isn't borrowed from either
 lent_both : (p r t : ℕ) (root : Option ℕ) → without p (lent_by r root (H.Lent t root)) ≡ without r (lent_by p root (H.Lent t root))
 lent_both p r t None = refl
 lent_both p r t (Some q) = by (q == r) (q == p) refl refl
@@ -93,7 +93,7 @@ pub spending_swap : (cs : List ℕ) (g : Holding) (r : ℕ) → NoTrees g cs →
 spending_swap [] g r h = refl
 spending_swap (p ∷ cs) g r h = ap (λ x. spending x cs) (sym (using_beside g p r h.0)) ∙ spending_swap cs (setting g p H.Nothing) r (no_trees_setting cs g p h.1)
 
--- what is left behind registers that are used up and credits that are spent
+-- what is left after registers that are used up and credits that are spent
 abbrev pub following : List ℕ → List ℕ → Holding → Holding
 following us cs g = spending (using_all g us) cs
 

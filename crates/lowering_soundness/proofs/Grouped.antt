@@ -1,5 +1,5 @@
--- The functions of a code that is laid out as its program asks call each other as the instances do: so fip functions
--- release nothing, and wait for none of their own group.
+-- The functions of a code that is laid out as its program requires call each other as the instances do: so fip
+-- functions release nothing, and wait for none of their own group.
 use Rattle.std.proofs.Common.{◌≡◌, ℕ, zero, suc, Bool, true, false, not, List, [], ◌∷◌, map, slice_get, Option, Some, None, refl, sym, ap, ◌∙◌, subst, arith, true≢false}
 use Rattle.std.proofs.lemmas.Option.{none-some, same_Some}
 use Rattle.separation.specs.cell_code.declared.code.Instr.{Instr}

@@ -139,7 +139,7 @@ module _ (ks : List Kind) (heir : ℕ → Bool) (r d : ℕ) (zs : List ℕ) wher
 abbrev pub owned_kind : Table → ℕ → Known → Kind
 owned_kind w t k = if is_scalar_type w t then K.Scalar t else K.Owned t (left w t k)
 
--- It isn't lent of these registers, and its from names neither r nor one of them, nor what is lent of r.
+-- It isn't borrowed from these registers, and its from names neither r nor one of them, nor what is borrowed from r.
 pub record Clear (r : ℕ) (zs : List ℕ) (m : ℕ → Kind) (k : Kind) : Type 0 where
   pub roots : (z : ℕ) → Among z zs → is_lent_of z k ≡ false
   pub froms : (g : From) → from_of k ≡ Some g → (Among g.register (r ∷ zs) → ⊥) × (is_lent_of r (m g.register) ≡ false)
@@ -148,7 +148,7 @@ pub record Clear (r : ℕ) (zs : List ℕ) (m : ℕ → Kind) (k : Kind) : Type 
 abbrev pub Outside : ℕ → List ℕ → (ℕ → Kind) → Type 0
 Outside r zs m = (q : ℕ) → (Among q (r ∷ zs) → ⊥) → Clear r zs m (m q)
 
--- what was lent of r is gone
+-- what was borrowed from r is gone
 abbrev pub lost : ℕ → Kind → Kind
 lost r k = if is_lent_of r k then K.Gone else k
 

@@ -1,4 +1,4 @@
--- What is owned beside a part stays as it is: such parts stand one after another, and where it does what is known of
+-- What is owned beside a part stays as it is: such parts come one after another, and where it does what is known of
 -- registers goes with the variables.
 use Rattle.std.proofs.Common.{◌≡◌, inl, inr, ℕ, zero, suc, ◌+◌, ◌<◌, ◌≤◌, Bool, true, false, List, [], ◌∷◌, length, Option, Some, None, refl, sym, ap, ◌∙◌, subst, true≢false, arith, if◌then◌else◌}
 use Rattle.separation.specs.fip_language.Table.{Table}

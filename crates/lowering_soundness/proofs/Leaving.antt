@@ -1,4 +1,4 @@
--- Instructions that give up what is left are as asked, and the registers that are kept hold what they held.
+-- Instructions that give up what is left are as required, and the registers that are kept hold what they held.
 use Rattle.std.proofs.Common.{◌≡◌, inl, inr, ℕ, zero, suc, ◌≤◌, Bool, true, false, List, [], ◌∷◌, length, Option, Some, None, refl, sym, ap, ◌∙◌, subst, true≢false, arith, if◌then◌else◌, ◌==◌}
 use Rattle.separation.specs.fip_language.Table.{Table}
 use Rattle.separation.specs.cell_code.declared.code.Instr.TheVariants as I

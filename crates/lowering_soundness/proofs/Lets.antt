@@ -1,4 +1,4 @@
--- What is lent to what a let binds, and the let's variables come into scope.
+-- What is borrowed by what a let binds, and the let's variables come into scope.
 use Rattle.std.proofs.Common.{◌≡◌, inl, inr, ℕ, suc, ◌+◌, ◌<◌, ◌≤◌, Bool, true, false, ◌||◌, List, [], ◌∷◌, ◌++◌, length, map, Option, Some, None, refl, sym, ap, ap₂, ◌∙◌, subst, true≢false, arith, append_assoc, if◌then◌else◌, ◌==◌}
 use Rattle.std.specs.Prelude.{nat_lt}
 use Rattle.separation.specs.fip_language.Table.{Table}
@@ -49,7 +49,7 @@ ties_within fip w s z B D K L T e k t inside fewer = record {
   named = t.named;
 }
 
--- ---- what the body of a let gets is lent to what it binds
+-- ---- what the body of a let gets is borrowed by what it binds
 
 owned_read : (t : ℕ) (h : Held) → is_owned_of t h ≡ true → is_read_of t h ≡ true
 owned_read t H.Nothing e = e

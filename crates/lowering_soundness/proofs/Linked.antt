@@ -1,5 +1,5 @@
--- The roots and froms of the kinds that labels tell: a root is owned, and a from names a field of another register with
--- the same root.
+-- The roots and froms of the kinds that labels report: a root is owned, and a from names a field of another register
+-- with the same root.
 use Rattle.std.proofs.Common.{◌≡◌, ◌⊎◌, inl, inr, ℕ, zero, suc, ◌+◌, ◌<◌, ◌≤◌, true, false, List, [], ◌∷◌, length, Option, Some, None, slice_get, refl, sym, ap, ◌∙◌, subst, true≢false, arith, ◌==◌, nat_lt}
 use Rattle.separation.specs.fip_language.Table.{Table, constructors}
 use Rattle.separation.specs.fip_language.Every.{Among}
@@ -37,7 +37,7 @@ abbrev pub RootIs : (ℕ → Kind) → Option ℕ → Type 0
 RootIs m None = Unit {0}
 RootIs m (Some q) = is_owned (m q) ≡ true
 
--- the from of register j, which is lent with this root
+-- the from of register j, which is borrowed with this root
 abbrev pub FromIs : Table → (ℕ → Kind) → ℕ → Option ℕ → Option From → Type 0
 FromIs w m j root None = Unit {0}
 FromIs w m j root (Some g) =

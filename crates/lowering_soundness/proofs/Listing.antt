@@ -1,4 +1,4 @@
--- The code of `rev` is laid out as its program asks, and what acceptance gives beside typing and derivations holds.
+-- The code of `rev` is laid out as its program requires, and what acceptance gives beside typing and derivations holds.
 use Rattle.std.proofs.Common.{◌≡◌, ℕ, zero, suc, Some, slice_get, refl, subst, arith}
 use Rattle.std.proofs.lemmas.Option.{none-some, same_Some}
 use Rattle.separation.specs.fip_language.Table as T

@@ -1,4 +1,4 @@
--- A test and a read: each is as asked, and these are the kinds after it.
+-- A test and a read: each is as required, and these are the kinds after it.
 use Rattle.std.proofs.Common.{◌≡◌, ℕ, suc, ◌<◌, Bool, true, false, not, List, [], ◌∷◌, length, slice_get, Some, refl, sym, ap, ◌∙◌, subst, arith, if◌then◌else◌, ◌==◌, nat_lt}
 use Rattle.std.proofs.lemmas.Option.{same_Some}
 use Rattle.separation.specs.fip_language.Table.{Table}
@@ -24,7 +24,7 @@ use Rattle.lowering_soundness.specs.Parts.{Part}
 use Rattle.lowering_soundness.proofs.Giving.{and_to}
 use Rattle.lowering_soundness.proofs.Branches.{branch_part}
 
--- what a test asks of a register
+-- what a test requires of a register
 abbrev pub MayTest : Table → Head → Kind → Type 0
 MayTest w (Number i) k = is_scalar_of 0 k ≡ true
 MayTest w (Tag n) k = may_have w n k ≡ true

@@ -34,7 +34,7 @@ label_here m ms = chosen (m.at == m.at) (Some m.kinds) (label_at ms m.at) (itsel
 label_later : (m : LabelMap) (ms : List LabelMap) (p : ℕ) → m.at < p → label_at (m ∷ ms) p ≡ label_at ms p
 label_later m ms p low = refused (m.at == p) (Some m.kinds) (label_at ms p) (unequal_is m.at p (λ e. (let z : ⊥ = omega (arith, low, e) in z)))
 
--- maps that stand after one another, each of which is formed
+-- maps that are after one another, each of which is formed
 maps_good : (w : Table) (f : PlainFunction) → Labelled f (IsRight w f.registers) 0 (length f.instrs) → (low : ℕ) (ms : List LabelMap) → AreRising (length f.instrs) low ms → ((p : ℕ) (map : List Kind) → low < p → label_at ms p ≡ Some map → label_at f.labels p ≡ Some map) → are_good_maps w f low ms ≡ true
 maps_good w f all low [] rising there = refl
 maps_good w f all low (m ∷ ms) rising there =

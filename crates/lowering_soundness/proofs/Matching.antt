@@ -326,7 +326,7 @@ module _ (c : PlainCode) (st : Setting) (wd : W.World) (w : R.World) (shares : S
   no_sides g ch zero at end e h = h ∙ e
   no_sides g ch (suc n) at end e h = absurd (let low = h.1.later in let z : ⊥ = omega (arith, low, e) in z)
 
-  -- the tests stand before what is so from the first clause's entry on
+  -- the tests are before what is so from the first clause's entry on
   module _ (P : ℕ → (ℕ → Kind) → Type 0) (on_stretch : (a : ℕ) (m : ℕ → Kind) (b : ℕ) (l : ℕ → Kind) → Stretch c f a m b → P b l → P a m) (on_part : (a : ℕ) (m : ℕ → Kind) (b : ℕ) (l : ℕ → Kind) → Part c f a m b l → P b l → P a m) where
     tests_any : (ch : Choice) (l : Known) (q : Pattern) (at mid sides e n : ℕ) → MatchStands c st f ch l → EntriesLaid c st f ch l → ChunkLaid c f (held_at l.held) ch at (Rattle.lowering_relation.specs.match_knowledge.Known.Open []) [] (reported c l) mid → SidesLaid c f (wide_at (held_at l.held)) ch sides mid e → EntryLaid c st f ch l 0 q e n → P e (reported c (entered st ch q l n)) → P at (reported c l)
     tests_any ch l q at mid sides e n stands entries first rest entry body = elim (less_or_not 0 mid) as (λ v. P at (reported c l)) [

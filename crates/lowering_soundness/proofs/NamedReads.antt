@@ -1,4 +1,4 @@
--- What a chosen pattern names is read: each read is as asked.
+-- What a chosen pattern names is read: each read is as required.
 use Rattle.std.proofs.Common.{◌≡◌, ◌⊎◌, inl, inr, ℕ, suc, ◌≤◌, Bool, true, false, List, [], ◌∷◌, length, slice_get, Option, Some, refl, sym, ap, ◌∙◌, subst, true≢false, arith, if◌then◌else◌, ◌==◌}
 use Rattle.separation.specs.fip_language.Every.{Among}
 use Rattle.separation.specs.cell_code.declared.kind.Kind.{Kind}
@@ -114,7 +114,7 @@ module _ (c : PlainCode) (f : PlainFunction) (r0 : ℕ) where
     froms = sub.froms;
   }
 
-  -- what is asked of a cell whose fields are read
+  -- what is required of a cell whose fields are read
   record CellReady (root : Option ℕ) (t l : ℕ) (ps : Patterns) (ks : Knowns) (r : ℕ) (own : Kind) : Type 0 where
     pub are : ArePatterns c.types (fields c.types t l) (rows_of ps)
     pub fit : compare_all (rows_of ps) ks ≡ Fits

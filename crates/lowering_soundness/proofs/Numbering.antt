@@ -1,4 +1,4 @@
--- Only variables whose binders stand before a place have registers there.
+-- Only variables whose binders are before a place have registers there.
 use Rattle.std.proofs.Common.{◌≡◌, inl, inr, ℕ, zero, suc, ◌+◌, ◌<◌, ◌≤◌, Bool, true, false, ◌||◌, List, [], ◌∷◌, length, replicate, get_or, Option, Some, None, refl, sym, ap, ◌∙◌, arith, if◌then◌else◌, ◌==◌}
 use Rattle.std.proofs.lemmas.Option.{none-some}
 use Rattle.separation.specs.fip_base.declared.plain.Param.{Param}

@@ -27,7 +27,7 @@ abbrev following : Option ℕ → Option ℕ
 following None = None
 following (Some i) = Some (suc i)
 
--- one instance stands before the others, and has a function or none
+-- one instance is before the others, and has a function or none
 abbrev past : Bool → (ℕ → Option ℕ) → ℕ → Option ℕ
 past false rest n = following (rest n)
 past true rest zero = Some 0
@@ -204,7 +204,7 @@ module _ (c : PlainCode) (ds : List Instance) (alike : Alike c ds) where
   Framed = FramedCalls (call_rows ds) (map frame ds)
 
   module _ (base own base' own' : ℕ → ℕ) (bases : AreSame ds base base') (owns : (i n : ℕ) → function_of ds i ≡ Some n → own n ≡ own' i) where
-    -- numbers that solve what is asked of instances give such of functions
+    -- numbers that solve what is required of instances give such of functions
     solves_functions : (number : ℕ → ℕ) → Solves Framed base' own' number → Solves (FipCalls c) base own (of_instances ds number)
     solves_functions number s = record {
       base_in = λ n. by n (instance_of ds n) refl;

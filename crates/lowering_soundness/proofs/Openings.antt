@@ -401,7 +401,7 @@ module _ (c : PlainCode) (f : PlainFunction) (st : Setting) (fip : Bool) (B : �
   own_node_is NoPatterns = refl
   own_node_is (MorePatterns p ps) = refl
 
-  -- where a cell stands before the positions of its fields
+  -- where a cell is before the positions of its fields
   opened_next : (s : Scope) (T : Item → ℕ) (n : ℕ) (ds : List Binder) (ks ls : List ℕ) (k l m : Known) → Opened s T n [] ks k l → Opened (s ++ []) (λ i. T i + gained takes c.types n [] ks i) n ds ls l m → Opened s T n ds (ks ++ ls) k m
   opened_next s T n ds ks ls k l m x y =
       let z : n ≡ n + 0 = omega arith in

@@ -1,4 +1,4 @@
--- Label maps that are formed stand in order, and tell of each tree some constructor.
+-- Label maps that are formed are in order, and report some constructor of each tree.
 use Rattle.std.proofs.Common.{◌≡◌, ℕ, suc, true, ◌&&◌, not, List, [], ◌∷◌, length, refl, nat_lt, ◌==◌}
 use Rattle.separation.specs.fip_language.Table.{Table}
 use Rattle.separation.specs.cell_code.declared.kind.Kind.{Kind}

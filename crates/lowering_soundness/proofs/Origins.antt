@@ -1,5 +1,5 @@
--- Each instruction of a function that is laid out as its instance's body asks: its calls are those of the body, and in
--- fip it neither drops nor frees.
+-- Each instruction of a function that is laid out as its instance's body requires: its calls are those of the body, and
+-- in fip it neither drops nor frees.
 use Rattle.std.proofs.Common.{◌≡◌, inl, inr, ℕ, zero, suc, Bool, true, false, List, [], ◌∷◌, ◌++◌, slice_get, length, Some, refl, sym, ap, ◌∙◌, subst, arith, true≢false}
 use Rattle.std.proofs.lemmas.Option.{none-some, same_Some}
 use Rattle.separation.specs.cell_code.declared.code.Instr.{Instr}

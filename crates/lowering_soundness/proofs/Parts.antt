@@ -1,4 +1,4 @@
--- Parts of a function's code: of one instruction, of none, of two parts, and where a label stands that says less.
+-- Parts of a function's code: of one instruction, of none, of two parts, and where a label is that says less.
 use Rattle.std.proofs.Common.{◌≡◌, inl, inr, ℕ, suc, ◌<◌, ◌≤◌, true, List, length, Option, Some, None, refl, sym, ap, ◌∙◌, subst, true≢false, arith}
 use Rattle.std.proofs.lemmas.Option.{none-some, same_Some}
 use Rattle.separation.specs.cell_code.declared.code.Instr.{Instr}

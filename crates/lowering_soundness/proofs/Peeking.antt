@@ -1,4 +1,4 @@
--- The position that a pattern asks for is read, and those above it: each read is as asked.
+-- The position that a pattern asks for is read, and those above it: each read is as required.
 use Rattle.std.proofs.Common.{◌≡◌, ◌⊎◌, inl, inr, ℕ, zero, suc, ◌+◌, ◌<◌, ◌≤◌, Bool, true, false, List, [], ◌∷◌, ◌++◌, length, slice_get, Option, Some, None, refl, sym, ap, ◌∙◌, subst, true≢false, arith, if◌then◌else◌, ◌==◌}
 use Rattle.std.proofs.lemmas.Option.{same_Some}
 use Rattle.separation.specs.fip_language.Table.{Table}

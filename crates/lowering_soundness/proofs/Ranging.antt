@@ -1,4 +1,4 @@
--- All numbers of the instructions of a function are in range, where it is laid out as its instance's body asks.
+-- All numbers of the instructions of a function are in range, where it is laid out as its instance's body requires.
 use Rattle.std.proofs.Common.{◌≡◌, ◌⊎◌, inl, inr, ℕ, zero, suc, ◌+◌, ◌<◌, ◌≤◌, Bool, true, false, ◌&&◌, List, [], ◌∷◌, ◌++◌, slice_get, length, Option, Some, None, is_some, replicate, refl, sym, ap, ◌∙◌, subst, arith, true≢false, nat_lt, if◌then◌else◌, ◌==◌}
 use Rattle.std.proofs.lemmas.List.{length-replicate}
 use Rattle.std.proofs.lemmas.Option.{none-some, same_Some}
@@ -353,7 +353,7 @@ module _ (c : PlainCode) (st : Setting) (f : PlainFunction) (good : are_good_map
   settled true at q s read end low u h = takes at q s end low u h
   settled false at q s read end low u h = names at q s read end h.0 low u h.1
 
-  -- a label stands at the entry of each clause, but at the start of the function
+  -- a label is at the entry of each clause, but at the start of the function
   abbrev Enters : Choice → Type 0
   Enters ch = (i : ℕ) (q : Pattern) → slice_get ch.patterns i ≡ Some q → (place : ℕ) → slice_get ch.entries i ≡ Some place → 0 < place → is_some (label_at f.labels place) ≡ true
 

@@ -1,4 +1,4 @@
--- The calls of a sound code that is laid out as its program asks: each call that stands in the body of an instance is
+-- The calls of a sound code that is laid out as its program requires: each call that is in the body of an instance is
 -- one of its function's code, and it is reached. The body of each clause begins at the start of the function or at a
 -- label, and the clauses of a match that is bound by a let meet at a label.
 use Rattle.std.proofs.Common.{◌≡◌, ◌⊎◌, inl, inr, ℕ, zero, suc, ◌<◌, Bool, true, false, not, List, [], ◌∷◌, ◌++◌, slice_get, length, Some, refl, sym, subst, nat_lt}

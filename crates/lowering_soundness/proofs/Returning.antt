@@ -1,4 +1,4 @@
--- A function gives its results: what is left is given up, and the results are as asked.
+-- A function gives its results: what is left is given up, and the results are as required.
 use Rattle.std.proofs.Common.{◌≡◌, inl, inr, ℕ, suc, ◌+◌, ◌<◌, ◌≤◌, Bool, true, false, ◌&&◌, ◌||◌, List, [], ◌∷◌, Some, refl, sym, ap, ap₂, ◌∙◌, subst, true≢false, arith, if◌then◌else◌, ◌==◌}
 use Rattle.separation.specs.fip_language.Table.{Table}
 use Rattle.separation.specs.fip_language.Every.{Among}

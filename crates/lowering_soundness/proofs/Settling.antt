@@ -109,7 +109,7 @@ module _ (c : PlainCode) (f : PlainFunction) (st : Setting) (g : Holding) (ch : 
   abbrev Fit : Pattern → (ℕ → Kind) → Type 0
   Fit q l = (z : ℕ) → fits (kind_of c.types (widened (root_held st ch.takes (root_of (register ch.root) (held_at k.held (register ch.root))) q ch.root (held_at k.held) z))) (l z) ≡ true
 
-  -- by where a register stands
+  -- by where a register is
   where_is : (z : ℕ) → (z ≡ register ch.root) ⊎ (Among z (below ch.root) ⊎ ((z ≡ register ch.root → ⊥) × (Among z (below ch.root) → ⊥)))
   where_is z = elim (or_not (z == register ch.root)) as (λ v. (z ≡ register ch.root) ⊎ (Among z (below ch.root) ⊎ ((z ≡ register ch.root → ⊥) × (Among z (below ch.root) → ⊥)))) [
     | inl e ↦ inl (equal z (register ch.root) e)

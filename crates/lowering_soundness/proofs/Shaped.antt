@@ -1,4 +1,4 @@
--- The kinds that labels tell have types that are there, sets that rise and aren't empty, and credits of the sizes of
+-- The kinds that labels report have types that are there, sets that rise and aren't empty, and credits of the sizes of
 -- cells; and a map is formed where this is so and its roots and froms are right.
 use Rattle.std.proofs.Common.{◌≡◌, inl, inr, ℕ, zero, suc, ◌+◌, ◌<◌, ◌≤◌, Bool, true, false, ◌&&◌, not, List, [], ◌∷◌, length, Option, Some, None, refl, sym, ap, ◌∙◌, subst, arith, if◌then◌else◌, ◌==◌, nat_lt}
 use Rattle.separation.specs.fip_language.Table.{Table}

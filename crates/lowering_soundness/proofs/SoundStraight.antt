@@ -1,4 +1,5 @@
--- The instructions of straight code, one after another: each is as asked, and what is reported of the kinds after it is so.
+-- The instructions of straight code, one after another: each is as required, and what is reported of the kinds after it
+-- is so.
 use Rattle.std.proofs.Common.{◌≡◌, ℕ, zero, suc, ◌<◌, Bool, true, false, not, List, [], ◌∷◌, length, Option, Some, None, refl, sym, ap, ◌∙◌, subst, true≢false, if◌then◌else◌, ◌==◌}
 use Rattle.std.specs.Prelude.{ℤ, is_some}
 use Rattle.std.proofs.lemmas.Option.{same_Some}

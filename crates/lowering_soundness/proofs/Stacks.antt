@@ -44,7 +44,7 @@ pub length_size : (n : ℕ) (cs : List Credit) → length (of_size n cs) ≡ siz
 length_size n [] = refl
 length_size n (c ∷ cs) = length_by (c.size == n) c.register (of_size n cs) ∙ ap (λ m. one_if (c.size == n) + m) (length_size n cs)
 
--- how often a register stands in a list
+-- how often a register occurs in a list
 abbrev times : ℕ → List ℕ → ℕ
 times r [] = 0
 times r (q ∷ qs) = one_if (q == r) + times r qs

@@ -52,7 +52,7 @@ setting_rooted g d h none new unlent rooted r t q e = elim (or_not (r == d)) as 
   | inr z ↦ setting_tree g d h q none new ∙ rooted r t q (sym (refused (r == d) h (g r) z) ∙ e)
 ]
 
--- the same of a register that is lent of one that owns a tree
+-- the same of a register that is borrowed from one that owns a tree
 pub setting_rooted_in : (g : Holding) (d : ℕ) (h : Held) → is_tree (g d) ≡ false → is_tree h ≡ false → ((t q : ℕ) → h ≡ H.Lent t (Some q) → is_tree (g q) ≡ true) → Rooted g → Rooted (setting g d h)
 setting_rooted_in g d h none new roots rooted r t q e = elim (or_not (r == d)) as (λ v. is_tree (setting g d h q) ≡ true) [
   | inl z ↦ setting_tree g d h q none new ∙ roots t q (sym (chosen (r == d) h (g r) z) ∙ e)

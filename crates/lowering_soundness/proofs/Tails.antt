@@ -1,4 +1,4 @@
--- A call whose results are the function's: what is left is given up, and its arguments and credits are as asked.
+-- A call whose results are the function's: what is left is given up, and its arguments and credits are as required.
 use Rattle.std.proofs.Common.{◌≡◌, ◌⊎◌, inl, inr, ℕ, suc, ◌<◌, ◌≤◌, Bool, true, false, ◌&&◌, ◌||◌, not, List, [], ◌∷◌, ◌++◌, length, drop, Some, None, refl, sym, ap, ap₂, ◌∙◌, subst, subst₂, true≢false, arith, slice_get, if◌then◌else◌, ◌==◌}
 use Rattle.separation.specs.fip_language.Table.{Table}
 use Rattle.separation.specs.fip_language.Every.{Among}
@@ -147,7 +147,7 @@ hand_credit (n ∷ ns) (q ∷ cs) g r e many (inr m) =
         none : H.Nothing ≡ H.Credit k → ⊥
         none u = absurd (cc)
 
--- what is read where nothing is owned is lent from below
+-- what is read where nothing is owned is borrowed from below
 read_below : (n : ℕ → ℕ) (r t : ℕ) (h : Held) → ((q : ℕ) → n q ≡ 0) → is_read_of t h ≡ true → LiesIn n r h → (u : ℕ) × (h ≡ H.Lent u None)
 read_below n r t H.Nothing none x y = absurd (true≢false (sym x))
 read_below n r t (H.Scalar u) none x y = absurd (true≢false (sym x))

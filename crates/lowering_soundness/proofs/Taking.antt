@@ -1,4 +1,4 @@
--- A cell is taken apart: this is as asked, and these are the kinds after it.
+-- A cell is taken apart: this is as required, and these are the kinds after it.
 use Rattle.std.proofs.Common.{◌≡◌, inl, inr, ℕ, suc, ◌<◌, ◌≤◌, true, false, not, ◌&&◌, is_some, List, [], ◌∷◌, length, Option, Some, None, refl, sym, ap, ◌∙◌, subst, true≢false, arith, if◌then◌else◌, ◌==◌}
 use Rattle.separation.specs.fip_language.Table.{Table}
 use Rattle.separation.specs.fip_language.Every.{Among}
@@ -187,7 +187,7 @@ module _ (c : PlainCode) (f : PlainFunction) where
       (and_to (not (has (as_many ps ss) (register s))) (are_places ks (as_many ps ss)) (ap not (not_has (as_many ps ss) (register s) (λ a. differ.1 (as_many_within ps ss (register s) a))))
       (places m ks ps ss differ.4 (λ z a. free z (in_tail z s ss a)) e))
 
-  -- what is asked of it
+  -- what is required of it
   pub record MayTake (m : ℕ → Kind) (r t n : ℕ) (ps : Patterns) (ls : Knowns) (fs : Spots) (read : List ℕ) : Type 0 where
     pub own : m r ≡ K.Owned t (n ∷ [])
     pub many : length (as_many ps fs) ≡ length (fields c.types t n)

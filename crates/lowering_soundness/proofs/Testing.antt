@@ -1,4 +1,4 @@
--- A test of what a pattern asks for: it is as asked, and what is reported on both of its sides.
+-- A test of what a pattern asks for: it is as required, and what is reported on both of its sides.
 use Rattle.std.proofs.Common.{◌≡◌, inl, inr, ℕ, zero, suc, ◌<◌, Bool, true, false, List, [], ◌∷◌, Option, Some, refl, sym, ap, ◌∙◌, subst, true≢false, ◌==◌}
 use Rattle.std.proofs.lemmas.Option.{none-some, same_Some}
 use Rattle.separation.specs.fip_language.Table.{Table}

@@ -1,5 +1,5 @@
--- A code is sound where its tables are, and each function has the form that is asked, has its numbers in range, keeps the
--- rules at each instruction, and, where it is fip, waits for none of its own group.
+-- A code is sound where its tables are, and each function has the form that is required, has its numbers in range,
+-- keeps the rules at each instruction, and, where it is fip, waits for none of its own group.
 use Rattle.std.proofs.Common.{◌≡◌, inl, inr, ℕ, length, Some, sym, subst, arith}
 use Rattle.separation.specs.cell_code.declared.kind.Kind.{Kind}
 use Rattle.separation.specs.code_rules.declared.rule.SoundRule.{SoundRule}

@@ -66,7 +66,7 @@ setting_stays g d h n idle = record {
   lent_of = λ r t q e more. setting_other g d h r (elsewhere g d r (H.Lent t (Some q)) idle e refl) ∙ e;
 }
 
--- a value is no constructor that was matched, and isn't lent
+-- a value is no constructor that was matched, and isn't borrowed
 abbrev pub is_given : Held → Bool
 is_given H.Nothing = false
 is_given (H.Scalar t) = true

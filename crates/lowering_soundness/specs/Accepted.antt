@@ -27,7 +27,7 @@ pub record IsDerived (c : PlainCode) (wd : W.World) (w : R.World) (d : Instance)
       (owned_parameters w 0 d.params d.binders) d.credits (body_term w d)
   pub builds : BuildsBlock c.types d.body
 
--- its header is within the limits, and the label maps of its function stand in order
+-- its header is within the limits, and the label maps of its function are in order
 pub record IsWithinLimits (c : PlainCode) (f : PlainFunction) (d : Instance) : Type 0 where
   pub registers : f.registers ≤ most_registers
   pub results : 0 < length d.results

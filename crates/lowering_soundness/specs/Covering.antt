@@ -18,7 +18,7 @@ pub record Covered (n : ℕ) (m : ℕ → Kind) (ks : List Kind) : Type 0 where
   pub wide : length ks ≡ n
   pub each : (r : ℕ) → Covers (m r) (at ks r)
 
--- where register r holds an owned tree, this is used up, and what was lent of it isn't read any more
+-- where register r holds an owned tree, this is used up, and what was borrowed from it isn't read any more
 abbrev pub using : Holding → ℕ → Holding
 using g r q = if is_tree (g r) then (if q == r then H.Nothing else without r (g q)) else g q
 

@@ -20,8 +20,8 @@ Waiting k (d ∷ ds) =
     (held_at k.held d ≡ H.Nothing) × (suc d ≤ k.next) × (Among d ds → ⊥) × Waiting k ds
 
 -- What X owns stays as it is, but that it may be forgotten which constructor was built: its registers, its names and
--- its credits, which are the first of their sizes. What is lent of it stays too, and no variable in scope has another
--- register than it had.
+-- its credits, which are the first of their sizes. What is borrowed from it stays too, and no variable in scope has
+-- another register than it had.
 pub record Keeps (s : Scope) (X : Item → ℕ) (k l : Known) : Type 0 where
   pub stays : Stays (wide_at (held_at k.held)) (wide_at (held_at l.held)) (owners k.names (own X))
   pub same : (x : ℕ) → 1 ≤ X (Own x) → register_of l.names (Some x) ≡ register_of k.names (Some x)

@@ -49,12 +49,12 @@ can_give g (r ∷ rs) [] = false
 can_give g (r ∷ rs) (t ∷ ts) =
     (is_scalar_of t (g r) || is_owned_of t (g r)) && can_give (using g r) rs ts
 
--- Register r may be handed over for a parameter; whether it may be lent is asked after all of these.
+-- Register r may be handed over for a parameter; whether it may be borrowed is checked after all of these.
 abbrev pub can_pass_one : Table → Held → Param → Bool
 can_pass_one w h p =
     if is_scalar_type w p.ty then is_scalar_of p.ty h else (if p.lent then true else is_owned_of p.ty h)
 
--- what isn't lent is used up
+-- what isn't borrowed is used up
 abbrev pub passing : Holding → Param → ℕ → Holding
 passing g p r = if p.lent then g else using g r
 
@@ -79,7 +79,7 @@ handing_all g [] rs = g
 handing_all g (n ∷ ns) [] = g
 handing_all g (n ∷ ns) (r ∷ rs) = handing_all (setting g r H.Nothing) ns rs
 
--- It may be lent as a tree of type u; where the frame goes, only what lies in a frame below.
+-- It may be borrowed as a tree of type u; where the frame goes, only what lies in a frame below.
 abbrev pub can_lend_one : Bool → ℕ → Held → Bool
 can_lend_one tail u H.Nothing = false
 can_lend_one tail u (H.Scalar t) = false
@@ -136,6 +136,6 @@ pub record CanCall (c : PlainCode) (tail : Bool) (g : Holding) (f : ℕ) (rs : L
 abbrev pub NothingLeft : Holding → Type 0
 NothingLeft g = (r : ℕ) → is_spare (g r) ≡ true
 
--- nothing is lent of register r
+-- nothing is borrowed from register r
 abbrev pub LendsNothing : Holding → ℕ → Type 0
 LendsNothing g r = (q : ℕ) → without r (g q) ≡ g q

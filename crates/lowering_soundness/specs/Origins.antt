@@ -1,5 +1,5 @@
 -- It serves the proof that lowered code is sound: where the calls in a function's code come from. Each is one of the
--- calls of the instance's body, and waits for its callee just where that one doesn't stand in tail position.
+-- calls of the instance's body, and waits for its callee just where that one isn't in tail position.
 -- The body  let y = f(x); g(y)  has the instructions Call f [0] [1] and Tail g [1]: the first waits for f.
 use Rattle.std.specs.Prelude.{◌≡◌, ℕ, ◌≤◌, ◌<◌, Bool, true, false, not, List, Some, slice_get}
 use Rattle.separation.specs.cell_code.declared.code.Instr.{Instr}

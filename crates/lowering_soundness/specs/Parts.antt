@@ -1,6 +1,6 @@
 -- It serves the proof that lowered code is sound: a part of a function's code, from one place to another, where the
--- kinds are reported at both. What comes to its first instruction is as reported there, and a label there takes it; then each
--- instruction of the part keeps the rules, and so it is after the part.
+-- kinds are reported at both. What reaches its first instruction is as reported there, and a label there takes it; then
+-- each instruction of the part keeps the rules, and so it is after the part.
 use Rattle.std.specs.Prelude.{◌≡◌, ◌⊎◌, ℕ, suc, ◌<◌, ◌≤◌, Bool, true, false, List, Some, None, length}
 use Rattle.separation.specs.cell_code.declared.code.Instr.{Instr}
 use Rattle.separation.specs.cell_code.declared.code.Instr.TheVariants as I
@@ -16,7 +16,7 @@ use Rattle.separation.specs.code_rules.Flow.{Comes, IsReachedAt}
 use Rattle.lowering_relation.specs.Labels.{Takes}
 use Rattle.lowering_soundness.specs.Covering.{Covered}
 
--- kinds that come to instruction p from the one before it, where no label stands there, are as reported
+-- kinds that reach instruction p from the one before it, where there is no label, are as reported
 abbrev pub Arrives : PlainCode → PlainFunction → ℕ → (ℕ → Kind) → Type 0
 Arrives c f p m = label_at f.labels p ≡ None → (ks : List Kind) → Comes c f p ks → Covered f.registers m ks
 
@@ -28,7 +28,7 @@ Admits f p m = (map : List Kind) → label_at f.labels p ≡ Some map → Takes 
 abbrev pub Onward : PlainCode → List Kind → ℕ → Instr → ℕ → List Kind → Type 0
 Onward c ks i x j left = ((j ≡ suc i) × Leaves c ks x left) ⊎ Jumps ks x j left
 
--- instruction i, reached with these kinds, breaks no rule that asks for them
+-- instruction i, reached with these kinds, breaks no rule that requires them
 pub record Keeps (c : PlainCode) (f : PlainFunction) (i : ℕ) (ks : List Kind) (x : Instr) : Type 0 where
   pub sources : sources c f ks x ≡ true
   pub destinations : destinations c ks x ≡ true

@@ -15,7 +15,7 @@ use Rattle.separation.specs.cell_code.Plain.{PlainCode}
 use Rattle.separation.specs.code_rules.Types.{is_type, is_scalar_type}
 use Rattle.lowering_relation.specs.Values.{Setting}
 
--- each variable in scope is known by its own number, stands before what follows, and has a type
+-- each variable in scope is known by its own number, is before what follows, and has a type
 pub record Placed (c : PlainCode) (s : Scope) (sc : Scalars) (n : Names) : Type 0 where
   pub seen : (x t : ℕ) → of_binder s (Some x) ≡ Some (Some t) → known n.marks x ≡ Some x
   pub scalar : (x t : ℕ) → of_binder s (Some x) ≡ Some (Some t) → sc x ≡ is_scalar_type c.types t

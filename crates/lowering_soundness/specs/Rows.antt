@@ -1,5 +1,5 @@
--- It serves the proof that lowered code is sound: where the kinds before an instruction are reported, it is as asked, and
--- these are the kinds after it.
+-- It serves the proof that lowered code is sound: where the kinds before an instruction are reported, it is as
+-- required, and these are the kinds after it.
 use Rattle.std.specs.Prelude.{◌≡◌, ℕ, true, List}
 use Rattle.separation.specs.cell_code.declared.code.Instr.{Instr}
 use Rattle.separation.specs.cell_code.declared.kind.Kind.{Kind}

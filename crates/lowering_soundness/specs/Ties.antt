@@ -79,11 +79,12 @@ owed w (r ∷ rs) (t ∷ ts) q = owe w t r q + owed w rs ts q
 abbrev pub Balanced : Bool → Holding → (ℕ → ℕ) → Type 0
 Balanced fip g n = (r : ℕ) → Fits fip (one_if (is_tree (g r))) (n r)
 
--- what is lent lies in a tree that a register owns
+-- what is borrowed lies in a tree that a register owns
 abbrev pub Rooted : Holding → Type 0
 Rooted g = (r t q : ℕ) → g r ≡ H.Lent t (Some q) → is_tree (g q) ≡ true
 
--- What is reported of registers stays: of scalars, of trees that are owned from outside, and of what is lent of these.
+-- What is reported of registers stays: of scalars, of trees that are owned from outside, and of what is borrowed from
+-- these.
 pub record Stays (g h : Holding) (n : ℕ → ℕ) : Type 0 where
   pub scalar : (r t : ℕ) → g r ≡ H.Scalar t → h r ≡ H.Scalar t
   pub tree : (r : ℕ) → 1 ≤ n r → is_tree (g r) ≡ true → h r ≡ g r

@@ -35,15 +35,15 @@ ghost use Rattle.tail_groups.specs.Sites.{instance_sites};
 ghost use Rattle.derivation_making.specs.type_check.Typing.{Typed};
 ghost use Rattle.derivation_making.specs.type_check.World as W;
 
-/// A code with sound tables is sound where each of its functions has the form that is asked, has its numbers in range,
-/// breaks no rule at an instruction, and, where it is fip, waits for none of its own group.
+/// A code with sound tables is sound where each of its functions has the form that is required, has its numbers in
+/// range, breaks no rule at an instruction, and, where it is fip, waits for none of its own group.
 pub fn functions_make_a_code_sound()
     ensures theorem { (c : PlainCode) → AreSoundTables c →
         ((n : ℕ) (f : PlainFunction) → function_at c n ≡ Some f → KeepsRules c n f) → IsSound c }
 {}
 
 /// A typed instance of which ownership and credits have a derivation: each instruction of its function, reached with
-/// whatever kinds, has its registers as asked, goes on to kinds that labels take, and where it ends the function
+/// whatever kinds, has its registers as required, goes on to kinds that labels take, and where it ends the function
 /// nothing that is owned and no credit is left.
 pub fn functions_break_no_rule()
     ensures theorem { (c : PlainCode) (f : PlainFunction) (st : Setting) (wd : W.World) (w : R.World) (fip : Bool)
@@ -53,7 +53,7 @@ pub fn functions_break_no_rule()
         (body_term w d) → (i : ℕ) → IsKept c f i }
 {}
 
-/// Each call in the function of an instance is one of the instance's own, and waits just where that one doesn't stand
+/// Each call in the function of an instance is one of the instance's own, and waits just where that one isn't
 /// in tail position; in fip nothing is dropped or freed. For who goes from a code's calls to its program's.
 pub fn calls_come_from_the_body()
     ensures theorem { (c : PlainCode) (st : Setting) (fip : Bool) (f : PlainFunction) (d : Instance) →
@@ -77,9 +77,9 @@ pub fn fip_functions_wait_for_no_group_member()
 
 /// The label maps of the function of a typed instance of which ownership and credits have a derivation are formed: each
 /// reports of types, constructors and registers that are there, of roots that are owned, and of credits of the sizes of
-/// cells. Beside a sound table of types this asks that the instance's body builds constructors of their types, that its
-/// header's credits have such sizes, and that the maps stand in order and tell of each tree some constructor, as maps
-/// that are formed do.
+/// cells. Beside a sound table of types this requires that the instance's body builds constructors of their types, that
+/// its header's credits have such sizes, and that the maps are in order and report some constructor of each tree, as
+/// maps that are formed do.
 pub fn label_maps_are_formed()
     ensures theorem { (c : PlainCode) (f : PlainFunction) (st : Setting) (wd : W.World) (w : R.World) (fip : Bool)
         (d : Instance) → Shares c st wd → Callees c st wd w → AreSoundTables c → FunctionLaid c st fip f d →
@@ -99,7 +99,7 @@ pub fn numbers_are_in_range()
 {}
 
 /// A code with sound tables is sound where each of its functions is that of an instance of a program: typed, derived
-/// and within the limits, with label maps that stand in order; no fip instance calls one that isn't fip, or one of its
+/// and within the limits, with label maps that are in order; no fip instance calls one that isn't fip, or one of its
 /// own group outside tail position.
 pub fn laid_functions_make_a_code_sound()
     ensures theorem { (c : PlainCode) (st : Setting) (p : Program) (wd : W.World) (w : R.World) → AreLaid c st p →
@@ -109,8 +109,8 @@ pub fn laid_functions_make_a_code_sound()
         function_at c n ≡ Some f → IsWithinLimits c f l.instance) → IsSound c }
 {}
 
-/// The code of `rev` is laid out as its program asks, and within the limits, and its label maps are formed. For who asks
-/// whether the premises are met.
+/// The code of `rev` is laid out as its program requires, and within the limits, and its label maps are formed. For who
+/// asks whether the premises are met.
 pub fn an_example_code_is_laid()
     ensures laid { AreLaid lists_code lists_setting lists }
     ensures limits { IsWithinLimits lists_code reversing rev }

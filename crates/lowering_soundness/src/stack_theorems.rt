@@ -15,9 +15,9 @@ ghost use Rattle.lowering_relation.specs.Values.{Setting};
 ghost use Rattle.lowering_relation.specs.LaidFunctions.{IsLaid, AreLaid};
 ghost use Rattle.lowering_soundness.specs.Alike.{Alike};
 
-/// In sound code that is laid out as its program asks, each call in the body of an instance is a call of its function,
-/// at an instruction that is reached; it waits for its callee just where it stands outside tail position. For who asks
-/// whether a code calls all that its program does.
+/// In sound code that is laid out as its program requires, each call in the body of an instance is a call of its
+/// function, at an instruction that is reached; it waits for its callee just where it is outside tail position. For who
+/// asks whether a code calls all that its program does.
 pub fn calls_of_bodies_are_reached()
     ensures theorem { (c : PlainCode) (st : Setting) (p : Program) → AreLaid c st p → IsSound c → (n : ℕ)
         (f : PlainFunction) → function_at c n ≡ Some f → (l : IsLaid c st p n f) → (s : Site) →
@@ -25,9 +25,9 @@ pub fn calls_of_bodies_are_reached()
         × Calls c n g (not s.is_tail) }
 {}
 
-/// Where the functions of a code call each other just as the instances of a program do, their frames have as many words,
-/// and fip instances call fip ones alone, each function holds of the stack at the most what the groups of the program
-/// tell of its instance. For who gives a run its stack.
+/// Where the functions of a code call each other just as the instances of a program do, their frames have as many
+/// words, and fip instances call fip ones alone, each function holds of the stack at the most what the groups of the
+/// program report of its instance. For who gives a run its stack.
 pub fn alike_functions_have_the_stack_numbers()
     ensures theorem { (c : PlainCode) (ds : List Instance) (ms : List Member) → Alike c ds → AreMembers ds ms →
         FipCallsFip ds → (i n : ℕ) (m : Member) → function_of ds i ≡ Some n → slice_get ms i ≡ Some m →

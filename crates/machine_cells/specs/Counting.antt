@@ -5,7 +5,7 @@ use Rattle.std.specs.Prelude.{◌≡◌, ℕ, ◌+◌, ◌-◌, ◌<◌, ◌≤�
 use Rattle.fip_language.specs.declared.limits.TheConstants.{MOST_FIELDS}
 use Rattle.cell_store.specs.Cells.{Cells, count_live}
 
--- the count of size k, from 1, stands one place before it
+-- the count of size k, from 1, is one place before it
 abbrev pub freed_of : List ℕ → ℕ → ℕ
 freed_of freed k = slice_index_or freed (k - 1) 0
 

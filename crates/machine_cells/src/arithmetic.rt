@@ -8,7 +8,7 @@ ghost use Rattle.machine_cells.specs.Outcomes.{Reports, truth_word};
 
 use fip_base::plain::{Operator, TrapKind};
 
-/// What an operator comes to: the word of an int, whether a comparison holds, or why there is no result.
+/// What an operator gives: the word of an int, whether a comparison holds, or why there is no result.
 #[derive(Clone, Copy)]
 pub enum Outcome {
     Int(u64),
@@ -83,7 +83,7 @@ fn remainder(left: i64, right: i64) -> Outcome
     Outcome::Int(modulo(left, right).cast_unsigned())
 }
 
-/// What an operator comes to.
+/// What an operator gives.
 #[inline(always)]
 pub fn outcome_of(operator: Operator, left: i64, right: i64) -> Outcome
     ensures { Reports (operate operator left right) result }

@@ -1,6 +1,6 @@
 // The cells that words name. In a run of verified code each word names the cell that its register should. A caller that
-// knows it says so by `SURE`, and nothing is tested; for others each thing that is asked of a cell is tested, and where a
-// test failed, the instruction would do nothing.
+// knows it says so by `SURE`, and nothing is tested; for others each thing that is required of a cell is tested, and
+// where a test failed, the instruction would do nothing.
 ghost use Rattle.std.specs.Prelude.{◌≡◌, ◌≢◌, ℕ, ◌/◌, ◌<◌, ◌≤◌, true, false, None, Some, IfSome, IsTrue, slice_get};
 ghost use Rattle.cell_store.specs.Cells.{cell_at, size_in};
 ghost use Rattle.machine_cells.specs.Small.{IsSmall};

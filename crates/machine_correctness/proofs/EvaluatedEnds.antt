@@ -1,5 +1,5 @@
 -- What a machine answers is what the source means.
--- Idea: a run comes to one end, so the end that the machine reports is the one that stands for the meaning.
+-- Idea: a run reaches one end, so the end that the machine reports is the one that stands for the meaning.
 use Rattle.std.proofs.Common.{◌≡◌, ◌≢◌, ◌<◌, ◌≤◌, ℕ, true, List, [], length, Some, refl, sym, ap, ◌∙◌, subst}
 use Rattle.fip_machine.specs.fip_language.Core.{Core}
 use Rattle.fip_machine.specs.fip_language.Meaning.{Answer, Gives, Trap, Out, Deep, Stuck, meaning}

@@ -1,4 +1,4 @@
--- The ints that a verified code writes have 64 bits, as separation asks it instruction by instruction.
+-- The ints that a verified code writes have 64 bits, as separation requires it instruction by instruction.
 use Rattle.std.proofs.Common.{◌≡◌, ℕ, Some, refl}
 use Rattle.fip_machine.specs.cell_code.declared.code.Instr.{Instr}
 use Rattle.fip_machine.specs.cell_code.declared.code.Instr.TheVariants as I

@@ -1,4 +1,4 @@
--- The code of an accepted source, wherever it stands: in memory, or in a file.
+-- The code of an accepted source, wherever it is: in memory, or in a file.
 use Rattle.std.proofs.Common.{◌≡◌, List, ℕ, map, ◌∙◌}
 use Rattle.fip_machine.specs.fip_language.Core.{Core}
 use Rattle.compiler_correctness.specs.fip_trees.declared.groups.Member.{Member}

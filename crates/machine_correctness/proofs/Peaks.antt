@@ -1,6 +1,6 @@
 -- The stack of a run of an accepted source's code is the peak of the evaluation of its program.
 -- Idea: it is that of the run on trees, which has the peak of the evaluation; and a frame has as many words there as
--- here, since the function of an instance has as many registers as its groups tell.
+-- here, since the function of an instance has as many registers as its groups report.
 use Rattle.std.proofs.Common.{◌≡◌, ◌<◌, ◌+◌, ℕ, zero, suc, List, [], ◌∷◌, length, map, max, Option, Some, None, slice_get, refl, sym, ap, ◌∙◌, subst, arith}
 use Rattle.std.proofs.lemmas.Option.{none-some, same_Some}
 use Rattle.fip_machine.specs.fip_language.declared.FunKind.{FunKind}

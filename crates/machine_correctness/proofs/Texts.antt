@@ -1,4 +1,4 @@
--- What was loaded from a text into an empty store begins a run on the values that the text spells.
+-- What was loaded from a text into an empty store begins a run on the values that the text encodes.
 -- Idea: a cell of the store has a field, so a node with a cell has a part; and each cell that isn't released is one of
 -- the values' or of the credits' cells, once.
 use Rattle.std.proofs.Common.{◌≡◌, ◌<◌, ◌≤◌, ◌+◌, ℕ, zero, suc, Bool, true, false, List, [], ◌∷◌, ◌++◌, length, map, Option, Some, None, slice_get, refl, sym, ap, ◌∙◌, subst, arith}
@@ -71,7 +71,7 @@ module _ (tb : Table) (s : Store) (sized : Every IsSized s.cells) where
     stand_all (t ∷ ts) NoParts h = absurd h
     stand_all (t ∷ ts) (MoreParts x xs) h = (stands t x h.0, stand_all ts xs h.1)
 
--- the printer asks no more of a tree
+-- the printer requires no more of a tree
 module _ (tb : Table) (s : Store) where
   mutual
     lies : (t : ℕ) (x : Placed) → C.Stands tb s t x → V.Stands tb s.cells t x

@@ -1,4 +1,4 @@
--- Of sound code no run comes to an instruction that can't be done, so what is said of its end is said of each.
+-- Of sound code no run reaches an instruction that can't be done, so what is said of its end is said of each.
 use Rattle.std.proofs.Common.{◌≡◌, ℕ, List, refl}
 use Rattle.fip_machine.specs.fip_language.Gauge.{Seen}
 use Rattle.fip_machine.specs.cell_code.Plain.{plain}

@@ -1,6 +1,6 @@
 -- How a run came out, against the run that the definition says, where an instruction that can't be done is no way to
 -- come out.
--- rev of two items and none, with 2 calls, came to Out: the definition's run is over after 8 steps, out of calls.
+-- rev of two items and none, with 2 calls, ended in Out: the definition's run is over after 8 steps, out of calls.
 use Rattle.std.specs.Prelude.{ℕ, List}
 use Rattle.fip_machine.specs.cell_code.Plain.{PlainCode}
 use Rattle.compiler_correctness.specs.machine_semantics.Gauges.{seen}
@@ -25,7 +25,7 @@ abbrev pub IsOverJust : Run → Ended → State → List ℕ → Type 0
 IsOverJust (Going s left n) e new given = ⊥
 IsOverJust (Over end s left n) e new given = EndsJustAs end s e new given
 
--- The run from the first state, with so many calls, comes to this end.
+-- The run from the first state, with so many calls, reaches this end.
 abbrev pub RunsJustTo : Kinds → PlainCode → State → ℕ → Ended → State → List ℕ → Type 0
 RunsJustTo kinds code first calls e new given =
     (n : ℕ) × IsOverJust (after kinds code n (begun first calls)) e new given
@@ -39,7 +39,7 @@ ReportsJustOver (Over Out s left n) g ss = Reports g ss
 ReportsJustOver (Over Deep s left n) g ss = Reports g ss
 ReportsJustOver (Over Unsound s left n) g ss = ⊥
 
--- The run from the first state, with so many calls, comes to an end, and the gauge reports of all its states.
+-- The run from the first state, with so many calls, reaches an end, and the gauge reports of all its states.
 abbrev pub ReportsJustRun : Kinds → PlainCode → State → ℕ → Gauge → Type 0
 ReportsJustRun kinds code first calls g =
     (n : ℕ) × ReportsJustOver (after kinds code n (begun first calls)) g (seen kinds code n (begun first calls))

@@ -28,8 +28,8 @@ pub record IsFlat (g : Gauge) (vs : Values) (credits : List ℕ) (stack : Stack)
   pub frames : g.frames ≤ stack.frames
   pub words : g.words ≤ stack.words
 
--- Over these states the lowest number of held cells of each size is that of the results' and the lent arguments' cells,
--- the highest that of the arguments' cells and the header's credits, and the stack is as high as this peak.
+-- Over these states the lowest number of held cells of each size is that of the results' and the borrowed arguments'
+-- cells, the highest that of the arguments' cells and the header's credits, and the stack is as high as this peak.
 pub record IsMeasured (vs results : Values) (params : List Param) (credits : List ℕ) (peak : Peak) (ss : List Seen) :
     Type 0 where
   pub lowest : (size : ℕ) → 1 ≤ size →

@@ -19,9 +19,9 @@ pub fn drops_are_known()
         IsStart (plain v.code) before waits n kept s → KnowsRun v before s calls }
 {}
 
-/// A run that begins rightly never comes to an instruction that can't be done, where the machine says nothing: its end,
-/// its last state and its results are those of the written run, and the gauge reports of all states of that run. For who
-/// prints what a run came to.
+/// A run that begins rightly never reaches an instruction that can't be done, where the machine says nothing: its end,
+/// its last state and its results are those of the written run, and the gauge reports of all states of that run. For
+/// who prints what a run ended in.
 pub fn no_end_is_left_out()
     ensures run { (v : Checked) (before waits : Kinds) (n : ℕ) (kept : List ℕ) (s : State) (calls : ℕ) (e : Ended)
         (last : State) (given : List ℕ) → IsStart (plain v.code) before waits n kept s →

@@ -42,7 +42,7 @@ pub fn a_loaded_function_begins()
         Begins code n f vs frames s }
 {}
 
-/// A function begins on the values that a text spells, where they were loaded from it into an empty store, with the
+/// A function begins on the values that a text encodes, where they were loaded from it into an empty store, with the
 /// cells of its credits. For who runs a function on the text of its arguments.
 pub fn what_is_loaded_from_a_text_begins()
     ensures theorem { (code : Code) (n : ℕ) (f : PlainFunction) (bytes : List ℕ) (old new : Loading) (words : List ℕ)
@@ -55,8 +55,8 @@ pub fn what_is_loaded_from_a_text_begins()
 
 /// Where a function of an accepted source's code begins on arguments, the machine's run ends as the source means by the
 /// function of that name: with words that stand for its values, in the same trap, or out of calls or of frames; for
-/// want of frames no fip entry ends that has as many as its stack number says. What the machine asks of such a run is
-/// so of sound code. For who prints what a machine answers.
+/// lack of frames no fip entry ends that has as many as its stack number says. What the machine requires of such a run
+/// is so of sound code. For who prints what a machine answers.
 pub fn a_machine_ends_as_the_source_means()
     ensures knows { (v : Checked) (before waits : Kinds) (n : ℕ) (f : PlainFunction) (vs : Values) (frames : ℕ)
         (s : State) (calls : ℕ) → IsSoundCode v.code → AreKinds (plain v.code) before waits →
@@ -107,10 +107,10 @@ pub fn a_gauge_of_a_fip_entry_is_flat()
 {}
 
 /// What is seen of the states of a run that gives values, by the evaluation that the source means: as the lowest number
-/// of cells of each size that of the results' and the lent arguments' cells, as the highest that of the arguments' cells
-/// and of the header's credits; and the most frames beside the entry's and the most words of all frames are its peak. It
-/// is said of code whose functions have as many registers as the groups of its program tell. For who computes a gauge
-/// without a run, or asks whether two codes of a source differ in it.
+/// of cells of each size that of the results' and the borrowed arguments' cells, as the highest that of the arguments'
+/// cells and of the header's credits; and the most frames beside the entry's and the most words of all frames are its
+/// peak. It is said of code whose functions have as many registers as the groups of its program report. For who
+/// computes a gauge without a run, or asks whether two codes of a source differ in it.
 pub fn a_run_is_measured_by_its_evaluation()
     ensures theorem { (source : List ℕ) (core : Core) (code : Code) (before waits : Kinds) (n : ℕ) (f : PlainFunction)
         (vs results : Values) (frames : ℕ) (s : State) (calls rest : ℕ) (end : End) (last : State) (left steps : ℕ) →

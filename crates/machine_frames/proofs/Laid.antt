@@ -17,7 +17,7 @@ clears_both a b c d ws us xs l m n p q = record {
   ];
 }
 
--- one more word is laid
+-- one more word is laid out
 pub laid_more : (n m base i : ℕ) (ws us rs : List ℕ) → i < length rs → m ≡ n + (i + 1) → laid_at (n + i) us (words_from base ws (drop i rs)) ≡ laid_at m (slice_set us (n + i) (get_or ws (base + get_or rs i 0) 0)) (words_from base ws (drop (i + 1) rs))
 laid_more n m base i ws us rs h e =
     let next : suc (n + i) ≡ m = omega (arith, e) in

@@ -1,6 +1,6 @@
 -- What no step of any code raises: held cells of a size; and, unless a function is entered, frames and their words.
--- The idea: a change sets one place, to a cell of the old size or to a released one. A row writes registers that are
--- there, and a return takes a frame away.
+-- The idea: a change sets one place, to a cell of the old size or to a released one. An instruction writes registers
+-- that are there, and a return takes a frame away.
 use Rattle.std.proofs.Common.{◌≡◌, ℕ, zero, suc, ◌+◌, ◌≤◌, refl, sym, ap, ◌∙◌, subst, arith, Bool, true, false, List, [], ◌∷◌, length, map, Option, Some, None, nat_eq, nat_lt, if◌then◌else◌}
 use Rattle.std.specs.Prelude.{slice_get, slice_set, option_and_then, option_map, sum}
 use Rattle.std.proofs.lemmas.Option.{none-some, same_Some}
@@ -24,7 +24,7 @@ use Rattle.machine_semantics.proofs.Sizes.{went_keeps, entered_keeps}
 
 -- ---- held cells
 
--- how many places tell whether their cell is released stays
+-- how many places report whether their cell is released stays
 written_long : (s t : Store) (p : ℕ) (new : Cell) (o : Option Cell) → written s p new o ≡ Some t → length t.released ≡ length s.released
 written_long s t p new None e = absurd (none-some t e)
 written_long s t p new (Some old) e = by (nat_eq (size_of old) (size_of new)) e

@@ -27,7 +27,7 @@ some_same s t is = ap (λ o. unwrap_or o s) is
 pub none_some : (t : Store) → ◌≡◌ {A = Option Store} None (Some t) → ⊥
 none_some t is = true≢false (sym (ap (λ (o : Option Store). is_some o) is))
 
--- the first change came to o
+-- the first change gave o
 replay_first : (n : ℕ) (cs : List Change) (i : ℕ) → ((s t : Store) → changed_by cs s ≡ Some t → replay s (events_of n cs) i ≡ t) → (s t : Store) (o : Option Store) → option_and_then (λ u. changed_by cs u) o ≡ Some t → replay (changed_or s o) (events_of n cs) i ≡ t
 replay_first n cs i others s t None is = absurd (none_some t is)
 replay_first n cs i others s t (Some u) is = others u t is

@@ -1,6 +1,6 @@
 -- Separation: the cells of a state are apart. Each cell is in one of these lists, and once: those of the trees of all
--- owned registers of all frames, the cells of credits, those of the trees of the entry's lent arguments, the kept
--- cells, which a run is given beside its own and never touches, and the released cells. What is lent lies in one of
+-- owned registers of all frames, the cells of credits, those of the trees of the entry's borrowed arguments, the kept
+-- cells, which a run is given beside its own and never touches, and the released cells. What is borrowed lies in one of
 -- these trees.
 -- What is known of registers is their kinds: `before` at the instruction of the running frame, and `waits` at a Call
 -- after its arguments were used up, for a frame that waits.
@@ -114,7 +114,7 @@ abbrev pub owned_trees : List Slot → List Placed
 owned_trees [] = []
 owned_trees (x ∷ xs) = owned_tree x.kind x.holds ++ owned_trees xs
 
--- the trees that these frames own, and the entry's lent arguments
+-- the trees that these frames own, and the entry's borrowed arguments
 abbrev pub trees_below : List (List Slot) → List Placed → List Placed
 trees_below [] lent = lent
 trees_below (xs ∷ xss) lent = owned_trees xs ++ trees_below xss lent
@@ -132,7 +132,7 @@ abbrev pub slot_trees : Option Slot → List Placed
 slot_trees None = []
 slot_trees (Some x) = owned_tree x.kind x.holds
 
--- A lent tree lies in that of its root, an owned register of the same frame; without one it lies in a tree below.
+-- A borrowed tree lies in that of its root, an owned register of the same frame; without one it lies in a tree below.
 abbrev pub IsRooted : List Slot → List Placed → Option ℕ → Placed → Type 0
 IsRooted slots below None x = LiesIn x below
 IsRooted slots below (Some r) x = LiesIn x (slot_trees (slice_get slots r))
@@ -206,7 +206,7 @@ typed [] ws = []
 typed (t ∷ ts) [] = []
 typed (t ∷ ts) (w ∷ ws) = record { type = t; word = w } ∷ typed ts ws
 
--- A run of function f gave these words, from this last state: they stand for trees that are apart from the lent
+-- A run of function f gave these words, from this last state: they stand for trees that are apart from the borrowed
 -- arguments, the kept and the released cells, and together these are all cells.
 pub record GivesApart (code : PlainCode) (f : ℕ) (kept : List ℕ) (s : State) (ws : List ℕ) : Type 0 where
   pub number : length ws ≡ length (results_of (function_at code f))

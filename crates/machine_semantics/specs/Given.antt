@@ -16,7 +16,7 @@ AreSpare s [] (p ∷ ps) = ⊥
 AreSpare s (k ∷ ks) [] = ⊥
 AreSpare s (k ∷ ks) (p ∷ ps) = ((c : Cell) × (cell_at s p ≡ Some c) × (size_of c ≡ k)) × AreSpare s ks ps
 
--- What the entry g asks of the words that it is given: they stand for arguments of its parameters' types and name a
+-- What the entry g requires of the words that it is given: they stand for arguments of its parameters' types and name a
 -- cell of its size for each of its credits; these, the kept and the released cells are apart, and together all cells.
 pub record IsGiven (tb : Table) (g : PlainFunction) (s : Store) (kept ws : List ℕ) : Type 0 where
   pub store : IsStore s

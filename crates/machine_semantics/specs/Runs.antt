@@ -1,6 +1,6 @@
 -- Runs: steps, each the next of a state, with calls that are left.
 -- The entry takes one call, and each Call and Tail takes one. Where none is left the run is out of calls, before a free
--- frame is asked for; so with no calls it is over before its first step. Every instruction is a step; one that ends the
+-- frame is needed; so with no calls it is over before its first step. Every instruction is a step; one that ends the
 -- run is its last. A run that is over stays as it is.
 -- rev of two items and none, with 3 calls, takes 4 steps for each item and 3 at the end: after 11 steps it is over with
 -- a value, and no call is left. With 2 calls it is out of calls after 8.
@@ -74,7 +74,7 @@ pub record Ends (kinds : Kinds) (code : PlainCode) (s : State) (calls : ℕ) (e 
   pub enough : ℕ
   pub is : after kinds code enough (begun s calls) ≡ Over e last left steps
 
--- the arguments that are lent, those of scalar types not among them
+-- the arguments that are borrowed, those of scalar types not among them
 abbrev pub lent_words : Table → List Param → List ℕ → List Typed
 lent_words tb [] ws = []
 lent_words tb (p ∷ ps) [] = []

@@ -1,7 +1,7 @@
 -- The states of a run: the store, the frame that runs, those that wait for it, how many frames are free, and the words
--- of the entry's lent arguments, which stay.
+-- of the entry's borrowed arguments, which stay.
 -- rev of Cons(1, Cons(2, Nil)) and Nil begins with two cells, a frame at instruction 0 with 7 registers of which the
--- first two hold the words 3 and 0, none that waits, and none that is free; no argument is lent.
+-- first two hold the words 3 and 0, none that waits, and none that is free; no argument is borrowed.
 use Rattle.std.specs.Prelude.{ℕ, ◌+◌, List, ◌∷◌, length, map, sum}
 use Rattle.cell_code.specs.fip_language.declared.TrapKind.{TrapKind}
 use Rattle.machine_semantics.specs.Limits.{frame_words}
@@ -19,7 +19,7 @@ pub record Typed : Type 0 where
   pub type : ℕ
   pub word : ℕ
 
--- the frames that wait stand from the caller of the running one down to the entry's; the arguments are those of types
+-- the frames that wait are from the caller of the running one down to the entry's; the arguments are those of types
 -- that aren't scalar
 pub record State : Type 0 where
   pub store : Store

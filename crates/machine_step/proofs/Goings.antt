@@ -29,7 +29,7 @@ use Rattle.machine_step.proofs.Calls.{plain_at}
 pub instr_is : (v : Checked) (b : Bounds) (n : ℕ) (c : Cursor) (x : Instr) → IsPlaced v b n c → slice_get c.instrs.now c.at ≡ Some x → instr_at (plain v.code) c.function c.at ≡ Some x
 instr_is v b n c x p e = ap (λ o. instr_in o c.at) (plain_at v.code.functions.items c.function p.is.0 p.is.1) ∙ ap (λ (xs : List Instr). slice_get xs c.at) p.is.3 ∙ e
 
--- what an instruction came to is what came next
+-- what an instruction ended in is what came next
 pub next_is : (v : Checked) (b : Bounds) (n : ℕ) (kinds : Kinds) (lent : List Typed) (s : Store) (ws : List ℕ) (c : Cursor) (x : Instr) (r : Stepped) (t : State) (given : List ℕ) → IsPlaced v b n c → slice_get c.instrs.now c.at ≡ Some x → Comes (state_of v b lent s ws c) (act (plain v.code) (kinds c.function c.at) (state_of v b lent s ws c) x) r t given → Comes (state_of v b lent s ws c) (next kinds (plain v.code) (state_of v b lent s ws c)) r t given
 next_is v b n kinds lent s ws c x r t given p e h =
     let old = state_of v b lent s ws c in

@@ -1,4 +1,4 @@
--- What instructions tell a store.
+-- What instructions write to a store.
 use Rattle.std.proofs.Common.{◌≡◌, ℕ, ◌+◌, Bool, true, false, List, [], ◌∷◌, ◌++◌, map, Option, Some, None, refl, sym, ap, subst, ◌∙◌}
 use Rattle.std.proofs.lemmas.List.{append-nil}
 use Rattle.fip_language.specs.Arithmetic.{Operated, Is, Fails}

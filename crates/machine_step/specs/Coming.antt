@@ -1,5 +1,5 @@
--- What a step came to, against what the definition says comes next. Where the definition says nothing comes, nothing is
--- said: of sound code this never happens.
+-- What a step ended in, against what the definition says comes next. Where the definition says nothing comes, nothing
+-- is said: of sound code this never happens.
 use Rattle.std.specs.Prelude.{◌≡◌, ℕ, List, Some, slice_get}
 use Rattle.cell_code.specs.declared.code.Instr.{Instr}
 use Rattle.cell_code.specs.declared.code.Instr.TheVariants as I

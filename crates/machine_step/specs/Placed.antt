@@ -1,7 +1,6 @@
 -- Where a run is, among the words of its frames. A frame that waits for a call is its registers and two words more: its
--- function and the number of the call. The running frame lies behind those that wait.
--- With a function f of 3 registers that calls g of 2 at its instruction 4, the words of both frames are
--- r0 r1 r2 f 4 | s0 s1, and g's frame begins at 5.
+-- function and the number of the call. The running frame lies after those that wait. With a function f of 3 registers
+-- that calls g of 2 at its instruction 4, the words of both frames are r0 r1 r2 f 4 | s0 s1, and g's frame begins at 5.
 use Rattle.std.specs.Prelude.{◌≡◌, ℕ, zero, suc, ◌+◌, ◌-◌, ◌*◌, ◌<◌, ◌≤◌, List, length, Some, slice_get, slice_index_or}
 use Rattle.fip_language.specs.declared.limits.TheConstants.{MOST_REGISTERS}
 use Rattle.fip_base.specs.declared.plain.Stack.{Stack}

@@ -1,7 +1,7 @@
--- That a run never comes to an instruction that can't be done, reported of one state and up to the next call. Who knows it
--- needs no test of the cells that words name.
+-- That a run never reaches an instruction that can't be done, reported of one state and up to the next call. Who knows
+-- it needs no test of the cells that words name.
 -- From the state before a Test, a Take and a Put of one cell the three can be done, one after another: this is what is
--- asked where the loop of a run does them in one turn.
+-- required where the loop of a run does them in one turn.
 use Rattle.std.specs.Prelude.{ℕ, Bool, [], List}
 use Rattle.cell_code.specs.declared.code.Instr.{Instr}
 use Rattle.cell_code.specs.declared.kind.Kind.{Kind}

@@ -1,5 +1,5 @@
--- The words of all frames, where a run is among them, and a store, as a state of a run. The entry's lent arguments are
--- not kept; a state has them, so they are given.
+-- The words of all frames, where a run is among them, and a store, as a state of a run. The entry's borrowed arguments
+-- are not kept; a state has them, so they are given.
 use Rattle.std.specs.Prelude.{ℕ, ◌-◌, List, take}
 use Rattle.code_verify.specs.Checked.{Checked}
 use Rattle.machine_frames.specs.machine_semantics.Cells.{Store}

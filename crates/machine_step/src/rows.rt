@@ -1,7 +1,7 @@
 // One function for each instruction, each inlined into `act`, and `act` into the loop of a run. What an instruction
-// asks of registers, targets, functions and room holds of a verified code, and isn't tested; what it asks of cells is
-// tested in `machine_cells`, but for callers that know that the run never comes to an instruction that can't be done
-// (`SURE`).
+// requires of registers, targets, functions and room holds of a verified code, and isn't tested; what it requires of
+// cells is tested in `machine_cells`, but for callers that know that the run never reaches an instruction that can't be
+// done (`SURE`).
 ghost use Rattle.std.specs.Prelude.{◌≡◌, ◌≢◌, ℕ, ◌+◌, ◌-◌, ◌*◌, ◌/◌, ◌<◌, ◌≤◌, ◌^◌, Bool, false, List, [], ◌++◌};
 ghost use Rattle.std.specs.Prelude.{length, vec_len, Some, IfSome, None, slice_get, slice_set, slice_index_or, take};
 ghost use Rattle.std.specs.Prelude.{map, if◌then◌else◌, true};
@@ -45,7 +45,7 @@ use machine_cells::{
 };
 use machine_frames::{clear_rest, give, pass, put, replace, take};
 
-/// What a step came to.
+/// What a step ended in.
 #[derive(Clone, Copy, PartialEq, Eq)]
 pub enum Stepped {
     /// An instruction that isn't a call was done.
@@ -791,7 +791,7 @@ fn enter_again(
     Stepped::Entered
 }
 
-// Calls a function: its frame lies behind the running one, which waits, and the two words between them tell where.
+// Calls a function: its frame lies after the running one, which waits, and the two words between them say where.
 #[inline(always)]
 fn call<'a>(
     verified: &'a Verified,

@@ -1,4 +1,4 @@
--- Variables that stand twice, matches at the limits, and the text of a pattern, computed.
+-- Variables that occur twice, matches at the limits, and the text of a pattern, computed.
 use Rattle.std.proofs.Common.{◌≡◌, ℕ, zero, suc, List, [], ◌∷◌, None, true, false, refl, codes}
 use Rattle.fip_language.specs.declared.Place.{Place}
 use Rattle.fip_language.specs.declared.rule.Rule.TheVariants.{E42}

@@ -1,4 +1,4 @@
--- The head that is found is the least that may stand at a position, and one is found.
+-- The head that is found is the least that may occur at a position, and one is found.
 use Rattle.std.proofs.Common.{◌≡◌, ◌⊎◌, inl, inr, get_or, ℕ, zero, suc, ◌+◌, ◌<◌, ◌≤◌, ◌^◌, List, [], ◌∷◌, length, Option, Some, None, Bool, true, false, refl, sym, ap, ◌∙◌, subst, arith}
 use Rattle.std.specs.Prelude.{if◌then◌else◌, slice_get, pos, negsuc}
 use Rattle.fip_language.specs.Values.{Value, Int, Node}

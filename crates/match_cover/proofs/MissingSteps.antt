@@ -82,7 +82,7 @@ row_test t g ps = ap row (sym (R.rolls-Test t g ps)) ∙ fold-roll-Row Pattern r
 pub part_arm : (h : Head) (j : ℕ) (p : Row) (t : ℕ) (g : Head) (ps qs : List Row) (o : Option (Bor Row)) → same_head g h ≡ true → row p ≡ Test t g (parts ps) → qs ≡ ps → IfSome o (λ x. x.now ≡ get_or qs j x.now) → MatchOption o (length qs ≤ j) (λ x. (j < length qs) × HoldsAt (λ y. x.now ≡ y) qs j) → option_map (λ r. row r.now) o ≡ part_below h j (row p)
 part_arm h j p t g ps qs o s e d i m = part_is qs j o i m ∙ ap (λ z. part_at j (parts z)) d ∙ sym (ap (λ b. if b then part_at j (parts ps) else None) s) ∙ sym (ap (part_below h j) e)
 
--- what stands below a tested position has fewer tests
+-- what is below a tested position has fewer tests
 abbrev part_nodes : Option Pattern → ℕ
 part_nodes None = 0
 part_nodes (Some p) = nodes p

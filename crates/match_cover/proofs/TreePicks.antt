@@ -58,7 +58,7 @@ in_more true is at a b v vs x y f d g = f refl
 in_more false is at a b v vs x y f d g = in_below at b v vs (d refl) ∙ g refl
 
 mutual
-  -- the test at the position reports whether the value comes to the yes side
+  -- the test at the position reports whether the value reaches the yes side
   pub stands_is : (d : Head) (p : Pattern) (k : Known) (v : Value) → compare p k ≡ Asks → stands (position p k) (asked d p k) v ≡ has_asked p k v
   stands_is d Any k v e = cc
   stands_is d (Test t h ps) (Open out) v e = refl

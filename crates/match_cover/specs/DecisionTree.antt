@@ -14,7 +14,7 @@ abbrev pub chosen : ℕ → List Pattern → Value → ℕ
 chosen i [] v = i
 chosen i (p ∷ ps) v = if fits p v then i else chosen (suc i) ps v
 
--- what stands at a position of a value is q
+-- what is at a position of a value is q
 abbrev pub drop_children : ℕ → Values → Values
 drop_children zero vs = vs
 drop_children (suc i) End = End

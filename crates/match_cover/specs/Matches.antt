@@ -1,5 +1,5 @@
 -- It serves the search: the matches of a program as it lies in memory, and the decision tree of each.
--- Rules: matches are numbered from 0 over the instances, and in a body as they stand in the text.
+-- Rules: matches are numbered from 0 over the instances, and in a body as they are in the text.
 use Rattle.std.specs.Prelude.{◌≡◌, ℕ, ◌-◌, ◌<◌, ◌≤◌, ◌⊎◌, List, [], ◌∷◌, ◌++◌, map, length, Option}
 use Rattle.std.specs.Prelude.{Some, None, slice_get}
 use Rattle.std.specs.List.Sorted.{IsPermutation}
@@ -18,7 +18,7 @@ use Rattle.match_cover.specs.PatternView.{erased, joined}
 use Rattle.match_cover.specs.TreeView.{AnswersTree}
 use Rattle.match_cover.specs.declared.trees.Tree.{Tree}
 
--- where a match stands, the type of what is matched, and the patterns of its clauses
+-- where a match is, the type of what is matched, and the patterns of its clauses
 pub record Match : Type 0 where
   pub place : Place
   pub ty : ℕ
@@ -28,7 +28,7 @@ pub record Match : Type 0 where
 abbrev pub rows_of : Match → List Pattern
 rows_of m = map erased m.clauses
 
--- as they stand in the text: none stands after a later one
+-- as they are in the text: none is after a later one
 abbrev pub NoneBefore : Match → List Match → Type 0
 NoneBefore m [] = Unit {0}
 NoneBefore m (n ∷ ns) = (m.place.at ≤ n.place.at) × NoneBefore m ns
@@ -84,7 +84,7 @@ block_matches =
 abbrev pub arm : Clause → Arm
 arm = fold-Clause (List Match) (List Match) (List Match) Arm expression_step binding_step block_step clause_step
 
--- match number m of a body, as its matches stand in the text
+-- match number m of a body, as its matches are in the text
 pub record IsNumbered (b : Block) (m : ℕ) (found : Match) : Type 0 where
   pub order : List Match
   pub same : IsPermutation (block_matches b) order

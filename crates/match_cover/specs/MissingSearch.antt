@@ -68,7 +68,7 @@ FindsFields tb rows at fs here ms =
     (root : ℕ) → IsMatch tb root rows → AreFields tb root rows at fs here → AllHaveValues tb fs →
     Left tb root rows (at (open_fields fs)) → AreMissing tb root rows at fs here ms
 
--- whether h, with fields of these types, may stand there
+-- whether h, with fields of these types, may occur there
 abbrev pub Tried : Table → List Pattern → (Known → Known) → Head → List ℕ → Bool → Type 0
 Tried tb rows at h fs b = AnswersLeft tb rows (at (Is h (open_fields fs))) b
 
@@ -89,7 +89,7 @@ LeastTag tb rows at ss (Some h) =
     (c : ℕ) × (s : Shape) × (slice_get ss c ≡ Some s) × (h ≡ Tag c) × Tried tb rows at (Tag c) s.fields true
     × NoTag tb rows at ss c
 
--- the least head that may stand there, of the numbers below an end or of all constructors
+-- the least head that may occur there, of the numbers below an end or of all constructors
 pub record FindsHead (tb : Table) (rows : List Pattern) (at : Known → Known) (t end : ℕ) (o : Option Head)
     : Type 0 where
   pub number : t ≡ 0 → LeastNumber tb rows at end o

@@ -1,7 +1,7 @@
 -- The decision tree of a match, and how many branches it has.
 -- Rules: the first clause that isn't ruled out is looked at. Where it asks for nothing more, the tree is its leaf. Else
 -- its first open test, in the order of the walk, is a branch: on the yes side it holds, on the no side it doesn't.
--- Where no value comes to the no side, the tree is that of the yes side. (A value always comes to the yes side.)
+-- Where no value reaches the no side, the tree is that of the yes side. (A value always reaches the yes side.)
 use Rattle.std.specs.Prelude.{ℕ, zero, suc, ◌+◌, true, false, if◌then◌else◌, List, [], ◌∷◌}
 use Rattle.match_knowledge.specs.declared.heads.Head.{Head}
 use Rattle.match_knowledge.specs.declared.heads.Head.TheVariants.{Tag}

@@ -50,7 +50,7 @@ abbrev pub raise : ℕ → List ℕ → List ℕ
 raise j [] = []
 raise j (i ∷ is) = (j + i) ∷ is
 
--- how many fields stand before the first that asks (all, where none does)
+-- how many fields are before the first that asks (all, where none does)
 abbrev pub asking : Patterns → Knowns → ℕ
 asking NoPatterns ks = 0
 asking (MorePatterns p ps) NoKnowns = 0

@@ -25,7 +25,7 @@ use std::alloc::Global;
 /// Whether no match breaks a rule. It is refused by the least violation of the first two of these rules, or, where
 /// nothing breaks them, of the last two:
 ///
-/// - E42: a variable stands twice in a pattern or in the binders of a let;
+/// - E42: a variable occurs twice in a pattern or in the binders of a let;
 /// - E43: a match has more than 64 clauses, or more than 256 pattern nodes in all;
 /// - E40: some value is matched by no clause; the refusal names the missing pattern;
 /// - E41: no value is matched first by a clause.

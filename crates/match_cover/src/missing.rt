@@ -1,7 +1,7 @@
 // The missing pattern of a match: of some values that no clause matches.
 //
 // Positions are walked from the root, then over the fields from left to right, each with its own fields before the
-// next. At a position where no clause has a constructor or a literal stands `_`. At another stands the least
+// next. At a position where no clause has a constructor or a literal `_` is put. At another it is the least
 // constructor, or the least number from 0 upwards, such that some value that no clause matches agrees with all choices
 // so far and has it there.
 ghost use Rattle.std.specs.Prelude.{◌≡◌, ◌<◌, ◌≤◌, ◌^◌, ◌+◌, ◌++◌, true, drop, map, length, option_map, IfOk, OnOk};
@@ -124,7 +124,7 @@ impl<'a> Search<'a> {
         Ok(parts)
     }
 
-    // The least head that may stand at a position: of the constructors, or of the numbers below an end.
+    // The least head that may occur at a position: of the constructors, or of the numbers below an end.
     fn least_head(&self, at: &[Frame], ty: u32, end: usize) -> Result<Option<Head>, NoMemory>
         requires { end ≤ 2 ^ 63 }
         ensures { IfOk result (FindsHead self.now.types.now (rows self.now.rows.now) (placed (levels at.now)) ty end) }
@@ -135,7 +135,7 @@ impl<'a> Search<'a> {
         self.least_constructor(at, constructors_of(self.types, ty))
     }
 
-    // The least number below an end that may stand at a position. One that no clause has there always may.
+    // The least number below an end that may occur at a position. One that no clause has there always may.
     fn least_number(&self, at: &[Frame], end: usize) -> Result<Option<Head>, NoMemory>
         requires { end ≤ 2 ^ 63 }
         ensures { IfOk result (LeastNumber self.now.types.now (rows self.now.rows.now) (placed (levels at.now)) end) }
@@ -149,7 +149,7 @@ impl<'a> Search<'a> {
         Ok(None)
     }
 
-    // The least of these constructors that may stand at a position.
+    // The least of these constructors that may occur at a position.
     fn least_constructor(
         &self,
         at: &[Frame],
@@ -359,7 +359,7 @@ fn put_parts(
     put_end(ps.len(), text)
 }
 
-// Puts what stands before the j-th part.
+// Puts what is before the j-th part.
 fn put_sign(j: usize, text: &mut Vec<u8>) -> Result<(), NoMemory>
     ensures { OnOk result (text.new.items ≡ text.old.items ++ part_sign j) }
 {
@@ -371,7 +371,7 @@ fn put_sign(j: usize, text: &mut Vec<u8>) -> Result<(), NoMemory>
     Ok(())
 }
 
-// Puts what stands after so many parts.
+// Puts what is after so many parts.
 fn put_end(count: usize, text: &mut Vec<u8>) -> Result<(), NoMemory>
     ensures { OnOk result (text.new.items ≡ text.old.items ++ last_sign count) }
 {

@@ -2,8 +2,8 @@
 //
 // The first clause that isn't ruled out is looked at. Where it asks for nothing more, the tree is its leaf. Else its
 // first open test, in the order of the walk from the root, then over the fields from left to right, each with its own
-// fields before the next, is a branch: on the yes side it holds, on the no side it doesn't. Where no value comes to the
-// no side, the tree is that of the yes side. A value always comes to the yes side.
+// fields before the next, is a branch: on the yes side it holds, on the no side it doesn't. Where no value reaches the
+// no side, the tree is that of the yes side. A value always reaches the yes side.
 ghost use Rattle.std.specs.Prelude.{◌≡◌, ◌++◌, IfOk, OnOk};
 ghost use Rattle.match_knowledge.specs.View.{row, rows, parts, known, knowns};
 ghost use Rattle.match_knowledge.specs.declared.heads.Head.TheVariants.{Tag};
@@ -29,7 +29,7 @@ pub enum Tree {
         position: Vec<usize>,
         /// What is asked there: an int, or the number of a constructor.
         question: Head,
-        /// The tree where it stands there.
+        /// The tree where it is there.
         yes: Box<Tree>,
         /// The tree where it doesn't.
         no: Box<Tree>,

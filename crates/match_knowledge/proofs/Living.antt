@@ -127,7 +127,7 @@ mutual
       (λ c. side_alive tb m f b p k y n q.0 l.0 (is_asking (compare p k) c) (λ z. if_true (is_asks (compare p k)) (is_last tb p k) (are_last tb ps ks) c (d z)))
       (λ c. sides_alive tb m fs b ps ks y n q.1 l.1 (both_asks (compare p k) (compare_all ps ks) e c) (λ z. if_false (is_asks (compare p k)) (is_last tb p k) (are_last tb ps ks) c (d z)))
 
--- where no head is left, no value comes to that side
+-- where no head is left, no value reaches that side
 none_open : (tb : Table) (t : ℕ) (out : List Head) (v : Value) → HasType tb t v → none_left tb t out ≡ true → is_in (head v) out ≡ false → ⊥
 none_open tb zero out v h e a = cc
 none_open tb (suc t) out (Int i) h e a = absurd h

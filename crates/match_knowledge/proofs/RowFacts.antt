@@ -100,7 +100,7 @@ side_room tb t rows b i p k y q r s e d =
     let f = rows_fewer b p i rows k s e in
     (suc r.0, omega (arith, r.1, f), side_alive tb r.0 t b p k y (omega (arith, r.1, f)) (row_typed tb t rows i p q s) r.2 e d)
 
--- what the two sides tell together
+-- what the two sides report together
 pub split_reports : (tb : Table) (t : ℕ) (rows : List Pattern) (p : Pattern) (k : Known) (b : Bool) → compare p k ≡ Asks → (Left tb t rows (side true p k) → ⊥) → Reports b (Left tb t rows (side false p k)) → Reports b (Left tb t rows k)
 split_reports tb t rows p k b e f g = (λ z. side_left tb t rows false p k e (g.0 z), λ z u. elim_sides (sides_left tb t rows p k e u) (g.1 z)) where
   elim_sides : (Left tb t rows (side true p k) ⊎ Left tb t rows (side false p k)) → (Left tb t rows (side false p k) → ⊥) → ⊥

@@ -1,4 +1,4 @@
--- A value that agrees comes to just one side.
+-- A value that agrees is on just one side.
 use Rattle.std.proofs.Common.{◌≡◌, List, Bool, true, false, refl, sym, ap, ◌∙◌}
 use Rattle.std.specs.Prelude.{◌&&◌, if◌then◌else◌}
 use Rattle.match_knowledge.specs.declared.heads.Head.{Head}

@@ -112,7 +112,7 @@ abbrev pub none_left : Table → ℕ → List Head → Bool
 none_left tb zero out = false
 none_left tb (suc t) out = all_out (length (constructors tb (suc t))) out
 
--- no value comes to the side where the test doesn't hold
+-- no value reaches the side where the test doesn't hold
 abbrev mutual
   pub is_last : Table → Pattern → Known → Bool
   is_last tb Any k = false

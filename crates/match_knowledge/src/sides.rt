@@ -181,7 +181,7 @@ fn is_out(c: usize, h: &Head, out: &[Head]) -> bool
     false
 }
 
-/// Whether no value comes to the side where the pattern's first open test doesn't hold.
+/// Whether no value reaches the side where the pattern's first open test doesn't hold.
 #[cycle(last)]
 pub fn is_last(types: &TypeTable, p: &Row, k: &Knowledge) -> bool
     ensures { result ≡ is_last types.now (row p.now) (known k.now) }

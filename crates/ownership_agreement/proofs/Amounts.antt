@@ -1,4 +1,4 @@
--- What a term asks of the credits of a size is what the expression needs of them.
+-- What a term requires of the credits of a size is what the expression needs of them.
 use Rattle.std.proofs.Common.{◌≡◌, ℕ, zero, suc, ◌+◌, ◌-◌, ◌<◌, ◌≤◌, ◌⊎◌, inl, inr, refl, sym, ap, ◌∙◌, List, [], ◌∷◌, ◌++◌, Option, Some, None, Bool, true, false, arith}
 use Rattle.std.specs.Prelude.{max, ◌==◌, slice_get, if◌then◌else◌}
 use Rattle.std.proofs.lemmas.Bool.Decides.{nat_tests}
@@ -205,7 +205,7 @@ passed_out k h p f sc ms g j (MoreArguments a as') s t = one_passed_out k h p f 
 
 -- ---- clauses
 
--- what is asked of some clauses beyond what their patterns give
+-- what is required of some clauses beyond what their patterns give
 abbrev pub asks_of : Bool → ℕ → T.Clauses → ℕ
 asks_of true k cs = asks_taken (Credit k) cs
 asks_of false k cs = asks_lent (Credit k) cs

@@ -72,7 +72,7 @@ pub used_lent : (fip : Bool) (w : World) (n : ℕ) (bs : List Binder) (e : S.Sha
 used_lent fip w n [] e = tt
 used_lent fip w n (b ∷ bs) e = (lent_one fip (w.scalar b.ty) n e, used_lent fip w (suc n) bs e)
 
--- owned binders are not scalar, and stand below what comes
+-- owned binders are not scalar, and are below what comes
 owned_first : (s c : Bool) (w : World) (sc : Scalars) (n x : ℕ) (b : Binder) (bs : List Binder) → w.scalar b.ty ≡ s → (n == x) ≡ c → has (if s then variables w (suc n) bs else n ∷ variables w (suc n) bs) x ≡ true → (has (variables w (suc n) bs) x ≡ true → (entering w (suc n) (λ z. if n == z then w.scalar b.ty else sc z) bs x ≡ false) × (x < past (suc n) bs)) → (entering w (suc n) (λ z. if n == z then w.scalar b.ty else sc z) bs x ≡ false) × (x < past (suc n) bs)
 owned_first true c w sc n x b bs f g h r = r h
 owned_first false true w sc n x b bs f g h r =

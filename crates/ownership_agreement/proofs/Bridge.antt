@@ -113,14 +113,14 @@ lent_unused : (x : ℕ) (o : Option ℕ) (y : ℕ) (p : Place) (n : Name) → ow
 lent_unused x None y p n = refl
 lent_unused x (Some i) y p n = refl
 
--- what is lent well uses nothing
+-- what is borrowed well uses nothing
 pub lent_none : (w : World) (sc : Scalars) (s : ℕ → C.Status) (ms : List Mark) (a : Argument) (x : ℕ) → C.LendsWell s (lent_value w sc ms a) → owns x (lending w ms a) ≡ false
 lent_none w sc s ms (Variable None n p) x h = refl
 lent_none w sc s ms (Variable (Some y) n p) x h = lent_unused x (known ms y) y p n
 lent_none w sc s ms (Literal i p) x h = refl
 lent_none w sc s ms (Constructor t d c n p as') x h = no_use s sc ms p n as' (w.scalar t) x h
 
--- and what comes after it stands as before
+-- and what comes after it is as before
 pub after_lent : (fip : Bool) (w : World) (sc : Scalars) (s : ℕ → C.Status) (ms : List Mark) (a : Argument) (X : Type 0) (e : S.Shape) → (X ↔ G.Good fip (mix sc s) e) → (C.LendsWell s (lent_value w sc ms a) × X) ↔ (G.Good fip (mix sc s) (lending w ms a) × G.Good fip (λ x. G.spent (owns x (lending w ms a)) (mix sc s x)) e)
 after_lent fip w sc s ms a X e f =
     let g : ℕ → G.State = λ x. G.spent (owns x (lending w ms a)) (mix sc s x) in

@@ -1,4 +1,4 @@
--- No rule on credits is broken just where the term's clauses are even, and where its header has what it asks.
+-- No rule on credits is broken just where the term's clauses are even, and where its header has what it requires.
 use Rattle.std.proofs.Common.{◌≡◌, ℕ, zero, suc, ◌-◌, ◌<◌, ◌≤◌, ◌⊎◌, inl, inr, refl, sym, ap, ◌∙◌, List, [], Bool, true, false, arith}
 use Rattle.std.specs.Prelude.{◌↔◌, max}
 use Rattle.credit_check.specs.fip_language.declared.FunKind.{FunKind}
@@ -80,7 +80,7 @@ even_same b m n (T.MoreClauses ys ks e cs) h d = let z = (even_more b m ys ks e 
 most_same : (m n x : ℕ) → m ≡ x → n ≡ x → max m n ≡ x
 most_same m n x e f = omega arith
 
--- where all are alike, that is what is asked of them
+-- where all are alike, that is what is required of them
 even_asks : (b : Bool) (m : ℕ → ℕ) (cs : T.Clauses) → EvenOf b m cs → (k : ℕ) → asks_of b k cs ≡ m k
 even_asks b m (T.LastClause ys ks e) d k = asks_last b k ys ks e ∙ (((even_last b m ys ks e).0 d).0 k).1
 even_asks b m (T.MoreClauses ys ks e cs) d k = let z = (even_more b m ys ks e cs).0 d in asks_more b k ys ks e cs ∙ most_same (asks (Credit k) e - given k (gives b ks)) (asks_of b k cs) (m k) (z.0.0 k).1 (even_asks b m cs z.1 k)
@@ -242,7 +242,7 @@ mutual
 
 -- ---- instances
 
--- what the header gives and the body asks: g and a, on sizes G and A
+-- what the header gives and the body requires: g and a, on sizes G and A
 exact_is : (r t : Rule) (q : Place) (i : ℕ) (g a G A : ℕ → ℕ) → Reports g G → Reports a A → ((k : ℕ) → g k ≡ a k) ↔ None (λ v. Less r q i G A v ⊎ Less t q i A G v)
 exact_is r t q i g a G A tg ta =
     let n = less_none r q i G A in

@@ -1,4 +1,4 @@
--- A variable has an owning occurrence in the shape just where the term asks for it.
+-- A variable has an owning occurrence in the shape just where the term requires it.
 use Rattle.std.proofs.Common.{◌≡◌, ℕ, suc, ◌+◌, ◌<◌, refl, sym, ap, subst, ◌∙◌, List, [], Option, Some, None, Bool, true, false, not, arith}
 use Rattle.std.specs.Prelude.{◌==◌, ◌||◌, if◌then◌else◌}
 use Rattle.credit_check.specs.fip_language.declared.Place.{Place}

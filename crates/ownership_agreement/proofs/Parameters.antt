@@ -73,7 +73,7 @@ not_owned w n x ps [] l = refl
 not_owned w n x [] (b ∷ bs) l = refl
 not_owned w n x (p ∷ ps) (b ∷ bs) l = second_apart (w.scalar p.ty) p.lent n (owned_parameters w (suc n) ps bs) x (apart x n l) (not_owned w (suc n) x ps bs (omega arith))
 
--- c: whether it is the parameter's number; s: whether it is scalar; l: whether it is lent
+-- c: whether it is the parameter's number; s: whether it is scalar; l: whether it is borrowed
 abbrev newest : Bool → Bool → Bool → C.Status → C.Status
 newest c s l f = if c then (if s then f else (if l then C.Free else C.Owned false false)) else f
 

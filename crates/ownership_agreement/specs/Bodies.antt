@@ -1,6 +1,6 @@
 -- The body of an instance as the calculus sees it.
 --
--- A variable is known as in its shape: by how many binders stand before its own in the text. An occurrence that means
+-- A variable is known as in its shape: by how many binders are before its own in the text. An occurrence that means
 -- no binder is a scalar: no rule speaks of it. Scalar variables and their binders are left out.
 --
 -- For example match! xs { Nil -> acc; Cons(x, t) -> rev(t, Cons(x, acc)) } in the body of rev(xs, acc), where x is an
@@ -70,7 +70,7 @@ passed w sc ms g j (MoreArguments a as') =
 
 -- ---- binders
 
--- those that aren't scalar; n binders stand before them
+-- those that aren't scalar; n binders are before them
 abbrev pub variables : World → ℕ → List Binder → List ℕ
 variables w n [] = []
 variables w n (b ∷ bs) = if w.scalar b.ty then variables w (suc n) bs else n ∷ variables w (suc n) bs

@@ -5,7 +5,7 @@ use Rattle.fip_rules.specs.declared.scope.Ownership.TheVariants.{Scalar, Borrowe
 use Rattle.fip_rules.specs.Shape.{Shape, Skip, Use, Lend, Fault, Then, Either, Bound, Scope}
 use Rattle.fip_rules.specs.Rules.{owns, Misses}
 
--- lent: a let around lends it
+-- borrowed: a let around borrows it
 pub data State : Type 0 where
   Free : State
   Given : State

@@ -1,4 +1,4 @@
--- What the theorem asks of a program; each typed program keeps to it. Scrutinees are variables, a constructor of a
+-- What the theorem requires of a program; each typed program keeps to it. Scrutinees are variables, a constructor of a
 -- scalar type has no field, no constructor has more than 16, and the credits of headers have sizes from 1 to 16.
 use Rattle.std.specs.Prelude.{◌≡◌, ◌<◌, ℕ, suc, true, List, [], ◌∷◌, Option, Some, None, slice_get}
 use Rattle.credit_check.specs.fip_language.Table.{is_scalar}

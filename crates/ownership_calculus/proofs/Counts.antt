@@ -26,7 +26,7 @@ gifts_fits fip B O (Header header) d i = d i
 gifts_fits fip B O (PassLent a gs) d i = fits_zero fip (O i) (lent_used_up a i) (passed_used_up gs i) (lends_none B a d.0 i) (gifts_fits fip B O gs d.1 i)
 gifts_fits fip B O (PassOwned a gs) d i = fits_sum fip (O i) (d.0 i) (d.1 i) (used_up a i) (passed_used_up gs i) (d.2 i) (arg_fits fip d.0 a d.3 i) (gifts_fits fip B d.1 gs d.4 i)
 
--- a derivation has at least what is asked
+-- a derivation has at least what is required
 mutual
   pub asks_le : (fip : Bool) (B : ℕ → Bool) (O : Item → ℕ) (e : Term) → Derives fip B O e → (i : Item) → asks i e ≤ O i
   asks_le fip B O (Results as') d i = fits_le fip (O i) (all_used_up as' i) (args_fits fip O as' d i)

@@ -97,7 +97,7 @@ visible_kept (Owned true l) m r h g = absurd (omega arith)
 visible_kept (Owned false l) zero r h g = refl
 visible_kept (Owned false l) (suc m) r h g = absurd (omega arith)
 
--- what is asked from outside of the binders is in the environment outside
+-- what is required from outside of the binders is in the environment outside
 outside_own : (b : Bool) (n q r : ℕ) → (b ≡ false → q ≤ r) → n ≤ q → (if b then 0 else n) ≤ r
 outside_own true n q r f h = omega arith
 outside_own false n q r f h = let g : q ≤ r = f refl in omega arith

@@ -144,7 +144,7 @@ fits_gifts fip B O s (PassOwned a gs) v c h = (
   fits_gifts fip B (passed_used_up gs) (λ x. after (s x) (used_up a (Own x))) gs (λ x e. v x (seen_back (s x) (used_up a (Own x)) e)) c.1 (λ i. fits_same fip (passed_used_up gs i)),
 )
 
--- what is clean asks for no more than there is room
+-- what is clean requires no more than there is room
 mutual
   arg_room : (s : ℕ → Status) (a : Value) → CleanValue s a → (x : ℕ) → used_up a (Own x) ≤ room (s x)
   arg_room s (Named y) c x = one_room s y x c

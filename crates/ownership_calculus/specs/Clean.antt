@@ -17,7 +17,7 @@ abbrev mutual
   all_used_up NoValues i = 0
   all_used_up (MoreValues a as') i = used_up a i + all_used_up as' i
 
--- what stands in a borrowed position is lent; a constructor there is an error
+-- what is in a borrowed position is borrowed; a constructor there is an error
 abbrev pub lent_used_up : Value → Item → ℕ
 lent_used_up (Named x) i = 0
 lent_used_up Scalar i = 0
@@ -28,7 +28,7 @@ passed_used_up (Header ks) i = charge ks i
 passed_used_up (PassLent a gs) i = lent_used_up a i + passed_used_up gs i
 passed_used_up (PassOwned a gs) i = used_up a i + passed_used_up gs i
 
--- what is asked from outside of these binders and credits
+-- what is required from outside of these binders and credits
 abbrev pub outside : List ℕ → List ℕ → Item → ℕ → ℕ
 outside ys ks (Own y) n = if has ys y then 0 else n
 outside ys ks (Credit k) n = n - given k ks
@@ -63,7 +63,7 @@ abbrev mutual
   fewest_of x (LastClause ys ks e) = outside ys [] (Own x) (fewest x e)
   fewest_of x (MoreClauses ys ks e cs) = min (outside ys [] (Own x) (fewest x e)) (fewest_of x cs)
 
--- Free: borrowed. Owned: whether an owning occurrence came before, and whether a let around lends it.
+-- Free: borrowed. Owned: whether an owning occurrence came before, and whether a let around borrows it.
 pub data Status : Type 0 where
   Free : Status
   Owned : (used lent : Bool) → Status
@@ -91,7 +91,7 @@ MayUse Free = ⊥
 MayUse (Owned false l) = Unit {0}
 MayUse (Owned true l) = ⊥
 
--- no owning occurrence came before; an owned one is lent by a let around
+-- no owning occurrence came before; an owned one is borrowed by a let around
 abbrev pub MayLend : Status → Type 0
 MayLend Free = Unit {0}
 MayLend (Owned false true) = Unit {0}

@@ -9,7 +9,7 @@ abbrev pub starting : List ℕ → List ℕ → Item → ℕ
 starting own ks (Own x) = if has own x then 1 else 0
 starting own ks (Credit k) = given k ks
 
--- Its body has a derivation from its parameters and its header's credits. A number that stands in both lists is that of
+-- Its body has a derivation from its parameters and its header's credits. A number that is in both lists is that of
 -- an owned one.
 abbrev pub Derived : Bool → List ℕ → List ℕ → List ℕ → Term → Type 0
 Derived fip lent own ks e = Derivation fip (setting own false (has lent)) (starting own ks) e

@@ -24,7 +24,7 @@ paid zero i = 0
 paid (suc n) (Own y) = 0
 paid (suc n) (Credit k) = one (suc n) k
 
--- how often k stands in a list of sizes
+-- how often k is in a list of sizes
 abbrev pub given : ℕ → List ℕ → ℕ
 given k [] = 0
 given k (j ∷ ks) = one j k + given k ks

@@ -15,7 +15,7 @@ abbrev pub Fits : Bool → ℕ → ℕ → Type 0
 Fits true a b = a ≡ b
 Fits false a b = b ≤ a
 
--- how often an owned, or a borrowed, binder stands in the owned environment
+-- how often an owned, or a borrowed, binder is in the owned environment
 abbrev pub worth : Bool → ℕ
 worth true = 1
 worth false = 0
@@ -28,7 +28,7 @@ pub record Extends (fip own : Bool) (ys ks : List ℕ) (R Q : Item → ℕ) : Ty
   pub others : (y : ℕ) → has ys y ≡ false → Q (Own y) ≡ R (Own y)
   pub credits : (k : ℕ) → Q (Credit k) ≡ R (Credit k) + given k ks
 
--- what is borrowed, and the variables of R, which are lent
+-- what is borrowed, and the variables of R, which are borrowed
 abbrev pub lending : (ℕ → Bool) → (Item → ℕ) → ℕ → Bool
 lending B R x = B x || nat_lt 0 (R (Own x))
 
@@ -36,7 +36,7 @@ lending B R x = B x || nat_lt 0 (R (Own x))
 abbrev pub setting : List ℕ → Bool → (ℕ → Bool) → ℕ → Bool
 setting ys b B x = if has ys x then b else B x
 
--- what may stand in a borrowed position: a borrowed variable or a scalar
+-- what may occur in a borrowed position: a borrowed variable or a scalar
 abbrev pub Lends : (ℕ → Bool) → Value → Type 0
 Lends B (Named x) = B x ≡ true
 Lends B Scalar = Unit {0}
@@ -97,7 +97,7 @@ mutual
         strong ≡ true →
         PassedDerivation fip B O gs →
         Derivation fip B O (Call strong gs)
-    -- what the body gets is lent to the bound expression
+    -- what the body gets is borrowed by the bound expression
     LET :
         {B : ℕ → Bool} {O O1 O2 Q : Item → ℕ} {xs : List ℕ} {a b : Term} →
         ((i : Item) → O i ≡ O1 i + O2 i) →

@@ -1,4 +1,4 @@
-//! The end of what stands in a bracket, or of a part of it.
+//! The end of what is in a bracket, or of a part of it.
 
 ghost use Rattle.std.specs.Prelude.{◌≡◌, [], map, IfOk};
 ghost use Rattle.std.specs.List.{All};
@@ -47,7 +47,7 @@ pub fn end_bound(
     }
 }
 
-/// The end of a block's last expression, or of one that stands in no block.
+/// The end of a block's last expression, or of one that is in no block.
 pub fn end_block(alloc: Global, body: Body, sign: Sign) -> Result<Next, AllocError>
     requires levels { All view.IsWellLevel body.levels.items }
     requires whole { below (view.operands body) ≡ [] }
@@ -70,7 +70,7 @@ pub fn end_block(alloc: Global, body: Body, sign: Sign) -> Result<Next, AllocErr
     end_last(alloc, head, gives, levels, block, sign)
 }
 
-// The end of a block, or of what stands in none.
+// The end of a block, or of what is in none.
 fn end_last(
     alloc: Global,
     head: FunctionHead,
@@ -136,7 +136,7 @@ fn end_body(
     }
 }
 
-// The end of what stands in a bracket, or of a part of it.
+// The end of what is in a bracket, or of a part of it.
 fn end_level(
     alloc: Global,
     body: Body,
@@ -166,7 +166,7 @@ fn end_level(
     }
 }
 
-// One part more. What stands in no block has no lets.
+// One part more. What is in no block has no lets.
 fn with_part(done: Vec<Expression>, block: Block) -> Result<Vec<Expression>, AllocError>
     ensures { IfOk result (λ es. map expression es.items
         ≡ machine.part (block_view block) (map expression done.items)) }

@@ -1,4 +1,4 @@
-// After an operand: operators, the end of an expression, and the end of what stands in a bracket.
+// After an operand: operators, the end of an expression, and the end of what is in a bracket.
 #![tactic(auto)]
 
 mod levels;

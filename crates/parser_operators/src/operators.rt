@@ -21,7 +21,7 @@ use std::alloc::{AllocError, Global};
 /// How tightly an operator binds.
 #[derive(Clone, Copy, PartialEq, Eq)]
 pub enum Tightness {
-    /// A comparison: no other one stands beside it.
+    /// A comparison: no other one is beside it.
     Comparison,
     /// A sum or a difference.
     Sum,
@@ -128,7 +128,7 @@ fn after_sum(body: Body, pending: Pending) -> Result<Next, AllocError>
     stays_in_body(BodyPosition::Operand, body)
 }
 
-// One comparison at most stands between two brackets.
+// One comparison at most is between two brackets.
 fn after_comparison(body: Body, pending: Pending) -> Result<Next, AllocError>
     requires well { view.IsWellUnder body }
     ensures next { Leads result (machine.after_operator machine.Comparison (view.under_operand body) (view.operand body)

@@ -2,7 +2,7 @@
 --
 -- The two differ in one thing. The parser keeps an expression as steps in postfix order, and an operator, a match or an
 -- if that waits doesn't hold its operand: the operand is one of the expressions that the steps leave, the last one
--- first. In the machine it stands beside what waits for it. So what waits takes its operand here from what the steps
+-- first. In the machine it is beside what waits for it. So what waits takes its operand here from what the steps
 -- left: first what an ended operand or a bracket takes, then the product, the sum and the comparison, then the openers
 -- from the innermost outwards. Nothing is over after them: that is IsWell.
 --
@@ -169,7 +169,7 @@ waiting w es =
 abbrev pub nothing_waits : Waiting
 nothing_waits = record { comparison = None; sum = None; product = None }
 
--- what is left behind the operators that wait
+-- what is left after the operators that wait
 abbrev pub after_waiting : Waiting → List S.Expression → List S.Expression
 after_waiting w es = after_pending w.comparison (after_pending w.sum (after_pending w.product es))
 

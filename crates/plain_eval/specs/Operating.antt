@@ -1,4 +1,4 @@
--- What an operator comes to, as a value of the evaluation.
+-- What an operator gives, as a value of the evaluation.
 use Rattle.std.specs.Prelude.{◌≡◌, ℤ, Option, Some, None, Result, Ok, Err, FitsSigned}
 use Rattle.std.specs.Int.{w64}
 use Rattle.fip_trees.specs.fip_language.Values.{Value as Tree, Int, Node, End, More}

@@ -18,7 +18,7 @@ Covers s ws base end env = (x : ℕ) (v : Tree) → env x ≡ Some v → (base +
 abbrev pub CoversNow : Store → Variables → Environment → Type 0
 CoversNow s vars env = Covers s vars.values.items vars.base vars.end env
 
--- what stood at one of the first n places stands there still
+-- what was at one of the first n places is there still
 abbrev pub Keeps : ℕ → Store → List Value → Store → List Value → Type 0
 Keeps n s ws t us = (i : ℕ) (v : Tree) → i < n → StandsAt s ws i v → StandsAt t us i v
 
@@ -26,6 +26,6 @@ Keeps n s ws t us = (i : ℕ) (v : Tree) → i < n → StandsAt s ws i v → Sta
 abbrev pub KeepsOff : ℕ → Store → List Value → List Value → Type 0
 KeepsOff p s ws us = (i : ℕ) (v : Tree) → StandsAt s ws i v → StandsAt s us i v × (i ≢ p)
 
--- what stood anywhere stands there still
+-- what was anywhere is there still
 abbrev pub KeepsAll : Store → List Value → Store → List Value → Type 0
 KeepsAll s ws t us = (i : ℕ) (v : Tree) → StandsAt s ws i v → StandsAt t us i v

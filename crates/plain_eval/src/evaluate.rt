@@ -53,10 +53,10 @@ pub enum PlainEnded {
 #[derive(Clone, Copy)]
 pub struct Waiting<'a> {
     binders: &'a [Binder],
-    // The block that it stands in, and the number of the binding after it.
+    // The block that it is in, and the number of the binding after it.
     block: &'a Block,
     next: usize,
-    // Whether that block stands in tail position.
+    // Whether that block is in tail position.
     is_tail: bool,
     // Where the variables of its function begin and end.
     base: usize,
@@ -75,7 +75,7 @@ pub enum Here<'a> {
     Given,
 }
 
-/// What a step comes to.
+/// What a step gives.
 #[derive(Clone, Copy)]
 pub enum Step<'a> {
     Went(Here<'a>),
@@ -94,7 +94,7 @@ pub struct Evaluation<'a> {
     // What an expression gave, or the arguments of a call.
     given: Vec<Value>,
     waiting: Vec<Waiting<'a>>,
-    // Whether what is evaluated stands in tail position of its function.
+    // Whether what is evaluated is in tail position of its function.
     is_tail: bool,
     // The calls that are left, and the free frames.
     calls: u64,
@@ -107,9 +107,8 @@ pub struct Evaluation<'a> {
 const LEAST_WEIGHT: usize = 1_048_576;
 
 /// The value of a function of the program, with so many calls and free frames. Each entry of a function takes a call,
-/// this one's too; a call outside tail position holds a frame until it has its value. The program is asked to be typed,
-/// `f` to be the number of one of its instances, and the rows to be of its parameters' types. An error where no memory
-/// is left.
+/// this one's too; a call outside tail position holds a frame until it has its value. The program must be typed, `f` be
+/// the number of one of its instances, and the rows be of its parameters' types. An error where no memory is left.
 pub fn eval(
     alloc: Global,
     typed: &Typed,
@@ -301,7 +300,7 @@ impl<'a> Evaluation<'a> {
         Ok(Step::Went(Here::Given))
     }
 
-    // Gives what an operator comes to.
+    // Gives the result of an operator.
     fn operation(
         &mut self,
         operator: Operator,
@@ -473,7 +472,7 @@ impl<'a> Evaluation<'a> {
     }
 }
 
-// What an operator comes to on two ints; none on other values.
+// What an operator gives on two ints; none on other values.
 fn operate(operator: Operator, left: Value, right: Value) -> Option<Result<Value, TrapKind>>
     ensures ints { (i j : ℤ) → left ≡ Value.Int i → right ≡ Value.Int j →
         (r : Result Value TrapKind) × (result ≡ Some r) × IsOutcome (operate operator i j) r }

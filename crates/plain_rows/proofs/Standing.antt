@@ -1,4 +1,4 @@
--- Rows that are put after others, and what stood before still stands.
+-- Rows that are put after others, and what was there before is there still.
 use Rattle.std.proofs.Common.{Iter, ◌≡◌, ◌⊎◌, inl, inr, ℕ, zero, suc, ◌+◌, ◌<◌, ◌≤◌, List, [], ◌∷◌, ◌++◌, length, take, drop, Some, refl, sym, ap, ap₂, ◌∙◌, subst, arith, length-append, length-drop}
 use Rattle.std.specs.Prelude.{Bool, false, ◌==◌, Result, Ok, Err, IfOk, OnOk, slice_get}
 use Rattle.std.proofs.lemmas.List.{drop_at, drop-append-le, take-append-le}

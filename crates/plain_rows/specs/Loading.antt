@@ -1,4 +1,4 @@
--- What is still to be made of a store of cells. It serves the proof that the rows stand for what the words stood for.
+-- What is still to be made of a store of cells. It serves the proof that the rows are for what the words stood for.
 use Rattle.std.specs.Prelude.{◌≡◌, ℕ, ◌+◌, ◌*◌, List, [], ◌∷◌, ◌++◌, length, vec_len}
 use Rattle.fip_base.specs.fip_language.Values.{Value as Tree, Node, Values, End, More as Further}
 use Rattle.fip_base.specs.fip_language.Table.{Table}

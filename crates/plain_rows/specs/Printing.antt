@@ -14,7 +14,7 @@ last_first [] = []
 last_first (t ∷ ts) = last_first ts ++ t ∷ []
 
 -- The tasks, the next first, print this text and then what comes after it: a value, or the last fields of a row with
--- what stands before and after them.
+-- what is before and after them.
 abbrev pub Prints : Table → Store → List ℕ → List Task → List ℕ → Type 0
 Prints tb s following [] text = text ≡ following
 Prints tb s following (T.Whole ty w ∷ ts) text = (v : Tree) × HasType tb ty v × Stands s w v × (rest : List ℕ)

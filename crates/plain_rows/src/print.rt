@@ -69,7 +69,7 @@ fn put_fields<'a>(
     }
 }
 
-// The last fields of a row with what stands before them, or the bracket after them.
+// The last fields of a row with what is before them, or the bracket after them.
 fn print_fields<'a>(
     types: &'a [u32],
     values: &'a [Value],

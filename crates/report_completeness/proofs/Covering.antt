@@ -1,4 +1,4 @@
--- Of the rules on coverage only so many violations can stand in a program; and where none stands, all is covered and
+-- Of the rules on coverage only so many violations can occur in a program; and where there is none, all is covered and
 -- reached.
 use Rattle.std.proofs.Common.{◌≡◌, ◌⊎◌, inl, inr, ℕ, zero, suc, ◌+◌, ◌<◌, ◌≤◌, ◌^◌, Bool, true, false, List, [], ◌∷◌, ◌++◌, length, refl, sym, ap, ◌∙◌, arith}
 use Rattle.std.specs.Prelude.{pos, nat_lt, if◌then◌else◌}
@@ -148,7 +148,7 @@ few_covering tb i [] none = none (few_none itself)
 few_covering tb i (d ∷ ds) none =
     can_both (SomeBreaks tb i (matches_block d.body)) (CoverFault tb (suc i) ds) (few_matches tb i (matches_block d.body)) (few_covering tb (suc i) ds) none
 
--- ---- where none stands
+-- ---- where there is none
 
 module _ (tb : Table) (tidy : IsTidy tb) where
   are_reached : (i t : ℕ) (before : List K.Pattern) (qs : List T.Pattern) → ((v : Violation) → SomeUnreached tb i t before qs v → ⊥) → Can (AreReached tb t before qs)

@@ -1,5 +1,5 @@
--- Of the rules on declarations only so many violations can stand in a program: those that are written, and one at each
--- data type. Where none stands, each data type has a value.
+-- Of the rules on declarations only so many violations can occur in a program: those that are written, and one at each
+-- data type. Where there is none, each data type has a value.
 use Rattle.std.proofs.Common.{◌≡◌, inl, inr, ℕ, zero, suc, ◌<◌, List, [], ◌∷◌, length, Some, slice_get, refl, sym, ap, subst, arith}
 use Rattle.source_report.specs.fip_language.declared.rule.Rule.TheVariants.{E13}
 use Rattle.source_report.specs.fip_language.Core.{Data, Core}

@@ -1,4 +1,4 @@
--- Of the rules on ownership, on credits, on tail calls and on the limits of code only so many violations can stand in a
+-- Of the rules on ownership, on credits, on tail calls and on the limits of code only so many violations can occur in a
 -- program: at the marks of its bodies, at its matches, at its calls and at its instances.
 use Rattle.std.proofs.Common.{◌≡◌, ◌⊎◌, inl, inr, ℕ, zero, suc, ◌+◌, ◌<◌, Bool, true, List, [], ◌∷◌, ◌++◌, Some, slice_get, sym, ap, subst, arith}
 use Rattle.source_report.specs.fip_language.declared.FunKind.{FunKind}

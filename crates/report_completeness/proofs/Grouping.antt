@@ -74,7 +74,7 @@ row_at [] f d h = absurd (none_some d h)
 row_at (x ∷ ds) zero d h = ap instance_calls (same_some x d h)
 row_at (x ∷ ds) (suc f) d h = row_at ds f d h
 
--- a call of an instance stands somewhere in it
+-- a call of an instance is somewhere in it
 site_of : (ds : List Instance) (f g : ℕ) (k : Bool) (d : Instance) → slice_get ds f ≡ Some d → Calls (call_rows ds) f g k → (s : Site) × In s (instance_sites d) × (call g k ≡ called s)
 site_of ds f g k d h c =
     let at : slice_get (instance_calls d) c.0 ≡ Some (call g k) = subst (λ cs. slice_get cs c.0 ≡ Some (call g k)) (row_at ds f d h) c.1 in

@@ -1,5 +1,5 @@
--- A relation in which only so many violations can stand: one of them is the least, or none stands in it.
--- Whether one stands in it isn't a test, so this is said with two nots.
+-- A relation in which only so many violations can occur: one of them is the least, or there is none in it.
+-- Whether one is in it isn't a test, so this is said with two nots.
 use Rattle.std.proofs.Common.{◌≡◌, ◌⊎◌, inl, inr, Bool, true, false, List, [], ◌∷◌, ◌++◌, refl, sym, ap, subst}
 use Rattle.source_report.specs.fip_trees.declared.least.Violation.{Violation}
 use Rattle.source_report.specs.fip_trees.Least.{In, comes_before, rank, IsLeast, IsLeastOf, after}
@@ -44,7 +44,7 @@ list_least vs = by (after None vs) refl
     by (Some v) e = inl (v, least_of vs v e)
 
 module _ (V : Violation → Type 0) where
-  -- none of these that stands in it comes before this one
+  -- none of these that is in it comes before this one
   record IsLeastAmong (vs : List Violation) (v : Violation) : Type 0 where
     has : V v
     least : (w : Violation) → In w vs → V w → comes_before w v ≡ false

@@ -1,6 +1,6 @@
 -- Where some value is matched by no row there is a missing pattern.
 -- The idea: at a position that is tested some value that is left has a constructor or a number from 0 on there, and of
--- these there is a least; then the same is asked of its fields, where fewer tests are left.
+-- these there is a least; then the same is required of its fields, where fewer tests are left.
 use Rattle.std.proofs.Common.{◌≡◌, ℕ, zero, suc, ◌+◌, ◌<◌, ◌≤◌, ◌^◌, Bool, true, false, List, [], ◌∷◌, length, refl, ap, ◌∙◌, arith}
 use Rattle.std.specs.Prelude.{pos, negsuc, if◌then◌else◌}
 use Rattle.source_report.specs.fip_language.Values.{Value, Int, Node}
@@ -76,9 +76,9 @@ tails_most (NoPatterns ∷ rows) = let r = tails_most rows in omega (arith, r)
 tails_most (MorePatterns p ps ∷ rows) = let r = tails_most rows in omega (arith, r)
 
 module _ (tb : Table) (root : ℕ) (rows : List Pattern) (tidy : IsTidy tb) where
-  -- ---- the least head that may stand
+  -- ---- the least head that may occur
 
-  -- it may stand, and none before it may
+  -- it may occur, and none before it may
   record IsLeastHead (at : Known → Known) (t : ℕ) (h : Head) : Type 0 where
     can : CanStand h
     least : (g : Head) → Before g h → MayBe tb root rows at t g → ⊥

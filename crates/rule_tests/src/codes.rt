@@ -53,7 +53,7 @@ const UNSOUND_TAILS: &[&str] = &[
 00 00000001 67 0001 00 0002 00 02 0002 0000 0002 00000002 01 0001 0000000000000005 0e 02 0000 0001 00000000",
 ];
 
-// No code files: each ends at the offset, or has a byte there that can't stand there.
+// No code files: each ends at the offset, or has a byte there that can't be there.
 const BROKEN: &[&str] = &[
     "bad code at 0 | ",
     "bad code at 0 | 00",
@@ -187,11 +187,11 @@ fn a_compiled_code_is_verified_and_stays_when_upgraded(rt: HostRuntime) -> Resul
 const LONG_HEAD: &str =
     "46503243 0001 0002 00000002 00000005 46616c7365 00 00000004 54727565 00 00000001";
 
-// What stands after that name: the function `f`, which gives 5.
+// What is after that name: the function `f`, which gives 5.
 const LONG_TAIL: &str = "00 0001 00 00000001 66 0000 01 0000 0001
 00000002 01 0000 0000000000000005 0e 01 0000 00000000";
 
-// A code file of version 1 with a constructor's name of so many letters, whose number these digits spell.
+// A code file of version 1 with a constructor's name of so many letters, whose number these digits encode.
 fn long_code(alloc: Global, digits: &str, letters: usize) -> Result<Vec<u8>, AllocError> {
     let mut code = bytes_of(alloc, LONG_HEAD)?;
     code.extend_from_slice(bytes_of(alloc, digits)?.as_slice())?;

@@ -1,5 +1,5 @@
--- A run that is loaded with arguments begins: each argument is a tree whose cells are those that were laid for it, and
--- with the credits' cells these are all cells.
+-- A run that is loaded with arguments begins: each argument is a tree whose cells are those that were laid out for it,
+-- and with the credits' cells these are all cells.
 -- The idea: how often a place is one of a list of places is one sum, over the arguments as over their trees.
 use Rattle.std.proofs.Common.{◌≡◌, inl, inr, ℕ, zero, suc, ◌+◌, ◌<◌, ◌≤◌, true, false, not, List, [], ◌∷◌, ◌++◌, length, map, Option, Some, None, slice_get, refl, sym, ap, ap₂, ◌∙◌, subst, arith, nat_lt, ◌==◌}
 use Rattle.std.specs.Prelude.{replicate}
@@ -62,7 +62,7 @@ mutual
   placed_values n End = refl
   placed_values n (More v vs) = ap₂ More (placed_value n v) (placed_values (n + length (value_places n v)) vs)
 
--- ---- they stand in a store that has their places
+-- ---- they are in a store that has their places
 
 -- the store has these places from number n on
 abbrev pub Has : Store → ℕ → List (Option Cell) → Type 0

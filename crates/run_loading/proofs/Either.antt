@@ -1,4 +1,4 @@
--- A file is that of one trace, or it is bad at one place: the reader comes to one or the other, and reads to the end.
+-- A file is that of one trace, or it is bad at one place: the reader reaches one or the other, and reads to the end.
 use Rattle.std.proofs.Common.{◌≡◌, ℕ, ◌≤◌, ◌⊎◌, Bool, true, false, nat_lt, nat_le, List, [], ◌∷◌, ◌++◌, length, refl, sym, subst, ◌∙◌, inl, inr, arith}
 use Rattle.std.specs.Prelude.{codes}
 use Rattle.std.proofs.lemmas.Bool.Decides.{nat_tests}
@@ -11,7 +11,7 @@ use Rattle.run_loading.specs.TraceReading.{read_trace, IsTraceFile, IsBadTrace}
 use Rattle.run_loading.proofs.Inverse.{same_got, not_bad, back_then, back_asked, of_lt}
 use Rattle.tree_refinement.proofs.tree_semantics.machine_semantics.cell_code.fip_base.fip_language.Facts.{nat_lt_false as not_less}
 
--- ---- nothing is left behind a trace
+-- ---- nothing is left after a trace
 
 end_ends : {A : Type 0} (x y : A) (at e : ℕ) (bytes rest : List ℕ) → read_end x at bytes ≡ Got y e rest → rest ≡ []
 end_ends x y at e [] rest h = sym (same_got x y at e [] rest h).1

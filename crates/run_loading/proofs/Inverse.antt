@@ -345,7 +345,7 @@ back_end : {A : Type 0} (x y : A) (at e : ℕ) (bytes : List ℕ) → read_end x
 back_end x y at e [] h = ((same_got x y at e [] [] h).0, refl)
 back_end x y at e (b ∷ bytes) h = absurd (not_bad y at e [] h)
 
--- what stands after the cells, the events, and the version
+-- what is after the cells, the events, and the version
 abbrev Ends : List Loaded → List Event → List ℕ → Trace → Type 0
 Ends cells events bytes t = (t ≡ record { cells = cells; events = events; steps = t.steps }) × (t.steps < 2 ^ 64)
     × (last_step events ≤ t.steps) × (bytes ≡ big_endian 8 t.steps)

@@ -1,4 +1,4 @@
--- The file of a trace is read as that trace. Each part of a text is read as what it was written of, and what stands
+-- The file of a trace is read as that trace. Each part of a text is read as what it was written of, and what is
 -- after is left; at which offset this is, doesn't matter.
 use Rattle.std.proofs.Common.{◌≡◌, ◌≢◌, ℕ, zero, suc, ◌+◌, ◌*◌, ◌/◌, ◌%◌, ◌^◌, ◌<◌, ◌≤◌, Bool, true, ◌&&◌, nat_le, nat_lt}
 use Rattle.std.proofs.Common.{List, [], ◌∷◌, ◌++◌, length, Option, Some, None, refl, sym, ap, subst, ◌∙◌, arith, append_assoc, le-leb}

@@ -1,8 +1,8 @@
 -- The loaded state of a run: how its arguments, and the cells of its entry's credits, lie in a new store.
 --
--- Each node with children is a cell, in the order of the ) in the text of the arguments: so a value's cells stand
+-- Each node with children is a cell, in the order of the ) in the text of the arguments: so a value's cells are
 -- before the cell of the value that it is a field of. A cell with k fields takes k + 1 places, its own and one for each
--- field. After the arguments stands a cell for each credit of the entry's header, with constructor 0 and fields 0. A
+-- field. After the arguments is a cell for each credit of the entry's header, with constructor 0 and fields 0. A
 -- run is given the words of the arguments, then those of the credits' cells.
 --
 -- Cons(1, Cons(2, Nil)) has Cons(2, Nil) at 0 and Cons(1, ..) at 3, and its word is 7; a credit of size 2 after it has
@@ -17,7 +17,7 @@ use Rattle.tree_refinement.specs.machine_semantics.Words.{atom_word, place_word}
 abbrev pub places_of : Cell → List (Option Cell)
 places_of c = Some c ∷ replicate (size_of c) None
 
--- the places of a value's cells where n places stand before them, and the value's word
+-- the places of a value's cells where n places are before them, and the value's word
 abbrev mutual
   pub value_places : ℕ → Value → List (Option Cell)
   value_places n (Int i) = []

@@ -45,7 +45,7 @@ store_text s = lines_from 0 s.cells s.released
 
 -- ---- the store of a trace, and the trace of a store
 
--- the places from p on, where these cells stand, whose places rise
+-- the places from p on, where these cells are, whose places rise
 abbrev pub places_from : ℕ → List Loaded → List (Option Cell)
 places_from p [] = []
 places_from p (c ∷ cs) = replicate (c.place - p) None

@@ -1,9 +1,9 @@
--- The file of a trace, which reports the cells that a run begins with, by place, what its steps did to them, and how many
--- steps it took.
+-- The file of a trace, which reports the cells that a run begins with, by place, what its steps did to them, and how
+-- many steps it took.
 --
 -- All numbers are big-endian. The file is "FP2T", the version 0001, the cells after their number, the events after
 -- theirs, and the number of steps in eight bytes. A cell is its place, its constructor, its size in one byte, and its
--- fields. An event is its step, a byte, and its place: after the byte 0 and the place stand the constructor and the
+-- fields. An event is its step, a byte, and its place: after the byte 0 and the place are the constructor and the
 -- fields that the cell gets; the byte 1 releases the cell. Places, constructors and numbers have four bytes, steps and
 -- fields eight.
 --

@@ -1,8 +1,8 @@
 -- What `replay` refuses: which byte of a file that is no trace's is named.
 --
--- The file is read from the front, and each number is asked for what is said of it as soon as it is read. Where the
+-- The file is read from the front, and each number is checked for what is said of it as soon as it is read. Where the
 -- file ends early, its length is named; a byte of the first six, and the byte of an event that is neither 0 nor 1, by
--- its own offset; a cell or an event that breaks what is asked of it, by the offset at which it begins; a number of
+-- its own offset; a cell or an event that breaks what is required of it, by the offset at which it begins; a number of
 -- steps below the last event's, by its offset; and where the file goes on, the first byte too many. A file that is too
 -- long is named at the most bytes that a file may have, before it is read.
 --

@@ -1,4 +1,4 @@
--- For the theorem that what a run did can be written down: what is asked of the types of the code, and of the cells
+-- For the theorem that what a run did can be written down: what is required of the types of the code, and of the cells
 -- before the first step.
 --
 -- A trace has four bytes for a place and for a constructor, and eight for a word. So there are fewer places than 2 to

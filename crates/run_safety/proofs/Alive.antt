@@ -1,4 +1,4 @@
--- From a state that a run of sound code may have, no run comes to an instruction that can't be done; what its Drops
+-- From a state that a run of sound code may have, no run reaches an instruction that can't be done; what its Drops
 -- release is what the verifier knows; and each run and each step leave such a state.
 use Rattle.std.proofs.Common.{◌≡◌, ◌≢◌, ℕ, List, [], Option, Some, None, slice_get, sym, ap, subst, ◌∙◌}
 use Rattle.std.proofs.lemmas.Option.{none-some, same_Some}

@@ -1,4 +1,4 @@
--- A function of sound code can be loaded: what is asked of its header. And how many words are loaded for it.
+-- A function of sound code can be loaded: what is required of its header. And how many words are loaded for it.
 use Rattle.std.proofs.Common.{◌≡◌, ◌∙◌, ◌<◌, ◌≤◌, ◌+◌, ℕ, suc, Bool, true, false, not, List, [], ◌∷◌, length, Some, slice_get, option_map, refl, ap, nat_lt, ◌==◌, arith}
 use Rattle.std.proofs.lemmas.Bool.Decides.{nat_tests}
 use Rattle.std.proofs.lemmas.List.{length-append, length-map}

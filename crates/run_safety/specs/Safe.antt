@@ -1,4 +1,4 @@
--- For private contracts alone: when a task that goes on never comes to an instruction that can't be done. Its state over
+-- For private contracts alone: when a task that goes on never reaches an instruction that can't be done. Its state over
 -- these cells is one that a run of sound code may have: the cells of its registers, the kept and the released ones are
 -- apart. So rev of Cons(1, Nil) and Nil is safe beside any cells of other values, which are kept.
 use Rattle.std.specs.Prelude.{ℕ, List}

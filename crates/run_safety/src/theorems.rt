@@ -17,7 +17,7 @@ ghost use Rattle.separation.specs.cell_code.Plain.{plain};
 ghost use Rattle.value_text.specs.Loaded.{types_of, IsLoaded};
 ghost use Rattle.run_safety.specs.Safe.{IsSafeTask};
 
-/// A task of sound code that stands where its function begins on what was loaded from a text is safe, whatever cells
+/// A task of sound code that is where its function begins on what was loaded from a text is safe, whatever cells
 /// were in the store before.
 pub fn a_task_on_a_loaded_text_is_safe()
     ensures theorem { (t : Stand) (n : ℕ) (f : Function) (text : List ℕ) (old new : Loading) (words : List ℕ)
@@ -28,7 +28,7 @@ pub fn a_task_on_a_loaded_text_is_safe()
         state_with t s.lent (store_of new.cells new.released) ≡ s → IsSafeTask t (store_of new.cells new.released) }
 {}
 
-/// A safe task that goes on comes to no instruction that can't be done, however many calls it has, and what its run
+/// A safe task that goes on reaches no instruction that can't be done, however many calls it has, and what its run
 /// leaves is safe again.
 pub fn a_safe_task_stays_safe()
     ensures run { (m : Seen) (calls : ℕ) → IsSound (plain m.stack.code.code) →

@@ -68,7 +68,7 @@ rooted_is : (ks : List Kind) (ws : ℕ → ℕ) (hs : ℕ → Holding) (b : List
 rooted_is ks ws hs b None x r = r
 rooted_is ks ws hs b (Some o) x r = subst (λ z. LiesIn x (slot_trees z)) (sym (get_slot ks ws hs o (owned_within ks o r.owned))) (lies_under x r.tree (at ks o) (hs o) r.within r.owned r.holds)
 
--- the word of a part stands in the cell of a tree
+-- the word of a part is in the cell of a tree
 record HasPartWord (s : Store) (w i v : ℕ) : Type 0 where
   cell : Cell
   named_is : named s w ≡ Some cell
@@ -80,7 +80,7 @@ part_word tb s t w i (Bare c) x g e = absurd (none-some x e)
 part_word tb s zero w i (At p c xs) x g e = absurd g.stands
 part_word tb s (suc t) w i (At p c xs) x g e = record { cell = record { tag = c; fields = words_of xs }; named_is = named_is s p w g.word ∙ g.stands.0; word = get_words xs i x e }
 
--- a register that owns a tree or is lent one has it
+-- a register that owns a tree or borrows one has it
 held_is : (tb : Table) (s : Store) (b : List Placed) (ks : ℕ → Kind) (hs : ℕ → Holding) (r : ℕ) (root : Option ℕ) (k : Kind) (w : ℕ) (h : Holding) (y : Placed) → Roots r k root → h ≡ Tree y → Means tb s b ks hs k w h → (t : ℕ) × IsTree tb s t w y
 held_is tb s b ks hs r root Gone w h y o e m = absurd o
 held_is tb s b ks hs r root (Scalar t) w h y o e m = absurd o

@@ -1,4 +1,4 @@
--- Rows that change cells: Put, Free, Drop.
+-- The semantics of instructions that change cells: Put, Free, Drop.
 use Rattle.std.proofs.Common.{◌≡◌, ℕ, zero, suc, ◌+◌, ◌<◌, true, ◌&&◌, List, [], ◌∷◌, length, map, Option, Some, None, slice_get, refl, sym, ap, ◌∙◌, subst, true≢false, arith, nat_lt, ◌==◌}
 use Rattle.std.specs.Prelude.{option_and_then, option_map, is_some}
 use Rattle.separation_kinds.specs.fip_language.Table.{Table, Shape, shapes}

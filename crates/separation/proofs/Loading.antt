@@ -44,7 +44,7 @@ load_holds (MoreParts x xs) ps (suc r) = load_holds xs ps r
 abbrev pub is_lent_tree : Table → Param → Bool
 is_lent_tree tb p = p.lent && not (is_scalar tb p.ty)
 
--- the trees of the lent arguments
+-- the trees of the borrowed arguments
 abbrev pub lent_trees : Table → List Param → Parts → List Placed
 lent_trees tb [] xs = []
 lent_trees tb (p ∷ ps) NoParts = []
@@ -53,7 +53,7 @@ lent_trees tb (p ∷ ps) (MoreParts x xs) = if is_lent_tree tb p then x ∷ lent
 scalar_type : (tb : Table) (t : ℕ) → is_type tb t ≡ true → is_scalar_type tb t ≡ is_scalar tb t
 scalar_type tb t e = ap (λ b. b && is_scalar tb t) e
 
--- an argument: its kind, what it uses, and whether it is lent
+-- an argument: its kind, what it uses, and whether it is borrowed
 record Loads (tb : Table) (s : Store) (p : Param) (x : Placed) : Type 0 where
   lent : is_lent_tree tb p ≡ true → (q : ℕ) → owned_uses q (param_kind tb p) (Tree x) ≡ 0
   own : is_lent_tree tb p ≡ false → (q : ℕ) → owned_uses q (param_kind tb p) (Tree x) ≡ uses q x

@@ -75,7 +75,7 @@ lies_owned ks ws hs r x h o e = owned_from ks ws hs 0 (length ks) r x (omega ari
 
 -- ---- other cells change
 
--- how often the frames that wait and the lent arguments use a cell
+-- how often the frames that wait and the borrowed arguments use a cell
 abbrev pub lower_uses : ℕ → List Frozen → List Placed → ℕ
 lower_uses q gs lent = frames_uses q (map frozen_slots gs) + trees_uses q lent
 

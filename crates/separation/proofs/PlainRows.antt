@@ -1,4 +1,4 @@
--- Rows that change no cell: Const, Atom, Move, Arith, TestInt, Jump.
+-- The semantics of instructions that change no cell: Const, Atom, Move, Arith, TestInt, Jump.
 use Rattle.std.proofs.Common.{◌≡◌, inl, inr, ℕ, zero, suc, ◌+◌, ◌<◌, Bool, true, false, not, List, [], ◌∷◌, length, Option, Some, None, slice_get, slice_set, refl, sym, ap, ◌∙◌, subst, arith, nat_lt, ◌==◌}
 use Rattle.std.specs.Prelude.{ℤ, option_and_then, option_map}
 use Rattle.std.proofs.lemmas.Option.{none-some}

@@ -1,4 +1,4 @@
--- Each register that is lent reaches one heir or none: along its froms the trees grow, so that the walk ends.
+-- Each register that is borrowed reaches one heir or none: along its froms the trees grow, so that the walk ends.
 use Rattle.std.proofs.Common.{◌≡◌, inl, inr, ℕ, zero, suc, ◌+◌, ◌<◌, ◌≤◌, Bool, false, List, length, Option, Some, None, refl, ap, arith}
 use Rattle.std.proofs.lemmas.Option.{none-some, same_Some}
 use Rattle.separation_kinds.specs.fip_language.Table.{Table}

@@ -1,4 +1,4 @@
--- Rows that read: Arith, Test, Peek.
+-- The semantics of instructions that read: Arith, Test, Peek.
 use Rattle.std.proofs.Common.{◌≡◌, ◌⊎◌, inl, inr, ℕ, zero, suc, ◌+◌, ◌<◌, Bool, true, false, ◌&&◌, not, List, [], ◌∷◌, length, Option, Some, None, slice_get, refl, sym, ap, ◌∙◌, subst, true≢false, arith, nat_lt, ◌==◌}
 use Rattle.std.specs.Prelude.{option_and_then, option_map, Contains}
 use Rattle.std.proofs.lemmas.Option.{none-some}
@@ -147,7 +147,7 @@ test_row c f b ks hs s r k target g =
 
 -- ---- Peek
 
--- a register with known fields has a tree with a part of each, and the word of each stands in its cell
+-- a register with known fields has a tree with a part of each, and the word of each is in its cell
 pub record HasKnown (tb : Table) (s : Store) (b : List Placed) (ks : ℕ → Kind) (hs : ℕ → Holding) (r i t : ℕ) (k : Kind) (w : ℕ) (h : Holding) : Type 0 where
   pub tree : Placed
   pub holds : h ≡ Tree tree

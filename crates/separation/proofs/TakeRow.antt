@@ -39,7 +39,7 @@ spare_of (PlacedInt i) = Nothing
 spare_of (Bare c) = Nothing
 spare_of (At p c xs) = Spare p
 
--- a tree that is taken apart: its parts, which stand in its cell where there is one
+-- a tree that is taken apart: its parts, which are in its cell where there is one
 pub record ComesApart (tb : Table) (s : Store) (w : ℕ) (y : Placed) (ts : List ℕ) : Type 0 where
   pub parts : Parts
   pub part : (i : ℕ) → part_of y i ≡ part_in parts i

@@ -1,6 +1,6 @@
 -- It serves the proof that sound code keeps its cells apart: what holds of every state of a run, in a form that each
 -- step keeps. The running frame is at an instruction that is reached, each frame that waits at a Call that is reached
--- and as asked, and each frame's registers have what their kinds say.
+-- and as required, and each frame's registers have what their kinds say.
 use Rattle.std.specs.Prelude.{◌≡◌, ℕ, ◌+◌, false, true, List, [], ◌∷◌, Some, length, map}
 use Rattle.separation_kinds.specs.fip_language.Store.{Placed, Parts, uses_of_all, words_of, count}
 use Rattle.separation_kinds.specs.cell_code.declared.code.Instr.{Instr}
@@ -76,7 +76,7 @@ pub record IsAlive (c : PlainCode) (types kept : List ℕ) (s : State) : Type 0 
   pub once : (q : ℕ) → owned_by q (at kinds) holds (length kinds) + (frames_uses q (map frozen_slots frozen)
       + (trees_uses q lent + (count q kept + released_at s.store q))) ≡ there s.store q
 
--- The words that the entry gave stand for trees of these types, which with the lent arguments, the kept and the
+-- The words that the entry gave stand for trees of these types, which with the borrowed arguments, the kept and the
 -- released cells are all cells.
 pub record IsGiven (c : PlainCode) (types kept : List ℕ) (s : State) (ws : List ℕ) : Type 0 where
   pub results : Parts

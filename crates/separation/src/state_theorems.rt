@@ -25,7 +25,7 @@ pub fn a_loaded_state_is_apart()
 {}
 
 /// What holds of every state of a run, in the form that each step keeps: it holds of the first one; what comes after
-/// one where it holds is a state where it holds, a right end, or a want of frames, and never that an instruction can't
+/// one where it holds is a state where it holds, a right end, or out of frames, and never that an instruction can't
 /// be done; and where it holds the cells are apart. For who steps a machine and has no run at hand.
 pub fn each_step_keeps_what_holds()
     ensures first { (c : PlainCode) (before waits : Kinds) (n : ℕ) (kept : List ℕ) (s : State) →
@@ -52,8 +52,8 @@ pub fn no_instruction_is_stuck()
         after before c steps (begun s calls) ≡ Over Unsound last left done → ⊥ }
 {}
 
-/// The words that a run of sound code gives stand for trees of the entry's result types, which are apart from the lent
-/// arguments, the kept and the released cells, and with these are all cells. For who reads the results.
+/// The words that a run of sound code gives stand for trees of the entry's result types, which are apart from the
+/// borrowed arguments, the kept and the released cells, and with these are all cells. For who reads the results.
 pub fn results_are_apart()
     ensures theorem { (c : PlainCode) (before waits : Kinds) (n : ℕ) (kept : List ℕ) (s : State) (calls steps : ℕ)
         (words : List ℕ) (last : State) (left done : ℕ) → IsStart c before waits n kept s →
@@ -62,7 +62,7 @@ pub fn results_are_apart()
 {}
 
 /// The reversal of a list of two items begins in the state that has just the two cells. For who wants to see that what
-/// is asked can be met.
+/// is required can be met.
 pub fn an_example_begins()
     ensures theorem { (before waits : Kinds) → AreKinds reversal before waits →
         IsStart reversal before waits 0 [] (first listed 3) }

@@ -14,7 +14,7 @@ abbrev pub Holds : (ℕ → ℕ → Bool → Type 0) → (ℕ → ℕ) → (ℕ 
 Holds calls base own zero a w = w ≡ base a
 Holds calls base own (suc n) a w = (g : ℕ) × (k : Bool) × calls a g k × (v : ℕ) × Holds calls base own n g v × (w ≡ v + charge (own a) k)
 
--- what is asked of calls
+-- what is required of calls
 pub record AreTame (calls : ℕ → ℕ → Bool → Type 0) (base : ℕ → ℕ) (size : ℕ) : Type 0 where
   pub within : (a b : ℕ) (k : Bool) → calls a b k → a < size
   pub never_back : (a b n : ℕ) → calls a b true → Way calls n b a → ⊥

@@ -1,6 +1,6 @@
 -- A run of sound code ends: it takes at most as many steps for each of its calls as the longest function has
 -- instructions, and a run that goes on has taken as many steps as were asked for. And it ends in one way, whichever
--- kinds are given: before each instruction that a run comes to they are the same.
+-- kinds are given: before each instruction that a run reaches they are the same.
 use Rattle.std.proofs.Common.{◌≡◌, ℕ, zero, suc, ◌+◌, ◌*◌, ◌≤◌, List, [], ◌∷◌, length, map, Some, slice_get, refl, sym, ap, ◌∙◌, subst, arith}
 use Rattle.std.proofs.lemmas.Option.{none-some, same_Some}
 use Rattle.separation.specs.cell_code.Plain.{PlainFunction, PlainCode, results}
@@ -85,7 +85,7 @@ run_ends c before waits n kept s calls t =
 
 -- ---- in one way
 
--- the kinds of a state that a run comes to are known
+-- the kinds of a state that a run reaches are known
 same_next : (c : PlainCode) (before waits first other : Kinds) (types kept : List ℕ) (s : State) → AreKinds c before waits → AreKinds c first other → IsAlive c types kept s → next before c s ≡ next first c s
 same_next c before waits first other types kept s kinds again a =
     ap (λ ks. act_at c ks s (instr_of c s))

@@ -1,5 +1,5 @@
--- What a row inside a frame does, whatever registers hold: it goes forward, and it releases nothing unless it is a Drop
--- or a Free.
+-- What an instruction inside a frame does, whatever registers hold: it goes forward, and it releases nothing unless it
+-- is a Drop or a Free.
 use Rattle.std.proofs.Common.{◌≡◌, ℕ, ◌<◌, Bool, true, false, List, [], ◌∷◌, Option, Some, None, sym, ap, ◌∙◌, true≢false, arith, nat_lt, nat_eq}
 use Rattle.std.specs.Prelude.{option_and_then, option_map}
 use Rattle.std.proofs.lemmas.Option.{none-some, same_Some, option_and_then_some}

@@ -65,7 +65,7 @@ module _ (calls : ℕ → ℕ → Bool → Type 0) (base own : ℕ → ℕ) (siz
   all_least zero none = none ((λ a. 0), record { below = λ a less. absurd (omega (arith, less)); above = λ a more. refl })
   all_least (suc n) none = all_least n (λ x. least_of n (λ l. none (with_one n l.0 x.0, one_more n l.0 x.0 x.1 l.1)))
 
-  -- ---- they solve what is asked
+  -- ---- they solve what is required
 
   -- one that is no function's holds nothing
   nothing : (a n w : ℕ) → size ≤ a → Holds calls base own n a w → w ≡ 0

@@ -53,7 +53,7 @@ pub fn fip_runs_stay_within_their_stack()
         words_held (state_of (after before c steps (begun s calls))) ≤ stack.words }
 {}
 
-/// With as many free frames as its stack number says, a run of a fip entry of sound code never ends for want of one.
+/// With as many free frames as its stack number says, a run of a fip entry of sound code never ends for lack of one.
 /// For who grants it the frames.
 pub fn fip_runs_are_never_too_deep()
     ensures theorem { (c : PlainCode) (before waits : Kinds) (n : ℕ) (kept : List ℕ) (s : State) (calls steps : ℕ)
@@ -86,8 +86,8 @@ pub fn a_run_ends()
 {}
 
 /// The held cells of each size are, in the first state, those of the arguments' values, the credits and the kept cells,
-/// and where the run gave a value, those of the results' and the lent arguments' trees and the kept cells. So what a
-/// gauge sees at both ends can be computed by trees. For who compares the two.
+/// and where the run gave a value, those of the results' and the borrowed arguments' trees and the kept cells. So what
+/// a gauge sees at both ends can be computed by trees. For who compares the two.
 pub fn held_cells_are_those_of_the_trees()
     ensures first { (c : PlainCode) (before waits : Kinds) (n : ℕ) (kept : List ℕ) (s : State) (size : ℕ) →
         (t : IsStart c before waits n kept s) → count_held size s.store
@@ -100,7 +100,7 @@ pub fn held_cells_are_those_of_the_trees()
         ≡ cells_of_trees size g.results + (cells_of_trees size g.lent + cells_at size last.store kept) }
 {}
 
-/// Where a run of a fip entry of sound code gives a value, the results and the lent arguments have together as many
+/// Where a run of a fip entry of sound code gives a value, the results and the borrowed arguments have together as many
 /// cells of each size as the arguments and the entry's credits. For who knows no compiler, and asks for nothing but a
 /// verified code.
 pub fn fip_runs_give_back_their_cells()

@@ -67,7 +67,7 @@ owned_part q ks hs n r past = elim (less_or_not r n) as (λ v. owned_uses q (ks 
   | inr h ↦ let e = ap (λ k. owned_uses q k (hs r)) (past r h) in omega arith
 ]
 
--- what a lent tree uses is used by the registers or below
+-- what a borrowed tree uses is used by the registers or below
 pub rooted_uses : (q : ℕ) (below : List Placed) (ks : ℕ → Kind) (hs : ℕ → Holding) (n : ℕ) (root : Option ℕ) (x : Placed) → Past n ks → Rooted below ks hs root x → uses q x ≤ owned_by q ks hs n + trees_uses q below
 rooted_uses q below ks hs n None x past l = let a = lies_uses q x below l in omega arith
 rooted_uses q below ks hs n (Some r) x past u =

@@ -1,5 +1,5 @@
 -- What registers mean stays where others go, or a free one is written.
--- The idea: a lent register depends on its root and on the register that it came from alone.
+-- The idea: a borrowed register depends on its root and on the register that it came from alone.
 use Rattle.std.proofs.Common.{◌≡◌, inl, inr, ℕ, ◌+◌, ◌<◌, Bool, true, false, List, length, Option, Some, None, refl, sym, ap, ◌∙◌, subst, true≢false, arith, if◌then◌else◌, ◌==◌}
 use Rattle.machine_semantics.specs.fip_language.Table.{Table}
 use Rattle.machine_semantics.specs.fip_language.Store.{Placed}

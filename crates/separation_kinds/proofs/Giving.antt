@@ -65,7 +65,7 @@ credit_stays ks u d owned e =
     let away : goes ks u d ≡ false = rw (off, credit_lent u (at ks d) e) refl in
     at_used_up ks u d ∙ credit_stays_at (goes ks u) d (at ks d) away e
 
--- what is left behind a register that was given as a value of type t
+-- what is left after a register that was given as a value of type t
 pub record IsGivenOne (tb : Table) (s : Store) (below : List Placed) (ks : List Kind) (ws : ℕ → ℕ) (hs : ℕ → Holding) (t r : ℕ) (left : List Kind) : Type 0 where
   pub wide : length left ≡ length ks
   pub meant : AreMeant tb s below (at left) ws hs
@@ -114,7 +114,7 @@ given_one tb s below ks ws hs t r left e m = pick (λ o. o ≡ Some left → IsG
     (λ c is. absurd (none-some left is)))
     e
 
--- what is left behind registers that were given as values of these types
+-- what is left after registers that were given as values of these types
 pub record AreGiven (tb : Table) (s : Store) (below : List Placed) (ks : List Kind) (ws : ℕ → ℕ) (hs : ℕ → Holding) (ts rs : List ℕ) (left : List Kind) : Type 0 where
   pub wide : length left ≡ length ks
   pub meant : AreMeant tb s below (at left) ws hs

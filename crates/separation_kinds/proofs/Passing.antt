@@ -93,7 +93,7 @@ passed tb s below under ks ws hs p a left e m = pick (λ o. o ≡ Some left → 
     (λ b is. absurd (none-some left is))))
     e
 
--- each parameter's register has what its kind says, where this is lent or not
+-- each parameter's register has what its kind says, where this is borrowed or not
 abbrev pub EachParam : Bool → Table → Store → List Placed → (ℕ → ℕ) → (ℕ → Holding) → List Param → List ℕ → Type 0
 EachParam lent tb s below ws hs [] rs = Unit {0}
 EachParam lent tb s below ws hs (p ∷ ps) [] = ⊥
@@ -175,7 +175,7 @@ all_handed tb s below under ks ws hs (size ∷ sizes) (a ∷ rs) left e m = opti
           omega arith;
     })
 
--- ---- lent ones
+-- ---- borrowed ones
 
 -- what lies in the registers that are left, and below them, lies below the callee; in a tail call no register is left
 pub record Covers (tail : Bool) (below under : List Placed) (ks : List Kind) (hs : ℕ → Holding) : Type 0 where

@@ -1,5 +1,5 @@
--- After a Take, a register that was lent of the register that is taken apart is lent of the heir that it reaches.
--- The idea: each from leads to a tree that has the tree; so an heir's tree has those of all that reach it.
+-- After a Take, a register that was borrowed from the register that is taken apart is borrowed from the heir that it
+-- reaches. The idea: each from leads to a tree that has the tree; so an heir's tree has those of all that reach it.
 use Rattle.std.proofs.Common.{◌≡◌, inl, inr, ℕ, zero, suc, ◌≤◌, Bool, true, false, List, Option, Some, None, refl, sym, ap, ◌∙◌, subst, true≢false, arith, ◌==◌}
 use Rattle.std.proofs.lemmas.Option.{none-some, same_Some}
 use Rattle.machine_semantics.specs.fip_language.Table.{Table}

@@ -58,7 +58,7 @@ heir_some tb r k (Some p) e =
     let a = both (not (is_scalar_type tb p.ty)) (is_field r p.field (from_of k)) e in
     record { part = p; is = refl; tree = refuted (is_scalar_type tb p.ty) a.0; field = a.1 }
 
--- a lent register that came from field i of register r, the part i of its tree y
+-- a borrowed register that came from field i of register r, the part i of its tree y
 record IsLentPart (tb : Table) (s : Store) (y : Placed) (i : ℕ) (k : Kind) (w : ℕ) (h : Holding) : Type 0 where
   owned : is_owned (inherited k) ≡ true
   tree : Placed

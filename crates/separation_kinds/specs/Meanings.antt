@@ -1,7 +1,7 @@
 -- It serves the proof that sound code keeps its cells apart: what the kinds of a frame's registers say of their words
 -- and of the trees that these stand for, in a form that each instruction keeps. Beside what `Apart` says of a frame, a
--- scalar has no cell; a lent register's tree is the part of the tree of the register that it came from; and that one
--- has the same root.
+-- scalar has no cell; a borrowed register's tree is the part of the tree of the register that it came from; and that
+-- one has the same root.
 --
 -- With Cons(1, Nil) in cell 0 owned by register 0, and register 1 read as its field 1: register 1 holds Nil, which is
 -- part 1 of the tree of register 0, its root.
@@ -36,7 +36,7 @@ pub record Under (ks : ℕ → Kind) (hs : ℕ → Holding) (r : ℕ) (x : Place
   pub holds : hs r ≡ Tree tree
   pub within : LiesWithin x tree
 
--- Register r, of this kind, owns a tree or is lent one, and this is its root.
+-- Register r, of this kind, owns a tree or borrows one, and this is its root.
 abbrev pub Roots : ℕ → Kind → Option ℕ → Type 0
 Roots r Gone root = ⊥
 Roots r (Scalar t) root = ⊥
@@ -73,7 +73,7 @@ pub record IsRooted (tb : Table) (s : Store) (t : ℕ) (cs : List ℕ) (w : ℕ)
   pub is : IsTree tb s t w tree
   pub top : RootIn cs (Tree tree)
 
--- a tree that is lent
+-- a tree that is borrowed
 pub record IsSeen (tb : Table) (s : Store) (below : List Placed) (ks : ℕ → Kind) (hs : ℕ → Holding) (t : ℕ)
     (cs : List ℕ) (root : Option ℕ) (from : Option From) (w : ℕ) (h : Holding) : Type 0 where
   pub tree : Placed

@@ -1,8 +1,8 @@
--- What a session asks of the code that it runs: that it is a program's.
+-- What a session requires of the code that it runs: that it is a program's.
 --
--- With `fip fun rev(xs: ints, acc: ints): ints` the program has an instance that is called rev; the code has one function
--- of this name, with the parameters, results and credits of that instance. Where this begins on Cons(1, Nil) and Nil,
--- while a name holds another list, its run is over after some steps, with a word that stands for Cons(1, Nil).
+-- With `fip fun rev(xs: ints, acc: ints): ints` the program has an instance that is called rev; the code has one
+-- function of this name, with the parameters, results and credits of that instance. Where this begins on Cons(1, Nil)
+-- and Nil, while a name holds another list, its run is over after some steps, with a word that stands for Cons(1, Nil).
 use Rattle.std.specs.Prelude.{◌≡◌, ℕ, ◌<◌, List, length, Some, slice_get}
 use Rattle.session_correctness.specs.tree_refinement.cell_code.declared.code.Code.{Code}
 use Rattle.session_correctness.specs.tree_refinement.cell_code.declared.code.Function.{Function}
@@ -34,7 +34,7 @@ pub record ComesTo (c : PlainCode) (before : Kinds) (n : ℕ) (s : State) (calls
   pub same : IsSameEnd c.types (results c n) last left end a
 
 -- Function f, which is number n of the code, runs as instance i means: a session gives it the frames of the instance,
--- and with these, wherever it begins on values beside cells that are kept, it comes to what the instance means by them.
+-- and with these, wherever it begins on values beside cells that are kept, it ends in what the instance means by them.
 pub record RunsAs (o : Setting) (code : Code) (n : ℕ) (f : Function) (i : ℕ) : Type 0 where
   pub has : (frames : ℕ) → HasFrames (plain code) n o.frames frames → frames ≡ free_frames o i
   pub comes : (before waits : Kinds) (vs : Values) (kept : List ℕ) (s : State) → AreKinds (plain code) before waits →

@@ -1,2 +1,2 @@
-// What a session asks of the code that it runs. Definitions alone.
+// What a session requires of the code that it runs. Definitions alone.
 #![tactic(auto)]

@@ -27,7 +27,7 @@ use Rattle.session_correctness.proofs.Leaving.{run_leaves, run_gives}
 use Rattle.session_correctness.proofs.Releasing.{still_apart, apart_without_value, apart_by_sweep}
 use Rattle.session_correctness.proofs.Sharing.{arguments_and_kept, lent_and_kept, used_and_held}
 
--- ---- trees that stand
+-- ---- trees that are there
 
 pub bare : (tb : Table) (s : Store) (ps : List Param) (xs : Parts) → StandAll tb s (map (λ p. p.ty) ps) xs → AreBare tb ps xs
 bare tb s [] xs g = tt
@@ -107,14 +107,14 @@ module _ (c : PlainCode) (before waits : Kinds) (n : ℕ) (kept : List ℕ) (s :
   lent_too : (q : ℕ) → lent_uses c.types ps xs q + count q kept ≡ lent_fresh_uses ps gs xs q + lodged_uses following q
   lent_too q = let l = lent_and_kept c.types ls distinct ps gs xs q given scalars in let k = others q in omega (arith, l, k)
 
-  -- what is held after the call stands in each state
+  -- what is held after the call is in each state
   after_stands : (last : Store) → Leaves c.types ps xs kept s.store last → AllStand c.types last following
   after_stands last l =
       all_stand_on c.types s.store last following
       (λ q some. l.cells q (let e = lent_too q in omega (arith, e, some)))
       (every_but_all (λ (x : Lodged). Stands c.types s.store x.type x.tree) (used_by c.types ps gs) ls stand)
 
-  -- After a run that gives words, with the lent values of the line given up.
+  -- After a run that gives words, with the borrowed values of the line given up.
   pub done : (calls k : ℕ) (ws : List ℕ) (last : State) (left steps : ℕ) (u : Store) → after before c k (begun s calls) ≡ Over (Value ws) last left steps → IsGivenUp (lent_fresh_uses ps gs xs) last.store u → IsHeldWith c.types following (results c n) ws u
   done calls k ws last left steps u is up =
       let g : Gives c.types ps xs kept (results c n) ws last.store = run_gives c before waits n kept s t calls k ws last left steps is in

@@ -1,4 +1,4 @@
--- Places of a store of which none stands twice are no more than the places of the store.
+-- Places of a store of which none occurs twice are no more than the places of the store.
 use Rattle.std.proofs.Common.{◌≡◌, inl, inr, ℕ, zero, suc, ◌+◌, ◌<◌, ◌≤◌, List, [], ◌∷◌, length, refl, sym, arith}
 use Rattle.tree_refinement.specs.fip_language.Store.{one_at, count}
 use Rattle.tree_refinement.proofs.separation_kinds.Agree.{one_here, one_apart}

@@ -26,7 +26,7 @@ use Rattle.session_correctness.specs.Leaving.{Leaves, Gives, lent_uses}
 use Rattle.session_correctness.proofs.Keeping.{run_keeps}
 use Rattle.tree_refinement.proofs.tree_semantics.machine_semantics.cell_code.fip_base.fip_language.Facts.{head_same, positive_or_zero as some_or, tail_same}
 
--- ---- the entry's lent arguments
+-- ---- the entry's borrowed arguments
 
 pick_two : (P : List Typed → List Placed → Type 0) (b : Bool) (a c : List Typed) (d e : List Placed) → P a d → P c e → P (if b then a else c) (if b then d else e)
 pick_two P true a c d e x y = x
@@ -40,7 +40,7 @@ lent_words_stand tb s (p ∷ ps) (MoreParts x xs) rest g =
     let more = lent_words_stand tb s ps xs rest g.1 in
     pick_two (AreTrees tb s) (is_lent_tree tb p) (record { type = p.ty; word = word_of x } ∷ lent_words tb ps (words_of xs ++ rest)) (lent_words tb ps (words_of xs ++ rest)) (x ∷ lent_trees tb ps xs) (lent_trees tb ps xs) (record { word = refl; stands = g.0 }, more) more
 
--- ---- cells of trees that stand before and after
+-- ---- cells of trees that are there before and after
 
 mutual
   tree_same : (tb : Table) (s u : Store) (t q : ℕ) (x : Placed) → Stands tb s t x → Stands tb u t x → 0 < uses q x → cell_at u q ≡ cell_at s q
@@ -86,7 +86,7 @@ there_same (o ∷ os) [] q e a b = absurd cc
 there_same (o ∷ os) (p ∷ ps) zero e a b = one_there o p (head_same (size_in o) (size_in p) (map size_in os) (map size_in ps) e) a.0 b.0
 there_same (o ∷ os) (p ∷ ps) (suc q) e a b = there_same os ps q (tail_same (size_in o) (size_in p) (map size_in os) (map size_in ps) e) a.1 b.1
 
--- how often the trees that are lent use a cell
+-- how often the trees that are borrowed use a cell
 lent_by_trees : (q : ℕ) (tb : Table) (ps : List Param) (xs : Parts) → trees_uses q (lent_trees tb ps xs) ≡ lent_uses tb ps xs q
 lent_by_trees q tb [] xs = refl
 lent_by_trees q tb (p ∷ ps) NoParts = refl
@@ -109,7 +109,7 @@ module _ (c : PlainCode) (before waits : Kinds) (n : ℕ) (kept : List ℕ) (s :
   start_lends : AreTrees c.types s.store s.lent lent
   start_lends = subst (λ ts. AreTrees c.types s.store ts lent) (sym lent_are) (lent_words_stand c.types s.store t.function.params t.given.arguments rest t.given.stand)
 
-  -- In each state of the run the kept cells and those of the lent arguments are as they were.
+  -- In each state of the run the kept cells and those of the borrowed arguments are as they were.
   pub run_leaves : (calls k : ℕ) → Leaves c.types t.function.params t.given.arguments kept s.store (state_of (after before c k (begun s calls))).store
   run_leaves calls k =
       let last : State = state_of (after before c k (begun s calls)) in

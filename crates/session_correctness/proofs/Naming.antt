@@ -1,4 +1,4 @@
--- Results get names: what is held then lies in the store, and each name stands once.
+-- Results get names: what is held then lies in the store, and each name occurs once.
 use Rattle.std.proofs.Common.{◌≡◌, ◌⊎◌, inl, inr, ◌∙◌, ℕ, ◌+◌, ◌<◌, Bool, true, false, List, [], ◌∷◌, ◌++◌, length, map, Option, Some, None, refl, sym, ap, subst, if◌then◌else◌, arith, append-nil, append_assoc}
 use Rattle.std.proofs.lemmas.Option.{none-some}
 use Rattle.std.specs.Prelude.{option_map}
@@ -134,6 +134,6 @@ distinct_all held used before (n ∷ ns) (t ∷ ts) (MoreParts x xs) ls d f h =
     let rest = distinct_all held used (n ∷ before) ns ts xs (ls ++ l ∷ []) (distinct_push ls l d none) more h.1 in
     subst AreDistinct (append_assoc ls (l ∷ []) (lodge_all ns ts xs)) rest
 
--- After the call each name stands once.
+-- After the call each name occurs once.
 pub distinct_after : (ls : List Lodged) (used ns : List Name) (ts : List ℕ) (xs : Parts) → AreDistinct ls → AreFree (map holding_of ls) used [] ns → AreDistinct (but_all used ls ++ lodge_all ns ts xs)
 distinct_after ls used ns ts xs d h = distinct_all (map holding_of ls) used [] ns ts xs (but_all used ls) (distinct_but_all used ls d) (λ m free. free_name m used ls free.free) h

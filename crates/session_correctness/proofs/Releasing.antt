@@ -96,10 +96,10 @@ all_up cs (p ∷ ps) rs wide few =
         by zero e = inr e
         by (suc n) e = inl (omega (arith, e))
 
--- ---- what is left behind a call
+-- ---- what is left after a call
 
 -- What was used up is released: what is held stays, apart from what is released, and together these are all cells. At
--- one place: `gone` is given up, `held` isn't; `old` and `now` tell whether the cell is released before and after.
+-- one place: `gone` is given up, `held` isn't; `old` and `now` report whether the cell is released before and after.
 pub still_apart : (gone held old now there : ℕ) → there ≤ 1 → gone + (held + old) ≡ there → (0 < gone → now ≡ there) → (gone ≡ 0 → now ≡ old) → held + now ≡ there
 still_apart zero held old now there few all up not = let z = not refl in omega (arith, all, z)
 still_apart (suc gone) held old now there few all up not = let z = up (omega arith) in omega (arith, few, all, z)

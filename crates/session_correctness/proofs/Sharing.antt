@@ -210,9 +210,9 @@ module _ (tb : Table) (ls : List Lodged) (d : AreDistinct ls) where
   pub arguments_and_kept : (ps : List Param) (gs : List Given) (xs : Parts) (q : ℕ) → AreTrees tb ls [] ps gs xs → AreBare tb ps xs → uses_of_all q xs + lodged_uses (but_all (named_by_all tb ps gs) ls) q ≡ fresh_uses gs xs q + lodged_uses ls q
   arguments_and_kept ps gs xs q h b = all_from [] ps gs xs q h b
 
-  -- ---- the lent ones and those that are held after the call
+  -- ---- the borrowed ones and those that are held after the call
 
-  -- whether an argument is lent
+  -- whether an argument is borrowed
   lent_one : (p : Param) (ps : List Param) (x : Placed) (xs : Parts) (q : ℕ) → lent_uses tb (p ∷ ps) (MoreParts x xs) q ≡ (if is_lent_tree tb p then uses q x else 0) + lent_uses tb ps xs q
   lent_one p ps x xs q = refl
 
@@ -287,8 +287,8 @@ module _ (tb : Table) (ls : List Lodged) (d : AreDistinct ls) where
         ]
   ]
 
-  -- The cells of the lent arguments, and those of the names that aren't given, are those of the lent written values and
-  -- of the names that are held after the call.
+  -- The cells of the borrowed arguments, and those of the names that aren't given, are those of the borrowed written
+  -- values and of the names that are held after the call.
   pub lent_and_kept : (ps : List Param) (gs : List Given) (xs : Parts) (q : ℕ) → AreTrees tb ls [] ps gs xs → AreBare tb ps xs → lent_uses tb ps xs q + lodged_uses (but_all (named_by_all tb ps gs) ls) q ≡ lent_fresh_uses ps gs xs q + lodged_uses (but_all (used_by tb ps gs) ls) q
   lent_and_kept ps gs xs q h b = lent_from [] ps gs xs q h b
 

@@ -13,7 +13,7 @@ use Rattle.session_correctness.specs.Lodging.{Lodged, lodged_uses}
 abbrev pub AllStand : Table → Store → List Lodged → Type 0
 AllStand tb s ls = Every (λ l. Stands tb s l.type l.tree) ls
 
--- The cells that aren't released are those of the trees that these names hold, and each stands there once.
+-- The cells that aren't released are those of the trees that these names hold, and each is there once.
 pub record IsHeld (tb : Table) (ls : List Lodged) (s : Store) : Type 0 where
   pub store : IsStore s
   pub stand : AllStand tb s ls

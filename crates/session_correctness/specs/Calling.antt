@@ -2,7 +2,7 @@
 -- the cells of all other names.
 --
 -- Where a holds Cons(1, Nil) in the cell at 0 and b holds Cons(2, Nil) in the cell at 3, rev(a, Nil) begins on the tree
--- at 0, and the cell at 3 is kept. After it b is held, whatever it came to; the cell at 0 is its result's, or is given
+-- at 0, and the cell at 3 is kept. After it b is held, whatever it ended in; the cell at 0 is its result's, or is given
 -- up.
 use Rattle.std.specs.Prelude.{◌≡◌, ℕ, ◌+◌, List, []}
 use Rattle.tree_refinement.specs.fip_language.Store.{count}
@@ -35,7 +35,7 @@ pub record CallOf (c : PlainCode) (before waits : Kinds) : Type 0 where
 abbrev pub held_after : (c : PlainCode) {before waits : Kinds} → CallOf c before waits → List Lodged
 held_after c h = but_all (used_by c.types h.start.function.params h.given) h.held
 
--- how often the line's values that are lent use a cell
+-- how often the line's values that are borrowed use a cell
 abbrev pub lent : {c : PlainCode} {before waits : Kinds} → CallOf c before waits → ℕ → ℕ
 lent h q = lent_fresh_uses h.start.function.params h.given h.start.given.arguments q
 

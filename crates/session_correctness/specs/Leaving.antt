@@ -1,8 +1,8 @@
--- What a run leaves of a store that holds other cells than its own: the kept cells and those of its lent arguments are
--- as they were, no cell is made or gets another size, and each of these is there once and isn't released.
+-- What a run leaves of a store that holds other cells than its own: the kept cells and those of its borrowed arguments
+-- are as they were, no cell is made or gets another size, and each of these is there once and isn't released.
 --
--- Where a holds Cons(2, Nil) in the cell at 3 and rev(Cons(1, Nil), Nil) runs with its cell at 0, the cell at 3 is kept:
--- after the run, however it ended, Cons(2, Nil) still stands there.
+-- Where a holds Cons(2, Nil) in the cell at 3 and rev(Cons(1, Nil), Nil) runs with its cell at 0, the cell at 3 is
+-- kept: after the run, however it ended, Cons(2, Nil) still is there.
 use Rattle.std.specs.Prelude.{◌≡◌, ℕ, ◌+◌, ◌<◌, ◌≤◌, ◌&&◌, not, List, ◌∷◌, if◌then◌else◌}
 use Rattle.tree_refinement.specs.fip_base.declared.plain.Param.{Param}
 use Rattle.tree_refinement.specs.fip_language.Store.{Parts, MoreParts, words_of, count, uses, uses_of_all}
@@ -11,7 +11,7 @@ use Rattle.tree_refinement.specs.machine_semantics.Cells.{Store, IsStore, cell_a
 use Rattle.tree_refinement.specs.machine_semantics.Kept.{Keeps}
 use Rattle.tree_refinement.specs.machine_semantics.Trees.{StandAll}
 
--- how often the arguments that are lent use a cell
+-- how often the arguments that are borrowed use a cell
 abbrev pub lent_uses : Table → List Param → Parts → ℕ → ℕ
 lent_uses tb (p ∷ ps) (MoreParts x xs) q =
     (if p.lent && not (is_scalar tb p.ty) then uses q x else 0) + lent_uses tb ps xs q
@@ -25,8 +25,8 @@ pub record Leaves (tb : Table) (ps : List Param) (xs : Parts) (kept : List ℕ) 
   pub cells : (q : ℕ) → 0 < lent_uses tb ps xs q + count q kept → cell_at last q ≡ cell_at first q
   pub once : (q : ℕ) → lent_uses tb ps xs q + (count q kept + released_at last q) ≤ there last q
 
--- The words stand for results in the last store, which with the lent arguments, the kept and the released cells are all
--- cells.
+-- The words stand for results in the last store, which with the borrowed arguments, the kept and the released cells are
+-- all cells.
 pub record Gives (tb : Table) (ps : List Param) (xs : Parts) (kept types ws : List ℕ) (last : Store) : Type 0 where
   pub results : Parts
   pub words : ws ≡ words_of results

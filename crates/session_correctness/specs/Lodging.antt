@@ -34,7 +34,7 @@ abbrev pub but_all : List Name → List Lodged → List Lodged
 but_all [] ls = ls
 but_all (n ∷ ns) ls = but_all ns (but n ls)
 
--- Each name stands once.
+-- Each name occurs once.
 abbrev pub AreDistinct : List Lodged → Type 0
 AreDistinct [] = Unit {0}
 AreDistinct (l ∷ ls) = (lodged_as l.name ls ≡ None) × AreDistinct ls
@@ -73,7 +73,7 @@ abbrev pub named_by_all : Table → List Param → List Given → List Name
 named_by_all tb (q ∷ qs) (g ∷ gs) = named_by tb q g ++ named_by_all tb qs gs
 named_by_all tb qs gs = []
 
--- how often the written values use a cell, and those of them that are lent
+-- how often the written values use a cell, and those of them that are borrowed
 abbrev pub fresh_in : Given → Placed → ℕ → ℕ
 fresh_in (Fresh w) x q = uses q x
 fresh_in (Held name) x q = 0

@@ -13,16 +13,16 @@ ghost use Rattle.session_correctness.specs.Counted.{lodged_cells};
 ghost use Rattle.session_correctness.specs.Leaving.{Leaves};
 ghost use Rattle.session_correctness.specs.Lodging.{Lodged, lodged_uses};
 
-/// In each state of a run the cells that are kept beside it, and those of its lent arguments, are as they were. For who
-/// holds values while a function runs on others.
+/// In each state of a run the cells that are kept beside it, and those of its borrowed arguments, are as they were. For
+/// who holds values while a function runs on others.
 pub fn a_run_leaves_what_it_is_not_given()
     ensures theorem { (c : PlainCode) (before waits : Kinds) (n : ℕ) (kept : List ℕ) (s : State)
         (t : IsStart c before waits n kept s) (calls k : ℕ) → Leaves c.types t.function.params t.given.arguments kept
         s.store (state_of (run_after c before s calls k)).store }
 {}
 
-/// After a call that gave words, with the line's lent values given up, the cells that aren't released are those of what
-/// is held and of the results, each once. For who wants to know what a session's store has after `ok`.
+/// After a call that gave words, with the line's borrowed values given up, the cells that aren't released are those of
+/// what is held and of the results, each once. For who wants to know what a session's store has after `ok`.
 pub fn a_call_leaves_its_results()
     ensures theorem { (c : PlainCode) (before waits : Kinds) (h : CallOf c before waits) (calls k : ℕ) (ws : List ℕ)
         (last : State) (left steps : ℕ) (u : Store) → run_after c before h.state calls k ≡
@@ -31,7 +31,7 @@ pub fn a_call_leaves_its_results()
 {}
 
 /// After any state of a call's run, with all that it was given gone, the cells that aren't released are those of what
-/// is held. For who wants to know what a session's store has after a trap, or want of calls or frames.
+/// is held. For who wants to know what a session's store has after a trap, or out of calls or frames.
 pub fn a_call_without_a_value_leaves_what_is_held()
     ensures theorem { (c : PlainCode) (before waits : Kinds) (h : CallOf c before waits) (calls k : ℕ) (u : Store) →
         IsGivenUp (gone h) (state_of (run_after c before h.state calls k)).store u →

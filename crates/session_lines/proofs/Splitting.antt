@@ -14,7 +14,7 @@ not_ten : (b : ℕ) → b ≢ 10 → (t : Bool) → (b == 10) ≡ t → (b == 10
 not_ten b h true e = absurd (h (eqb-true b 10 e))
 not_ten b h false e = e
 
--- a byte that ends no line stands before the first line
+-- a byte that ends no line is before the first line
 lines_more : (b : ℕ) (bs : List ℕ) → b ≢ 10 → lines_of (b ∷ bs) ≡ put_before b (lines_of bs)
 lines_more b bs h = ap (λ (t : Bool). if t then [] ∷ lines_of bs else put_before b (lines_of bs)) (not_ten b h (b == 10) refl)
 
@@ -26,7 +26,7 @@ pub last_line : (x : ℕ) (xs : List ℕ) → IsOneLine (x ∷ xs) → lines_of 
 last_line x [] h = lines_more x [] h.0
 last_line x (y ∷ xs) h = lines_more x (y ∷ xs) h.0 ∙ ap (put_before x) (last_line y xs h.1)
 
--- no LF stands from a place up to another
+-- no LF is from a place up to another
 pub record IsFree (bytes : List ℕ) (at i : ℕ) : Type 0 where
   pub within : at ≤ i
   pub one : IsOneLine (take (i - at) (drop at bytes))

@@ -79,7 +79,7 @@ sign_comma d = (λ e. subst (IsOf d) e (of_symbol d), λ e. ap symbol e)
 pub sign_close : IsSignOf 41 Close
 sign_close d = (λ e. subst (IsOf d) e (of_symbol d), λ e. ap symbol e)
 
--- ---- what stands at a place
+-- ---- what is at a place
 
 pub symbols_more : (bytes : List ℕ) (i : ℕ) → i < length bytes → symbols (drop i bytes) ≡ symbol (get_or bytes i 0) ∷ symbols (drop (i + 1) bytes)
 symbols_more bytes i lt = ap symbols (drop_more bytes i 0 lt)

@@ -244,7 +244,7 @@ digits_end bytes at i lt e r = digits_over bytes at i r (not_digit bytes i lt e)
 pub digits_all : (bytes : List ℕ) (at i : ℕ) → length bytes ≤ i → AreDigits bytes at i → AreRead bytes at i
 digits_all bytes at i le r = digits_over bytes at i r (no_digit_left bytes i le)
 
--- ---- what stands at a place
+-- ---- what is at a place
 
 word_some : (cs : List Symbol) (n : ℕ) (xs : List ℕ) → BeginsCapital cs → word cs ≡ take n xs → 0 < n
 word_some (Capital c ∷ cs) zero xs b e = let x : c ∷ word cs ≡ [] = e in absurd cc

@@ -1,8 +1,7 @@
--- What a line was read as: the parts of a line of a session, in which the text of a value stands from one place to
--- another.
+-- What a line was read as: the parts of a line of a session, in which the text of a value is from one place to another.
 --
 -- `a = f(b, Nil)` was read as a call of f, whose result gets the name a, with what b holds and with the value whose
--- text stands from 9 to 12.
+-- text is from 9 to 12.
 use Rattle.std.specs.Prelude.{◌≡◌, ℕ, List, [], ◌∷◌, map, drop}
 use Rattle.std.specs.Borrow.{Bor}
 use Rattle.fip_language.specs.Core.{Name}

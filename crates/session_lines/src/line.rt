@@ -24,7 +24,7 @@ use std::alloc::Global;
 pub enum Written<'l> {
     /// What a name holds.
     Name(&'l [u8]),
-    /// A value, which stands there.
+    /// A value, which is there.
     Value(Span),
 }
 

@@ -20,7 +20,7 @@ fn is_blank(byte: u8) -> bool
     byte == b' ' || byte == b'\t' || byte == b'\r'
 }
 
-// The first place from `at` on where no blank stands, or the end.
+// The first place from `at` on where there is no blank, or the end.
 fn after_blanks(bytes: &[u8], at: usize) -> usize
     ensures from { at ≤ result }
     ensures within { at ≤ length bytes.now → result ≤ length bytes.now }
@@ -49,7 +49,7 @@ fn after_name(bytes: &[u8], at: usize) -> usize
     at.max(bytes.len())
 }
 
-// The first place from `at` on where no digit stands, or the end.
+// The first place from `at` on where there is no digit, or the end.
 fn after_digits(bytes: &[u8], at: usize) -> usize
     ensures from { at ≤ result }
     ensures within { at ≤ length bytes.now → result ≤ length bytes.now }
@@ -65,7 +65,7 @@ fn after_digits(bytes: &[u8], at: usize) -> usize
     at.max(bytes.len())
 }
 
-// Where the digits of an int begin that stands at a place: there, or after a minus.
+// Where the digits of an int begin that is at a place: there, or after a minus.
 fn after_minus(bytes: &[u8], at: usize) -> usize
     requires there { at < length bytes.now }
     ensures from { at ≤ result }
@@ -79,7 +79,7 @@ fn after_minus(bytes: &[u8], at: usize) -> usize
     }
 }
 
-/// Where a value stands in a line: the place of its first byte, and the place after its last one.
+/// Where a value is in a line: the place of its first byte, and the place after its last one.
 #[derive(Clone, Copy, PartialEq, Eq)]
 pub struct Span {
     pub start: usize,
@@ -248,7 +248,7 @@ impl<'l> Scanner<'l> {
         }
     }
 
-    // After a value in brackets stands a comma, or their `)`.
+    // After a value in brackets is a comma, or their `)`.
     fn next_or_close(&mut self, depth: &mut usize) -> Option<Step>
         requires some { 0 < depth.old }
         ensures bytes { self.new.bytes.now ≡ self.old.bytes.now }
@@ -286,7 +286,7 @@ impl<'l> Scanner<'l> {
         }
     }
 
-    // Reads a value. Whether one comes next; where none does, the scanner stands anywhere.
+    // Reads a value. Whether one comes next; where none does, the scanner is anywhere.
     fn whole_value(&mut self) -> bool
         ensures bytes { self.new.bytes.now ≡ self.old.bytes.now }
         ensures on { result ≡ true → self.old.at ≤ self.new.at }

@@ -1,7 +1,7 @@
 -- The lines of a session and of a list of tasks, as they are written.
 -- A line of a session calls a function and keeps its results under names, `a, b = split(xs, Cons(1, Nil))`; or shows
 -- what a name holds, `?a`; or gives it up, `-a`. A line of a list of tasks calls a function, `rev(Cons(1, Nil), Nil)`.
--- A space, a tab or a CR may stand before each word and sign, and after the last; the - of an int touches its digits.
+-- A space, a tab or a CR may occur before each word and sign, and after the last; the - of an int touches its digits.
 -- A keyword is no name. A relation `XText cs x rest` says: the symbols cs are the text of x, and then rest.
 use Rattle.std.specs.Prelude.{◌≡◌, ℕ, ◌+◌, ◌-◌, ◌*◌, Bool, true, false, ◌&&◌, ◌||◌, nat_le, ◌==◌, if◌then◌else◌}
 use Rattle.std.specs.Prelude.{ℤ, pos, neg_ℤ, List, [], ◌∷◌, map, codes}
@@ -139,7 +139,7 @@ abbrev mutual
   WrittenText cs (Named name parts) rest = BeginsCapital (skip cs) × (name ≡ word (skip cs))
       × PartsText (following (skip cs)) parts rest
 
-  -- what stands after a constructor's name
+  -- what is after a constructor's name
   pub PartsText : List Symbol → Parts → List Symbol → Type 0
   PartsText cs NoParts rest = (IsOpened (skip cs) → ⊥) × (rest ≡ cs)
   PartsText cs (MoreParts w ws) rest = (inner : List Symbol) × (after : List Symbol)
@@ -165,7 +165,7 @@ MoreGivenText cs [] rest = SignText Close cs rest
 MoreGivenText cs (g ∷ gs) rest = (next : List Symbol) × (after : List Symbol)
     × SignText Comma cs next × GivenText next g after × MoreGivenText after gs rest
 
--- what stands between the brackets of a call
+-- what is between the brackets of a call
 abbrev pub AllGivenText : List Symbol → List Given → List Symbol → Type 0
 AllGivenText cs [] rest = SignText Close cs rest
 AllGivenText cs (g ∷ gs) rest = (after : List Symbol) × GivenText cs g after × MoreGivenText after gs rest

@@ -95,7 +95,7 @@ IsWrong tb held before qs gs k = ⊥
 
 -- ---- the names of results
 
--- a result may be held so: the name stands once, and holds nothing that this call doesn't use up
+-- a result may be held so: the name occurs once, and holds nothing that this call doesn't use up
 pub record IsFree (held : List Holding) (used before : List Name) (name : Name) : Type 0 where
   pub once : times name before ≡ 0
   pub free : (held_as name held ≡ None) ⊎ (0 < times name used)

@@ -43,7 +43,7 @@ AreTasks p [] [] = Unit {0}
 AreTasks p (line ∷ lines) (task ∷ tasks) = IsTask p line task × AreTasks p lines tasks
 AreTasks p lines tasks = ⊥
 
--- Line k, from 1, is the first that is no task; n lines stand before these. The line past the last task that a list may
+-- Line k, from 1, is the first that is no task; n lines are before these. The line past the last task that a list may
 -- have is none.
 abbrev pub IsBadFrom : Program → ℕ → List (List ℕ) → ℕ → Type 0
 IsBadFrom p n [] k = ⊥
@@ -71,7 +71,7 @@ joined tb (k ∷ []) (More v vs) rest = printed tb k v rest
 joined tb (k ∷ ks) (More v vs) rest = printed tb k v (codes "; " ++ joined tb ks vs rest)
 joined tb (k ∷ ks) End rest = rest
 
--- what a task alone comes to, ended by LF
+-- what a task alone ends in, ended by LF
 abbrev pub TaskText : Setting → Task → Answer → List ℕ → Type 0
 TaskText o t (Gives vs calls) text = text ≡ joined o.program.types t.header.results vs line_end
 TaskText o t answer text = EndText o t.entry answer text
@@ -83,7 +83,7 @@ TaskLines o n (t ∷ ts) text = (line : List ℕ) × (rest : List ℕ)
     × TaskText o t (answer_of o t.entry t.values) line
     × (text ≡ decimal n ++ (codes ": " ++ (line ++ rest))) × TaskLines o (suc n) ts rest
 
--- What a list of tasks comes to: the text on out, or the first line that is no task, or that the store is too small.
+-- What a list of tasks ends in: the text on out, or the first line that is no task, or that the store is too small.
 pub data Comes (o : Setting) (lines : List (List ℕ)) : Result (List ℕ) Failure → Type 0 where
   Bad : (k : ℕ) → IsBadTask o.program lines k → Comes o lines (Err (F.BadTask k))
   Small : (tasks : List Task) → AreTasks o.program lines tasks → length lines ≤ most_tasks →

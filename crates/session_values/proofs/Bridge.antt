@@ -391,7 +391,7 @@ brackets_shorter ss w ws rs h =
     let c = ap length h.2 in
     omega (arith, a, b, c)
 
--- ---- what stands there is what is written there
+-- ---- what is there is what is written there
 
 bare_or : (v : Value) → ((c : ℕ) × (v ≡ Node c End)) ⊎ ((c : ℕ) → v ≡ Node c End → ⊥)
 bare_or (Int i) = inr (λ c e. cc)

@@ -1,4 +1,4 @@
--- What was live stays where cells are made one after another, and so do trees that stand.
+-- What was live stays where cells are made one after another, and so do trees that are there.
 use Rattle.std.proofs.Common.{◌≡◌, ◌⊎◌, inl, inr, ◌∙◌, ◌≤◌, ◌<◌, ◌+◌, ◌*◌, ◌^◌, ℕ, zero, suc, Bool, true, false, List, [], ◌∷◌, ◌++◌, length, take, drop, get_or, Option, Some, None, append_assoc, append-nil, refl, sym, ap, subst, arith}
 use Rattle.std.specs.Prelude.{slice_get, replicate}
 use Rattle.std.specs.declared.slice.Iter.{Iter}
@@ -51,7 +51,7 @@ made_both a b c f g h e m n = record {
 pub made_same : (a b : Loading) (f g : ℕ → ℕ) → ((p : ℕ) → g p ≡ f p) → AreMade a b f → AreMade a b g
 made_same a b f g e m = record { once = λ p. (let x = m.once p in let y = e p in omega (arith, x, y)); kept = m.kept }
 
--- ---- what stands stays
+-- ---- what is there stays
 
 mutual
   stands_on : (tb : Table) (cs ds : Cells) (k : ℕ) (x : Placed) → ((p : ℕ) → 1 ≤ uses p x → cell_at ds p ≡ cell_at cs p) → Stands tb cs k x → Stands tb ds k x

@@ -1,5 +1,5 @@
 -- One value in a line, and counts of cells.
--- Idea: what was read so far, and what could stand there as a whole, are one: a text begins with one value of a type.
+-- Idea: what was read so far, and what could be there as a whole, are one: a text begins with one value of a type.
 use Rattle.std.proofs.Common.{◌≡◌, ◌∙◌, ◌≤◌, ◌<◌, ◌+◌, ◌-◌, ℕ, zero, suc, List, [], ◌∷◌, ◌++◌, length, length-append, map, take, drop, get_or, append_assoc, append-nil, refl, sym, ap, subst, arith}
 use Rattle.std.proofs.Math.Seq.{drop-cons}
 use Rattle.std.proofs.lemmas.List.{length-map, take-append-drop}

@@ -1,6 +1,6 @@
 -- The symbols of a line as the characters of values.
--- Idea: but for an LF, each byte's character is reported by its symbol; and what is left behind blanks, names and numbers is
--- the same of both.
+-- Idea: but for an LF, each byte's character is reported by its symbol; and what is left after blanks, names and
+-- numbers is the same of both.
 use Rattle.std.proofs.Common.{◌≡◌, ◌≢◌, ◌∙◌, ◌≤◌, ◌+◌, ◌-◌, ◌*◌, ℕ, zero, suc, Bool, true, false, List, [], ◌∷◌, ◌++◌, map, drop, append_assoc, refl, sym, ap, ap₂, subst, arith}
 use Rattle.std.specs.Prelude.{◌||◌, ◌&&◌, ◌==◌, if◌then◌else◌}
 use Rattle.std.proofs.lemmas.Bool.{eqb-true}

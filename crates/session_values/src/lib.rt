@@ -1,2 +1,2 @@
-// The values that stand in lines which call functions. Definitions and lemmas; no code.
+// The values that are in lines which call functions. Definitions and lemmas; no code.
 #![tactic(auto)]

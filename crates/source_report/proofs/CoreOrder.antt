@@ -1,4 +1,4 @@
--- The core form numbers the binders of a function in order: what a part of the source comes to has the numbers from the
+-- The core form numbers the binders of a function in order: what a part of the source gives has the numbers from the
 -- one that it was given up to the next.
 use Rattle.std.proofs.Common.{◌≡◌, ℕ, suc, ◌+◌, ◌<◌, List, [], ◌∷◌, ◌++◌, length, map, refl, sym, ◌∙◌, subst, arith}
 use Rattle.cell_lower.specs.fip_language.Core as C

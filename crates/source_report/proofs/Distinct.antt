@@ -1,4 +1,4 @@
--- Binders that are numbered in order are distinct: what stands in the scope of some has higher numbers.
+-- Binders that are numbered in order are distinct: what is in the scope of some has higher numbers.
 use Rattle.std.proofs.Common.{◌≡◌, ◌≤◌, ◌<◌, ◌+◌, ◌⊎◌, inl, inr, ℕ, List, [], ◌∷◌, ◌++◌, length, refl, sym, arith}
 use Rattle.cell_lower.specs.fip_language.Every.{Among}
 use Rattle.cell_lower.proofs.fip_language.Search.{every_from}

@@ -1,5 +1,5 @@
 -- A fip instance calls fip ones alone, where no rule on ownership is broken: a call of another kind is a fault in the
--- shape of the body, wherever it stands.
+-- shape of the body, wherever it is.
 use Rattle.std.proofs.Common.{◌≡◌, ◌<◌, ◌+◌, ◌⊎◌, inl, inr, ℕ, zero, suc, Bool, true, false, List, [], ◌∷◌, length, Some, slice_get, if◌then◌else◌, refl, sym, ap, ◌∙◌, subst, arith}
 use Rattle.cell_lower.proofs.fip_language.Search.{slice_get_there}
 use Rattle.cell_lower.specs.fip_language.declared.FunKind.{FunKind}

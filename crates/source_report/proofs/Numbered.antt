@@ -33,7 +33,7 @@ of_both : (f : Closed → List Closed) (xs ys : List Closed) → all_of f (xs ++
 of_both f [] ys = refl
 of_both f (x ∷ xs) ys = ap (λ l. f x ++ l) (of_both f xs ys) ∙ sym (append_assoc (f x) (all_of f xs) (all_of f ys))
 
--- ---- no item stands twice
+-- ---- no item occurs twice
 
 not_found : (x : Closed) (xs : List Closed) → list_any (λ y. same_closed x y) xs ≡ false → Among x xs → ⊥
 not_found x [] e h = h

@@ -1,5 +1,5 @@
--- What the calculus of ownership asks of a typed program of a source: scrutinees are variables, no constructor has more
--- than 16 fields, one of a scalar type has none, and credits have sizes from 1 to 16.
+-- What the calculus of ownership requires of a typed program of a source: scrutinees are variables, no constructor has
+-- more than 16 fields, one of a scalar type has none, and credits have sizes from 1 to 16.
 use Rattle.std.proofs.Common.{◌≡◌, ◌≤◌, ◌<◌, ◌==◌, ◌||◌, ◌&&◌, inl, inr, ℕ, zero, suc, Bool, true, false, nat_lt, List, [], ◌∷◌, ◌++◌, length, map, Option, Some, None, slice_get, if◌then◌else◌, refl, sym, ap, subst, arith}
 use Rattle.std.proofs.lemmas.Bool.Decides.{nat_tests}
 use Rattle.cell_lower.proofs.fip_language.Words.{map_at}

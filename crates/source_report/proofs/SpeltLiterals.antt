@@ -1,4 +1,4 @@
--- The literals in the patterns of a source have 64 bits. A literal of a pattern never stands directly after a minus that
+-- The literals in the patterns of a source have 64 bits. A literal of a pattern never is directly after a minus that
 -- isn't the pattern's own: after a sign of the grammar no minus waits. So its limit is that of its pattern.
 use Rattle.std.proofs.Common.{◌≡◌, ◌≤◌, ◌<◌, ◌-◌, ◌^◌, inl, inr, ℕ, zero, suc, Bool, true, false, List, [], ◌∷◌, ◌++◌, length, take, Option, Some, None, slice_get, ℤ, pos, neg_ℤ, FitsSigned, refl, sym, ap, ◌∙◌, subst, arith, append_assoc}
 use Rattle.std.specs.Int.{w64}

@@ -1,5 +1,5 @@
 -- The binders of an instance are numbered in order: the parameters from 0, then the binders of the body, each where it
--- comes to stand; so the binders within a let's bound expression come before those that the let binds. Each let binds
+-- is put; so the binders within a let's bound expression come before those that the let binds. Each let binds
 -- something.
 --
 -- In f(a) { let b = match! a { C(c) -> c }; b } the binders a, c and b have the numbers 0, 1 and 2.

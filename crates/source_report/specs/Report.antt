@@ -1,8 +1,8 @@
 -- The report: which violation of a source is named.
 --
--- The rules are asked in phases. What a phase asks of is made of the source by the phases before it, so a phase has
+-- The rules are checked in phases. What a phase checks is made of the source by the phases before it, so a phase has
 -- violations only where these have none. The first phase that has one names its least: by place, then rule, then
--- instance. In order the phases ask of:
+-- instance. In order the phases check:
 --    1. the length of the source (E05);
 --    2. its bytes (E01), and 3. its tokens (E02 to E04);
 --    4. declarations (E10 to E15, E63);
@@ -13,8 +13,8 @@
 --   12. the limits of code (E60).
 --
 -- In `fip fun f(x: int): int { g(y) }` the variable y is unknown (E31) and so is the function g (E20): E20 at g is
--- reported, since no program is made whose types could be asked. Where g is a function with another type of parameter,
--- E31 at y is reported.
+-- reported, since no program is made whose types could be checked. Where g is a function with another type of
+-- parameter, E31 at y is reported.
 use Rattle.std.specs.Prelude.{◌≡◌, ℕ, ◌<◌, ◌≤◌, List, [], length, None, Some}
 use Rattle.cell_lower.specs.fip_language.declared.Place.{Place}
 use Rattle.cell_lower.specs.fip_language.declared.limits.TheConstants.{MOST_SOURCE_BYTES}

@@ -1,5 +1,5 @@
--- The matches and the lets of a body: where a match stands, the type of what is matched, and the patterns of its
--- clauses; and of a let its binders. A match stands before those of its clauses' bodies.
+-- The matches and the lets of a body: where a match is, the type of what is matched, and the patterns of its
+-- clauses; and of a let its binders. A match is before those of its clauses' bodies.
 --
 -- match! x { Nil -> y; Cons(a, t) -> f(t) } is one match, with the patterns Nil and Cons(a, t). The second one binds a
 -- and t, and without names it is Cons(_, _).

@@ -14,7 +14,7 @@ pub fn typed_programs_number_their_binders()
 {}
 
 /// In the typed program of a source, and so in that of an accepted one, no binder has the number of one in whose scope
-/// it stands. For who finds a variable by the number of its binder.
+/// it is. For who finds a variable by the number of its binder.
 pub fn typed_programs_have_distinct_binders()
     ensures theorem { (source : List ℕ) (program : Program) → IsTyped source program → AreDistinct program }
 {}

@@ -43,7 +43,7 @@ pub fn typed_programs_are_sound()
         IsReady p.types ds }
 {}
 
-/// Where no rule on ownership is broken, fip instances call fip ones alone. So what the groups of the program tell of
+/// Where no rule on ownership is broken, fip instances call fip ones alone. So what the groups of the program report of
 /// the stack are the least numbers.
 pub fn fip_calls_fip()
     ensures { (source : List ℕ) (p : Program) → IsOwned source p → FipCallsFip p.instances }
@@ -56,7 +56,7 @@ pub fn accepted_programs_are_derived()
     ensures derived { (source : List ℕ) (p : Program) → IsCredited source p → AreDerived p p.instances }
 {}
 
-/// The rules on matches, which the report asks of trees, are those that are looked for where the trees lie in memory.
+/// The rules on matches, which the report checks on trees, are those that are looked for where the trees lie in memory.
 pub fn matches_are_judged_as_in_memory()
     ensures shapes { (ds : List Instance) → shape_faults 0 ds ≡ R.shape_faults 0 (instances ds) }
     ensures faults { (tb : Table) (ds : List Instance) (v : Violation) →

@@ -1,5 +1,5 @@
--- What is asked of the arguments of a program before it is typed: its literals have 64 bits, and a constructor is one
--- of each type that its data type declares. Filling in types keeps it; and where the types fit, the arguments are
+-- What is required of the arguments of a program before it is typed: its literals have 64 bits, and a constructor is
+-- one of each type that its data type declares. Filling in types keeps it; and where the types fit, the arguments are
 -- formed.
 use Rattle.std.proofs.Common.{◌≡◌, ◌<◌, ◌==◌, ◌^◌, inl, inr, ℕ, zero, suc, ◌+◌, Bool, true, false, nat_lt, List, [], ◌∷◌, ◌++◌, length, map, Option, Some, None, slice_get, if◌then◌else◌, FitsSigned, refl, sym, ap, ◌∙◌, subst, arith}
 use Rattle.std.specs.Int.{w64}

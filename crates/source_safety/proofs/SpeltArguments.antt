@@ -1,5 +1,5 @@
 -- The literals in the expressions of a source have 64 bits. Before an expression no minus waits, since an operand
--- stands before each operator; so a literal's limit is that of an expression's.
+-- is before each operator; so a literal's limit is that of an expression's.
 -- Each match has a clause.
 -- In `f(-9223372036854775808) - 1` the first minus is the literal's own, and the second is the operator's.
 use Rattle.std.proofs.Common.{◌≡◌, ◌≤◌, ◌<◌, ◌-◌, ◌^◌, inl, inr, ℕ, zero, suc, Bool, true, false, not, ◌&&◌, List, [], ◌∷◌, ◌++◌, length, take, Option, Some, None, slice_get, ℤ, pos, neg_ℤ, FitsSigned, refl, sym, ap, ◌∙◌, subst, arith, append_assoc}

@@ -1,5 +1,5 @@
--- The instances that are numbered are functions of the program, with functions where their parameters ask for functions;
--- each call of an instance reaches one, whose number the call has.
+-- The instances that are numbered are functions of the program, with functions where their parameters require
+-- functions; each call of an instance reaches one, whose number the call has.
 use Rattle.std.proofs.Common.{◌≡◌, ◌⊎◌, inl, inr, ℕ, zero, suc, ◌+◌, ◌<◌, ◌==◌, not, Bool, true, false, List, [], ◌∷◌, ◌++◌, length, map, reverse, cond, Option, Some, None, option_and_then, slice_get, if◌then◌else◌, nat_lt, refl, sym, ap, ◌∙◌, subst, arith}
 use Rattle.std.specs.List.{position_or_len}
 use Rattle.std.proofs.lemmas.Bool.Decides.{nat_tests}
@@ -192,7 +192,7 @@ module _ (core : Core) (ts : List Declared) where
   given_by xs cs None c h e = absurd (cc)
   given_by xs cs (Some k) c h e = function_given xs cs k c h e
 
-  -- arguments, each of them none or what its parameter asks
+  -- arguments, each of them none or what its parameter requires
   abbrev AreOptions : List Static → List (Option Closed) → Type 0
   AreOptions xs [] = Unit {0}
   AreOptions [] (o ∷ os) = o ≡ None

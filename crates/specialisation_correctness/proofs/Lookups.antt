@@ -44,7 +44,7 @@ among_more n m seen e = list_any-append (same_name n) seen (m ∷ []) ∙ or_lef
 among_last : (n m : Name) (seen : List Name) → same_name n m ≡ true → is_among n (seen ++ m ∷ []) ≡ true
 among_last n m seen e = list_any-append (same_name n) seen (m ∷ []) ∙ or_right (is_among n seen) (is_among n (m ∷ [])) (or_left (same_name n m) false e)
 
--- a name that was seen stands nowhere else
+-- a name that was seen is nowhere else
 seen_apart : (n m : Name) (seen : List Name) → is_among n seen ≡ true → is_among m seen ≡ false → same_name n m ≡ true → ⊥
 seen_apart n m seen e f g = let h : n ≡ m = same_is n m g in let k : is_among m seen ≡ true = subst (λ x. is_among x seen ≡ true) h e in absurd (cc)
 

@@ -1,5 +1,5 @@
--- In an instance that is given what its parameters ask, what is written means by place what it means by name: types,
--- functions with their static arguments, and the functions that are called.
+-- In an instance that is given what its parameters require, what is written means by place what it means by name:
+-- types, functions with their static arguments, and the functions that are called.
 use Rattle.std.proofs.Common.{◌≡◌, ℕ, ◌-◌, ◌==◌, ◌&&◌, not, Bool, true, false, List, [], ◌∷◌, ◌++◌, length, Option, Some, None, slice_get, if◌then◌else◌, refl, sym, ap, ◌∙◌, arith}
 use Rattle.std.proofs.lemmas.Bool.Decides.{nat_tests}
 use Rattle.source_report.specs.fip_language.declared.Place.{Place}

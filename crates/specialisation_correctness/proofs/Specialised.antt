@@ -44,7 +44,7 @@ nothing_in : (vs : List Violation) → ((v : Violation) → In v vs → ⊥) →
 nothing_in [] h = refl
 nothing_in (v ∷ vs) h = absurd (h v (inl refl))
 
--- where each gives one, what stands at a place is what one gives
+-- where each gives one, what is at a place is what one gives
 of_one : {A B : Type 0} (f : A → List B) (xs : List A) → ((x : A) → Among x xs → (d : B) × (f x ≡ d ∷ [])) → (i : ℕ) (d : B) → slice_get (all_of f xs) i ≡ Some d → (x : A) × (slice_get xs i ≡ Some x) × (f x ≡ d ∷ [])
 of_one f [] h i d e = absurd (cc)
 of_one f (x ∷ xs) h zero d e =

@@ -1,5 +1,5 @@
--- What the theorem asks of a program. Its core form breaks no rule on declarations, and each match in it has a clause, as
--- every match of a source has. What is specialised has the names and the functions of the core form.
+-- What the theorem requires of a program. Its core form breaks no rule on declarations, and each match in it has a
+-- clause, as every match of a source has. What is specialised has the names and the functions of the core form.
 use Rattle.std.specs.Prelude.{◌≡◌}
 use Rattle.source_report.specs.fip_language.Core.{Expression, Give, Tuple, Operation, Call, Match, Nested, Block, Last, Let, Clauses}
 use Rattle.source_report.specs.fip_language.Core.{NoClauses, MoreClauses, Function, Core}

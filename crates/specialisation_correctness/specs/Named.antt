@@ -1,6 +1,6 @@
 -- Closed trees by place, and the closed trees by name that they stand for. By place a data type is its number, from 1,
 -- and a function its place in the core form; by name both are their names.
--- Where `map` stands at place 4 and `next` at place 7, function 4 at int, int and function 7 stands for
+-- Where `map` is at place 4 and `next` at place 7, function 4 at int, int and function 7 stands for
 -- map[int, int, next].
 use Rattle.std.specs.Prelude.{◌-◌, [], Option, Some, None, slice_get}
 use Rattle.source_report.specs.fip_language.Core.{Name, Data, Function, Core}

@@ -1,4 +1,5 @@
-// Specialisation is correct: each instance of a source evaluates as its function does with the static arguments bound.
+// Monomorphisation is correct: each instance of a source evaluates as its function does with the static arguments
+// bound.
 #![tactic(auto)]
 
 pub mod instance_theorems;

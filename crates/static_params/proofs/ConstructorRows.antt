@@ -1,6 +1,6 @@
 -- The rows of the table of a program whose declarations break no rule: constructors with names of their own, and with few
 -- fields. And its functions have names of their own.
--- Idea: a row is that of a data type that is declared; no name is declared twice, by E10, and E14 asks for few fields.
+-- Idea: a row is that of a data type that is declared; no name is declared twice, by E10, and E14 requires few fields.
 use Rattle.std.proofs.Common.{◌≡◌, ◌∙◌, ◌<◌, ◌≤◌, inl, ℕ, zero, suc, Bool, true, false, nat_lt, ◌||◌, List, [], ◌∷◌, ◌++◌, length, Some, slice_get, refl, sym, ap, subst, arith, if◌then◌else◌}
 use Rattle.std.specs.Prelude.{codes}
 use Rattle.std.proofs.lemmas.Bool.Decides.{nat_tests}

@@ -172,7 +172,7 @@ module _ (core : Core) where
 
   -- ---- functions that are used
 
-  -- arguments, each of them none or what its parameter asks
+  -- arguments, each of them none or what its parameter requires
   abbrev AreOptions : List Static → List (Option Closed) → Type 0
   AreOptions xs [] = Unit {0}
   AreOptions [] (o ∷ os) = o ≡ None

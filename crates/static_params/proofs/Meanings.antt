@@ -1,4 +1,4 @@
--- What names mean stands in the program: a data type by its number, a constructor by its number there, a function by its
+-- What names mean is in the program: a data type by its number, a constructor by its number there, a function by its
 -- place, a type parameter by its place.
 use Rattle.std.proofs.Common.{◌≡◌, ◌≤◌, ◌<◌, ◌+◌, ◌-◌, ◌==◌, ℕ, suc, Bool, true, false, List, [], ◌∷◌, ◌++◌, length, Option, Some, None, slice_get, if◌then◌else◌, refl, subst, arith}
 use Rattle.fip_language.specs.Core.{Name, Data, DataConstructor, TypeName, Function, Core, Written, WrittenInt, WrittenName, Writtens, NoWritten, MoreWritten}

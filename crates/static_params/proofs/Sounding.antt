@@ -48,7 +48,7 @@ use Rattle.static_params.proofs.TypeRows.{one_at, there_among}
 
 -- ---- lists
 
--- what stands nowhere twice stands at one place
+-- what is nowhere twice is at one place
 distinct_at : {A : Type 0} (xs : List A) (i j : ℕ) (x : A) → Differ xs → slice_get xs i ≡ Some x → slice_get xs j ≡ Some x → i ≡ j
 distinct_at [] i j x d a b = absurd (cc)
 distinct_at (y ∷ xs) zero zero x d a b = refl

@@ -102,7 +102,7 @@ module _ (core : Core) (ns : Numbers) (passed : List Closed) (instances : AreIns
       let at = map_at (flat_constructor ns r.arguments) (declared (declared_names core) r.«data»).constructors c s (subst (λ ss. slice_get ss c ≡ Some s) r.row e) in
       subst (λ (s : Shape). AreTypes p.types s.fields) at.2 (numbers_within (field_types r.arguments at.0.fields))
 
-  -- a value of the row, wherever it stands
+  -- a value of the row, wherever it is
   same_row : (i t : ℕ) (v : Value) → shapes p.types i ≡ shapes p.types t → HasType p.types (suc i) v → HasType p.types (suc t) v
   same_row i t (Int n) e h = absurd h
   same_row i t (Node c vs) e h = (h.0, subst (λ ss. slice_get ss c ≡ Some h.0) e h.1, h.2)

@@ -1,5 +1,5 @@
--- What specialising answers. More than 4,096 instances are E21 at the first place of the source, where no other
--- violation of the phase stands, with the detail functions; else more than 4,096 types are E21 there, with the detail
+-- What monomorphising answers. More than 4,096 instances are E21 at the first place of the source, where no other
+-- violation of the phase is, with the detail functions; else more than 4,096 types are E21 there, with the detail
 -- types; else the least violation of a use in an instance is named, where there is one; else the program of the
 -- instances and the types is given.
 -- With `fun f(): int { g(1) }` and no g, the violation is E20 at g, in instance 0, with the detail g.

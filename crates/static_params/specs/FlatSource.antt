@@ -1,4 +1,4 @@
--- What specialising starts from, by the core form alone: what the names of a program mean, its data types with bool
+-- What monomorphising starts from, by the core form alone: what the names of a program mean, its data types with bool
 -- before them, and its functions.
 -- In `data list[a] { Nil; Cons(a, list[a]) }` the data type 2 has one parameter, and the fields of Cons are parameter 0
 -- and data type 2 at parameter 0.

@@ -29,14 +29,14 @@ use Rattle.reached_instances.specs.SourceView.{instance, source}
 abbrev pub numbers_at : List Closed → N.Numbers → Numbers
 numbers_at ts ns = record { instances = all_at ts ns.instances; types = all_at ts ns.types }
 
--- what is numbered stands at these places, and is few
+-- what is numbered is at these places, and is few
 pub record AreNumbers (k : Kept) (ns : N.Numbers) : Type 0 where
   pub instances : AreWithin k.branches ns.instances
   pub types : AreWithin k.branches ns.types
   pub few : length ns.instances ≤ MOST_INSTANCES
   pub few_types : length ns.types ≤ MOST_INSTANCES
 
--- at these places stand the types that these instances have
+-- at these places are the types that these instances have
 pub record IsTypes (s : D.Source) (is : List Closed) (k : Kept) (ts : List ℕ) : Type 0 where
   pub within : AreWithin k.branches ts
   pub few : length ts ≤ MOST_INSTANCES

@@ -267,7 +267,7 @@ impl<'r, 's, 'a> Flattening<'r, 's, 'a> {
         })
     }
 
-    // An expression that stands in no block and has no clauses.
+    // An expression that is in no block and has no clauses.
     fn operation(
         &self,
         operator: Operator,

@@ -1,5 +1,5 @@
-// From a program with static parameters to its instances: one for each list of static arguments with which a function
-// is reached from the roots.
+// Monomorphisation: from a program with static parameters to its instances, one for each list of static arguments with
+// which a function is reached from the roots.
 #![tactic(auto)]
 
 mod flatten;

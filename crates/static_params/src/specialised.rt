@@ -117,7 +117,7 @@ fn flat_of(
     Ok(Some(program))
 }
 
-// More than 4,096 instances or types are E21 at the source's first place, where no use stands.
+// More than 4,096 instances or types are E21 at the source's first place, where there is no use.
 fn too_many(alloc: Global, least: &mut Least, what: &[u8]) -> Result<(), NoMemory>
     ensures { OnOk result (least.new ≡ Some (broken E21 start 0 what.now)) }
 {
@@ -448,7 +448,7 @@ fn is_root(statics: &[Static]) -> bool
     statics.is_empty()
 }
 
-// The types of parameters, and which of them are lent.
+// The types of parameters, and which of them are borrowed.
 fn params_of(
     flattening: &mut Flattening<'_, '_, '_>,
     parameters: &[Parameter],

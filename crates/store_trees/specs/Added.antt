@@ -15,7 +15,7 @@ root_of ty (At p c xs) = Some (record { ty = ty; place = p })
 abbrev pub places_of : List Tree → List ℕ
 places_of ts = map (λ t. t.place) ts
 
--- each place as often as it stands in the tree
+-- each place as often as it is in the tree
 pub record Adds (before after : List Tree) (x : Placed) : Type 0 where
   pub added : List Tree
   pub are : after ≡ before ++ added

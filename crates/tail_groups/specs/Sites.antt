@@ -1,5 +1,5 @@
--- The calls of an instance, in text order, and which of them stand in tail position: the body does, a block's last
--- expression and a clause's body do where the whole does, and what a binding binds never does.
+-- The calls of an instance, in text order, and which of them are in tail position: the body is, a block's last
+-- expression and a clause's body are where the whole is, and what a binding binds never is.
 --
 -- In `let x = f(a); match b { Nil -> g(x); Cons(y, t) -> { let z = h(y); k(z, t) } }` as a body, g and k are called in
 -- tail position, f and h are not.

@@ -1,5 +1,5 @@
-// The calls of an instance, in text order, and which of them stand in tail position: the body does, a block's last
-// expression and a clause's body do where the whole does, and what a binding binds never does.
+// The calls of an instance, in text order, and which of them are in tail position: the body is, a block's last
+// expression and a clause's body are where the whole is, and what a binding binds never is.
 ghost use Rattle.std.specs.Prelude.{◌≡◌, ◌++◌, map, OnOk, true};
 ghost use Rattle.fip_trees.specs.TreeView as V;
 ghost use Rattle.tail_groups.specs.Sites.{called, sites, block_sites, clauses_sites};

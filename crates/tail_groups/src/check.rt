@@ -22,7 +22,7 @@ use fip_trees::program::{Instance, Typed};
 use std::alloc::Global;
 
 /// The call groups of a program, with the registers of each instance, and what a run of each fip instance holds of the
-/// stack at the most. The program is asked to break no rule on ownership: then fip instances call fip ones alone, and
+/// stack at the most. The program must break no rule on ownership: then fip instances call fip ones alone, and
 /// what runs hold of the stack are the least numbers.
 ///
 /// Refused exactly where E59 is broken, for the least violation by place, instance and name: a fip instance calls one

@@ -1,4 +1,4 @@
--- A task that has an end stands where a run does that is over, and this ended as the source means.
+-- A task that has an end is where a run is that is over, and this ended as the source means.
 use Rattle.std.proofs.Common.{◌≡◌, ◌<◌, ℕ, List, [], Some, length, slice_get, sym, ap, ◌∙◌, subst, refl}
 use Rattle.fip_tasks.specs.fip_language.Core.{Core}
 use Rattle.fip_tasks.specs.fip_language.Meaning.{Answer, Gives, Trap, Out, Deep, Stuck, meaning}

@@ -1,4 +1,4 @@
--- A task that has an end stands where a run does that is over, and so ended as on trees.
+-- A task that has an end is where a run is that is over, and so ended as on trees.
 use Rattle.std.proofs.Common.{◌≡◌, ℕ, List, Some, refl, sym, ap, subst, ◌∙◌}
 use Rattle.std.specs.Prelude.{slice_get}
 use Rattle.fip_tasks.specs.cell_code.Plain.{plain}

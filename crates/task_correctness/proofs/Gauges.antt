@@ -225,7 +225,7 @@ first_held : (size : ℕ) (s : State) (n : ℕ) → held size (begun s n) ≡ co
 first_held size s zero = refl
 first_held size s (suc n) = refl
 
--- what is asked of a task's numbers: those of its run alone
+-- what is required of a task's numbers: those of its run alone
 record IsCountedAlone (before : Kinds) (code : PlainCode) (first : Shared) (schedule : List ℕ) (k : ℕ) (b : Begun) : Type 0 where
   frames : frames_reached before code k schedule first ≡ highest_frames (seen before code (count k schedule) (begun b.state b.calls))
   words : words_reached before code k schedule first ≡ highest_words (seen before code (count k schedule) (begun b.state b.calls))

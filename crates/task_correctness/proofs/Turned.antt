@@ -34,7 +34,7 @@ EachIs v before waits tasks first q = (schedule : List ℕ) (k : ℕ) (t : Begun
 each : (v : Checked) (before waits : Kinds) (tasks : List Begun) (first : Shared) → AreLoaded before waits (plain v.code) tasks → BeginTogether before waits (plain v.code) tasks first → EachIs v before waits tasks first (plain v.code)
 each v before waits tasks first loaded together = each_is_alone before waits (plain v.code) tasks first loaded together
 
--- no task alone comes to an instruction that can't be done
+-- no task alone reaches an instruction that can't be done
 no_end : (code : PlainCode) (n : ℕ) (f : Renaming) (own shared : Store) (e : End) → IsSameEnd code n f own shared e Unsound → ⊥
 no_end code n f own shared (Value ws) h = h
 no_end code n f own shared (Trap kind line col) h = h

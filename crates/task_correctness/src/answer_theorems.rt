@@ -25,7 +25,7 @@ ghost use Rattle.machine_correctness.specs.Starts.{IsCodeOf};
 /// Where calls of functions of an accepted source's code are loaded one after another, a task that has ended, whatever
 /// turns were taken, ended as the source means by the function of its name on its arguments, with its calls and
 /// frames: with words that stand in the shared store for the values that are meant, in the same trap, or out of calls
-/// or frames. For who prints what the tasks of a list came to.
+/// or frames. For who prints what the tasks of a list ended in.
 pub fn tasks_end_as_the_source_means()
     ensures theorem { (source : List ℕ) (core : Core) (code : Code) (before waits : Kinds) (tasks : List Task)
         (alone : List Begun) (first : Shared) (schedule : List ℕ) (k : ℕ) (t : Task) (e : End) (last : State)
@@ -37,7 +37,7 @@ pub fn tasks_end_as_the_source_means()
         (meaning core t.header.name NoClosed t.arguments t.calls t.frames).answer }
 {}
 
-/// And so the calls on tasks answer: where tasks stand where the runs of a schedule do, whatever its turns are, one
+/// And so the calls on tasks answer: where tasks are where the runs of a schedule are, whatever its turns are, one
 /// that has an end has the one that the source means by the function of its name on its arguments, with its calls and
 /// frames; after a value the words of its results stand in the store for the values that are meant. For who prints
 /// what tasks answer.

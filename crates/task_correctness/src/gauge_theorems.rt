@@ -18,8 +18,8 @@ ghost use Rattle.fip_tasks.specs.Turns.{Standing, Turns};
 
 /// Where loaded tasks have followed a schedule, whatever its turns are, the gauge of each reports just what the gauge of
 /// its run alone reports after as many steps as it had turns: over all states that it would have been in alone, of each
-/// size the lowest and the highest number of held cells, the most frames and the most words. It is asked that the task
-/// started with the cells that it would have alone. For who reads a task's gauge.
+/// size the lowest and the highest number of held cells, the most frames and the most words. It is required that the
+/// task started with the cells that it would have alone. For who reads a task's gauge.
 pub fn a_tasks_gauge_is_that_of_it_alone()
     ensures theorem { (v : Checked) (before waits : Kinds) (tasks : List Begun) (first : Shared) (schedule : List ℕ)
         (turns : Turns) (k : ℕ) (b : Begun) (a : Standing) (g : Gauge) → AreLoaded before waits (plain v.code) tasks →

@@ -18,7 +18,7 @@ ghost use Rattle.task_correctness.specs.Answered.{AreStartsOf, AreStartsAt, HasA
 
 /// Loaded tasks that begin together can each have a turn after every schedule, and so be run to their ends: what their
 /// Drop releases is what the verifier knows, and no instruction is one that can't be done. For who gives turns to
-/// tasks: they stand then where the runs of the schedule do.
+/// tasks: they are then where the runs of the schedule are.
 pub fn loaded_tasks_can_turn()
     ensures turn { (v : Checked) (before waits : Kinds) (alone : List Begun) (first : Shared) (schedule : List ℕ)
         (k : ℕ) → AreLoaded before waits (plain v.code) alone →
@@ -31,14 +31,14 @@ pub fn loaded_tasks_can_turn()
 {}
 
 /// Calls that are loaded one after another begin where their functions are loaded, each with its words. For who starts
-/// tasks: they stand where a schedule of these calls begins.
+/// tasks: they are where a schedule of these calls begins.
 pub fn laid_tasks_are_started()
     ensures theorem { (v : Checked) (tasks : List Task) (alone : List Begun) (first : Shared) (starts : List Start) →
         IsSound (plain v.code) → AreLaid (plain v.code) tasks alone first → AreStartsOf 0 tasks starts →
         AreStarted v (shared_store tasks) starts first }
 {}
 
-/// Where tasks that were loaded one after another stand where the runs of a schedule do, whatever its turns are, one
+/// Where tasks that were loaded one after another are where the runs of a schedule are, whatever its turns are, one
 /// that has an end ended as its function ends on trees with its arguments, calls and frames: its results stand in the
 /// store for the same values, or it is in the same trap, or out of calls or frames. For who prints the answers of
 /// tasks.

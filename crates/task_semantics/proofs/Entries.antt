@@ -82,7 +82,7 @@ module _ (tb : Table) (f : Renaming) (own shared : Store) where
       (subst (λ m. AreRenamedWords tb f own shared (ks ++ gones (registers - number)) (ws ++ replicate (registers - number) 0) (vs ++ replicate (registers - m) 0)) (sym e)
       (with_gone ks ws vs (registers - number) h))
 
-  -- ---- lent arguments
+  -- ---- borrowed arguments
 
   lent_one : (b : Bool) (t w v : ℕ) (ts us : List Typed) → IsRenamedTree tb f own shared t w v → AreRenamedArguments tb f own shared ts us → AreRenamedArguments tb f own shared (if b then record { type = t; word = w } ∷ ts else ts) (if b then record { type = t; word = v } ∷ us else us)
   lent_one true t w v ts us i h = (refl, i, h)

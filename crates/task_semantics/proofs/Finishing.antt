@@ -1,4 +1,4 @@
--- Each task comes to an end where it has turns enough: alone it ends after so many steps, and its number stands in the
+-- Each task reaches an end where it has turns enough: alone it ends after so many steps, and its number occurs in the
 -- schedule at least as often.
 use Rattle.std.proofs.Common.{◌≡◌, ℕ, zero, suc, ◌+◌, ◌-◌, ◌<◌, ◌≤◌, List, [], ◌∷◌, ◌++◌, length, Option, Some, None, slice_get, refl, sym, ap, ◌∙◌, subst, arith}
 use Rattle.std.specs.Prelude.{replicate, slice_set}

@@ -51,7 +51,7 @@ in_order tb f own shared (k ∷ ks) [] vs l m a = absurd (let z : ⊥ = omega ar
 in_order tb f own shared (k ∷ ks) (w ∷ ws) [] l m a = absurd (let z : ⊥ = omega arith in z)
 in_order tb f own shared (k ∷ ks) (w ∷ ws) (v ∷ vs) l m a = (a.each 0, in_order tb f own shared ks ws vs (omega arith) (omega arith) (record { each = λ r. a.each (suc r) }))
 
--- ---- the frames that wait, and the lent arguments
+-- ---- the frames that wait, and the borrowed arguments
 
 frame_kept : (f : Renaming) (c : PlainCode) (before waits : Kinds) (own new shared other : Store) (below : List Placed) (above : ℕ) (w v : Frame) (g : Frozen) → AreKinds c before waits → IsWaiting c own below above w g → AreKept f own new shared other (λ q. owned_by q (at g.kinds) g.holds (length g.kinds) + trees_uses q below) → IsRenamedFrame c.types f own shared (waits w.function w.at) w v → IsRenamedFrame c.types f new other (waits w.function w.at) w v
 frame_kept f c before waits own new shared other below above w v g kinds i k m =

@@ -21,7 +21,7 @@ use Rattle.run_loading.proofs.separation.Calling.{arguments_are}
 use Rattle.task_semantics.specs.Projected.{Renaming, IsRenamedTree, IsRenamedWord}
 use Rattle.task_semantics.proofs.AlikeWords.{AreAlike, used_up_alike, gone_alike}
 
--- a parameter that is asked before the lent ones
+-- a parameter that is checked before the borrowed ones
 abbrev is_passed : Table → Param → Bool
 is_passed tb p = is_scalar_type tb p.ty || not p.lent
 
@@ -108,7 +108,7 @@ all_handed tb f own shared ws vs ks left (size ∷ sizes) (a ∷ rs) n e m = opt
     let more = all_handed tb f own shared ws vs next left sizes rs (omega arith) rest one.alike in
     record { alike = more.alike; words = (one.word, more.words) })
 
--- ---- those that are lent
+-- ---- those that are borrowed
 
 lendable_tree : (tb : Table) (f : Renaming) (own shared : Store) (tail : Bool) (u : ℕ) (k : Kind) (w v : ℕ) → is_lendable tail u k ≡ true → IsRenamedWord tb f own shared k w v → IsRenamedTree tb f own shared u w v
 lendable_tree tb f own shared tail u Gone w v e i = absurd (true≢false (sym e))

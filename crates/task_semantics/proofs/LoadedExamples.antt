@@ -1,4 +1,4 @@
--- The two tasks of the examples are laid as they are said to be, by computation.
+-- The two tasks of the examples are laid out as they are said to be, by computation.
 use Rattle.std.proofs.Common.{◌≡◌, ℕ, ◌+◌, ◌<◌, pos, ap, refl, arith}
 use Rattle.std.specs.Prelude.{FitsSigned, ◌^◌, ◌<◌, ℕ}
 use Rattle.std.specs.Int.{w64}
@@ -15,7 +15,7 @@ is_task m n h k = record {
   typed = ((cons_shape, refl, (small m h, ((nil_shape, refl, tt), tt))), ((cons_shape, refl, (small n k, ((nil_shape, refl, tt), tt))), tt));
 }
 
--- no place stands before the first task's cells
+-- no place is before the first task's cells
 zero_moves : (p : ℕ) → p ≡ 0 + p
 zero_moves p = omega arith
 

@@ -136,7 +136,7 @@ mate_of n (Some b ∷ os) (None ∷ us) p a h e = absurd h
 mate_of n (Some b ∷ os) (Some d ∷ us) zero a h e = record { cell = d; is = refl; like = subst (λ (a : Cell). (d.tag ≡ a.tag) × AreLikeWords (moved n) a.fields d.fields) (same_Some b a e) h.0 }
 mate_of n (Some b ∷ os) (Some d ∷ us) (suc p) a h e = let m = mate_of n os us p a h.1 e in record { cell = m.cell; is = m.is; like = m.like }
 
--- what stands in a store from place n on is like what stands in a store of its own
+-- what is in a store from place n on is like what is in a store of its own
 pub cell_moved : (n : ℕ) (os us : List (Option Cell)) (shared : Store) (p : ℕ) → AreMoved n os us → Has shared n us → cell_in os p ≢ None → IsLikeCell (moved n) (cell_in os p) (cell_at shared (n + p))
 cell_moved n os us shared p h k there = by (cell_in os p) refl there
   where

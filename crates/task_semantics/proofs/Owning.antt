@@ -1,4 +1,4 @@
--- The store of a task's own cells: what is there, what stands there, and that the shared store has it too.
+-- The store of a task's own cells: what is there, what is there, and that the shared store has it too.
 use Rattle.std.proofs.Common.{◌≡◌, ◌≢◌, ℕ, zero, suc, ◌+◌, ◌<◌, ◌≤◌, false, List, [], ◌∷◌, Option, Some, None, refl, sym, ap, ap₂, ◌∙◌, subst, length, map, inl, arith}
 use Rattle.std.proofs.lemmas.List.{length-replicate}
 use Rattle.run_loading.specs.fip_base.declared.plain.Param.{Param}
@@ -51,7 +51,7 @@ same_at s l p h = used_at (uses_by l) s.cells p ∙ kept_if (uses_by l p) (cell_
 pub is_used : (s : Store) (l : Lying) (p : ℕ) → IsThere (own_store s l) p → 0 < uses_by l p
 is_used s l p h = kept_used (uses_by l p) (cell_at s p) (λ e. h (used_at (uses_by l) s.cells p ∙ e))
 
--- ---- what stands there
+-- ---- what is there
 
 pub spares_own : (s u : Store) (ks ps : List ℕ) → SameAt s u (λ q. count q ps) → AreSpare s ks ps → AreSpare u ks ps
 spares_own s u [] [] h g = tt

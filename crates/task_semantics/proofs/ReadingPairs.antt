@@ -114,7 +114,7 @@ placed_part tb s [] (MoreParts y xs) i x e g = absurd g
 placed_part tb s (t ∷ ts) (MoreParts y xs) zero x e g = (t, subst (Stands tb s t) (same_Some y x e) g.0)
 placed_part tb s (t ∷ ts) (MoreParts y xs) (suc i) x e g = placed_part tb s ts xs i x e g.1
 
--- the part of a renamed tree, as it stands in the shared store
+-- the part of a renamed tree, as it is in the shared store
 record HasMatePart (tb : Table) (f : Renaming) (shared : Store) (v i : ℕ) (x : Placed) : Type 0 where
   cell : Cell
   named : R.named shared v ≡ Some cell

@@ -1,4 +1,4 @@
--- Trees and their words under a renaming of places: a renamed tree has the renamed cells, and stands where these have
+-- Trees and their words under a renaming of places: a renamed tree has the renamed cells, and is where these have
 -- its words.
 use Rattle.std.proofs.Common.{◌≡◌, ◌≢◌, ◌⊎◌, inl, inr, ℕ, zero, suc, ◌+◌, ◌*◌, ◌/◌, ◌<◌, List, [], ◌∷◌, ◌++◌, map, Option, Some, None, refl, sym, ap, ap₂, ◌∙◌, subst, arith}
 use Rattle.std.proofs.lemmas.Option.{none-some, same_Some}
@@ -86,7 +86,7 @@ mutual
     | inr rest ↦ let r = renamed_all_uses f xs q rest in let more = r.2 in let z : 0 < uses r.0 x + uses_of_all r.0 xs = omega arith in (r.0, r.1, z)
   ]
 
--- ---- what stands
+-- ---- what is there
 
 -- a renamed tree has the types that the tree has
 mutual

@@ -1,4 +1,4 @@
--- A Ret comes to the same alone and among others.
+-- A Ret ends in the same alone and among others.
 use Rattle.std.proofs.Common.{◌≡◌, inl, ℕ, ◌+◌, ◌<◌, true, List, [], ◌∷◌, length, Some, slice_set, refl, sym, ap, ap₂, ◌∙◌, subst, arith, nat_lt, ◌==◌}
 use Rattle.std.specs.Prelude.{is_some, option_and_then}
 use Rattle.run_loading.specs.fip_language.Table.{Table}

@@ -1,4 +1,4 @@
--- Every step of a task comes to the same alone and among others.
+-- Every step of a task ends in the same alone and among others.
 use Rattle.std.proofs.Common.{◌≡◌, ℕ, List, Some, sym, ap₂, ◌∙◌, subst}
 use Rattle.run_loading.specs.cell_code.declared.code.Instr.{Instr}
 use Rattle.run_loading.specs.cell_code.declared.code.Instr.TheVariants as I

@@ -40,7 +40,7 @@ use Rattle.run_loading.proofs.tree_refinement.tree_semantics.machine_semantics.c
 
 -- ---- the parts
 
--- a tree that is taken apart, alone and among others: its parts, which stand in its cells where there are any
+-- a tree that is taken apart, alone and among others: its parts, which are in its cells where there are any
 record ComesApart (tb : Table) (f : Renaming) (own shared : Store) (w v : ℕ) (y : Placed) (ts : List ℕ) : Type 0 where
   parts : Parts
   part : (i : ℕ) → part_of y i ≡ part_in parts i

@@ -33,7 +33,7 @@ pub record IsTask (c : PlainCode) (t : Task) : Type 0 where
   pub there : function_at c t.function ≡ Some t.header
   pub typed : HaveTypes c.types (map (λ p. p.ty) t.header.params) t.arguments
 
--- the places of a task's cells, and the words that it is given, where n places stand before them
+-- the places of a task's cells, and the words that it is given, where n places are before them
 abbrev pub task_places : ℕ → Task → List (Option Cell)
 task_places n t = all_places n t.arguments ++ credit_places t.header.credits
 

@@ -96,7 +96,7 @@ AreRenamedFrames tb f own shared waits (a ∷ as') (b ∷ bs) =
     IsRenamedFrame tb f own shared (waits a.function a.at) a b × AreRenamedFrames tb f own shared waits as' bs
 AreRenamedFrames tb f own shared waits as' bs = ⊥
 
--- the entry's lent arguments
+-- the entry's borrowed arguments
 abbrev pub AreRenamedArguments : Table → Renaming → Store → Store → List Typed → List Typed → Type 0
 AreRenamedArguments tb f own shared [] [] = Unit {0}
 AreRenamedArguments tb f own shared (a ∷ as') (b ∷ bs) = (b.type ≡ a.type)
@@ -162,7 +162,7 @@ abbrev pub AreLoaded : Kinds → Kinds → PlainCode → List Begun → Type 0
 AreLoaded before waits code tasks =
     (k : ℕ) (t : Begun) → slice_get tasks k ≡ Some t → IsStart code before waits t.function [] t.state
 
--- Loaded tasks that begin together come each to what it comes to alone, whatever the schedule is.
+-- Loaded tasks that begin together end each in what it ends in alone, whatever the schedule is.
 abbrev pub EachIsAlone : Kinds → Kinds → PlainCode → Type 0
 EachIsAlone before waits code = (tasks : List Begun) (first : Shared) → AreLoaded before waits code tasks →
     BeginTogether before waits code tasks first →

@@ -1,9 +1,9 @@
--- For the theorem that each task comes to what it would come to alone: schedules, by which tasks take turns over one
+-- For the theorem that each task ends in what it would end in alone: schedules, by which tasks take turns over one
 -- store.
 --
 -- A schedule is a list of tasks' numbers. In its turn a task does one step, on the cells as the turns before left them;
 -- no other task's frames or calls change. A task that has ended stays as it is, and so do the cells in its turn. Alone,
--- in a store of its own cells, a task does as many steps as its number stands in the schedule.
+-- in a store of its own cells, a task does as many steps as its number occurs in the schedule.
 --
 -- Two tasks rev(Cons(1, Nil), Cons(3, Nil)) and rev(Cons(2, Nil), Cons(4, Nil)) have two cells each. After the turns 0,
 -- 1, 0, 1, .. of both, and also after all turns of task 1 and then all of task 0, each has given its list, in its own

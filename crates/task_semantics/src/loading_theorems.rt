@@ -31,7 +31,7 @@ pub fn loaded_tasks_begin_together()
 
 /// A task that has ended, whatever turns were taken, has ended as alone in a new store, and as its function ends on
 /// trees with its arguments: with words that stand in the shared store for the same values, in the same trap, or out of
-/// calls or frames, with as many calls left and after as many steps. For who reports what the tasks of a list came to.
+/// calls or frames, with as many calls left and after as many steps. For who reports what the tasks of a list ended in.
 pub fn what_tasks_come_to()
     ensures alone { (c : PlainCode) (before waits : Kinds) (tasks : List Task) (alone : List Begun)
         (first : Shared) (schedule : List ℕ) (k : ℕ) (b : Begun) (e : End) (last : State) (left steps : ℕ) →
@@ -47,7 +47,7 @@ pub fn what_tasks_come_to()
         EndsOnTrees c t (record last { store = (scheduled before c schedule first).store }) e left steps }
 {}
 
-/// Whatever turns are drawn, each task comes to an end where it then has turns enough: some schedule that begins with
+/// Whatever turns are drawn, each task reaches an end where it then has turns enough: some schedule that begins with
 /// the drawn turns, and gives turns to the tasks in order after them, ends all. For who runs tasks to their ends.
 pub fn all_tasks_end()
     ensures theorem { (c : PlainCode) (before waits : Kinds) (tasks : List Task) (alone : List Begun) (first : Shared)

@@ -47,7 +47,7 @@ pub fn one_task_is_alone()
         } }
 {}
 
-/// The two tasks of the examples come to the same ends by both schedules, as alone: each gives its list, in its own
+/// The two tasks of the examples reach the same ends by both schedules, as alone: each gives its list, in its own
 /// cells, after 7 steps. With one call each is out of calls. For who wants to see a schedule.
 pub fn an_example_takes_turns()
     ensures alone { alone unknown reversing 1 by_turns (begun (rev_at 0 (store_of (cells_of 2 0 4)) 1 7 0) 2)
@@ -72,7 +72,7 @@ pub fn an_example_of_draws()
 {}
 
 /// The two tasks of the examples begin together, each at places of its own; and by the kinds of their code, which is
-/// sound, each of them is loaded. For who wants to see that what is asked of tasks can be met.
+/// sound, each of them is loaded. For who wants to see that what is required of tasks can be met.
 pub fn an_example_begins_together()
     ensures theorem { BeginTogether at_start at_start reversing tasks_alone (two_tasks 2) }
     ensures together { (before waits : Kinds) → AreKinds reversal before waits →

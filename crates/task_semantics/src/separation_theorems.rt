@@ -27,7 +27,7 @@ pub fn apart_tasks_begin_together()
 
 /// A task that has ended, whatever turns were taken, ended as its function ends on trees with its arguments, calls and
 /// frames: with words that stand in the shared store for the same values, in the same trap, or out of calls or frames.
-/// For who reports what such tasks came to.
+/// For who reports what such tasks ended in.
 pub fn apart_tasks_end_as_on_trees()
     ensures theorem { (c : PlainCode) (before waits : Kinds) (ls : List Lying) (alone : List Begun) (first : Shared)
         (schedule : List ℕ) (k : ℕ) (l : Lying) (e : End) (last : State) (left steps : ℕ) → IsSound c →

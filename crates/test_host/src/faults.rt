@@ -67,7 +67,7 @@ fn is_left_rightly(seen: &Seen, row: Row<'_>, object: Object, before: usize) -> 
 }
 
 // Whether a run ended as it must where a call of an object failed, after so many that didn't: a front part of the text
-// stands where it was being written, and after it on err the fault's line.
+// is where it was being written, and after it on err the fault's line.
 fn is_faulted(seen: &Seen, row: Row<'_>, object: Object, before: usize) -> bool {
     let (out, err) = match object {
         Object::Folder | Object::Input => (0, 0),
@@ -138,8 +138,8 @@ fn are_faults_right<P: Program>(
 }
 
 /// The words of the first row of which a run over a host's files, in which a call of an object fails, doesn't end as it
-/// must: with status 9 and the object's line on err, after what was written of the row's text before. Want of memory
-/// is the one error.
+/// must: with status 9 and the object's line on err, after what was written of the row's text before. Running out of
+/// memory is the one error.
 pub fn first_wrong_faults<'a, P: Program>(
     alloc: Global,
     host: Host<'_>,
@@ -162,9 +162,9 @@ fn is_untold(seen: &Seen, object: Object, written: usize) -> bool {
         && seen.same_files
 }
 
-/// How many runs can't tell a fault where the first call of an object fails, and call 1, 2, .. of err, until one can.
-/// None where one of them ends otherwise than with status 9 and a front part of the fault's line. Want of memory is the
-/// one error.
+/// How many runs can't report a fault where the first call of an object fails, and call 1, 2, .. of err, until one can.
+/// None where one of them ends otherwise than with status 9 and a front part of the fault's line. Running out of memory
+/// is the one error.
 pub fn untold_runs<P: Program>(
     alloc: Global,
     file: &[u8],

@@ -18,7 +18,7 @@ pub struct Ended {
     pub cells: Option<usize>,
 }
 
-/// The program that the tests run. A host that is reported of it by a type stands below it, so that it is proved apart.
+/// The program that the tests run. A host that knows it by a type alone is below it, so that it is proved apart.
 pub trait Program {
     /// Runs the program with these words, the first one its name, over these objects.
     fn run(
@@ -147,8 +147,8 @@ fn stored_in(alloc: Global, folder: &MemFolder) -> Result<Option<Vec<u8>>, Alloc
     }
 }
 
-/// Runs the program with these words after its name, which are parted by one blank each. Want of memory for the host's
-/// objects is the one error.
+/// Runs the program with these words after its name, which are parted by one blank each. Running out of memory for the
+/// host's objects is the one error.
 pub fn run<P: Program>(alloc: Global, words: &str, host: Host<'_>) -> Result<Seen, AllocError> {
     let words = all_words(alloc, words)?;
     let mut folder = folder_of(alloc, &host)?;

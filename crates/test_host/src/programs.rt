@@ -1,4 +1,4 @@
-// Programs that several tests run, and texts that stand in several rows.
+// Programs that several tests run, and texts that are in several rows.
 
 /// Programs over lists, of each kind.
 pub const LISTS: &str = "data ints { Nil; Cons(int, ints) }

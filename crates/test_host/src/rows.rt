@@ -57,7 +57,7 @@ pub(crate) fn is_right(seen: &Seen, row: Row<'_>) -> bool {
         && seen.same_files
 }
 
-// Whether the run of a row over a file ends as the row says, where these words stand before the row's.
+// Whether the run of a row over a file ends as the row says, where these words are before the row's.
 fn ends_right<P: Program>(
     alloc: Global,
     before: &str,
@@ -69,8 +69,8 @@ fn ends_right<P: Program>(
     Ok(is_right(&seen, (words.as_str(), row.1, row.2, row.3)))
 }
 
-/// The words of the first row whose run over a file `a.fp` doesn't end as the row says, where the words `before` stand
-/// before the row's. Want of memory is the one error.
+/// The words of the first row whose run over a file `a.fp` doesn't end as the row says, where the words `before` are
+/// before the row's. Running out of memory is the one error.
 pub fn first_wrong_run<'a, P: Program>(
     alloc: Global,
     before: &str,
@@ -102,8 +102,8 @@ fn is_refused<P: Program>(
     Ok(true)
 }
 
-/// The first of these words, parted by one blank each, that are taken for a command over a file `a.fp`. Want of memory
-/// is the one error.
+/// The first of these words, parted by one blank each, that are taken for a command over a file `a.fp`. Running out of
+/// memory is the one error.
 pub fn first_understood<'a, P: Program>(
     alloc: Global,
     file: &[u8],
@@ -134,8 +134,8 @@ const SOURCE_COMMANDS: &[&str] = &[
 const CODE_COMMANDS: &[&str] = &["verify a.fp", "upgrade a.fp b.fpc", "run a.fp f"];
 
 /// The first row whose source isn't refused as the row says by each command that takes a source. A row is the line on
-/// err, then ` | `, then the source after these first lines, without its last line feed. Want of memory is the one
-/// error.
+/// err, then ` | `, then the source after these first lines, without its last line feed. Running out of memory is the
+/// one error.
 pub fn first_wrong_refusal<'a, P: Program>(
     alloc: Global,
     first_lines: &str,
@@ -154,7 +154,7 @@ pub fn first_wrong_refusal<'a, P: Program>(
 }
 
 /// The first row whose code isn't refused as the row says by each command that takes a code. A row is the line on err,
-/// then ` | `, then the code's hexadecimal digits after those of `head`. Want of memory is the one error.
+/// then ` | `, then the code's hexadecimal digits after those of `head`. Running out of memory is the one error.
 pub fn first_wrong_code<'a, P: Program>(
     alloc: Global,
     head: &str,

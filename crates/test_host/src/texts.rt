@@ -2,7 +2,7 @@
 
 use std::alloc::{AllocError, Global};
 
-/// A text of these parts, each so many times. Want of memory is the one error.
+/// A text of these parts, each so many times. Running out of memory is the one error.
 pub fn repeated(alloc: Global, parts: &[(&str, usize)]) -> Result<String, AllocError> {
     let mut text = String::new(alloc);
     for (part, count) in parts {
@@ -13,8 +13,8 @@ pub fn repeated(alloc: Global, parts: &[(&str, usize)]) -> Result<String, AllocE
     Ok(text)
 }
 
-/// A text that has each number from 0 up to `count`, that one left out, between `before` and `after`. Want of memory is
-/// the one error.
+/// A text that has each number from 0 up to `count`, that one left out, between `before` and `after`. Running out of
+/// memory is the one error.
 pub fn numbered(
     alloc: Global,
     before: &str,
@@ -38,8 +38,8 @@ fn digit_of(byte: u8) -> Option<u8> {
     }
 }
 
-/// The bytes that these hexadecimal digits spell, two a byte, the first one high; what is no digit is passed over. Want
-/// of memory is the one error.
+/// The bytes that these hexadecimal digits encode, two a byte, the first one high; what is no digit is passed over.
+/// Running out of memory is the one error.
 pub fn bytes_of(alloc: Global, digits: &str) -> Result<Vec<u8>, AllocError> {
     let mut bytes = Vec::new(alloc);
     let mut high = None;

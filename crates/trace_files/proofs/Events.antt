@@ -1,4 +1,4 @@
--- An event that is read: its step, its operation and its place, and then what the operation asks for.
+-- An event that is read: its step, its operation and its place, and then what the operation requires.
 use Rattle.std.proofs.Common.{◌≡◌, ◌≢◌, ◌∙◌, ℕ, ◌≤◌, Bool, List, length, Some, sym, ap, ap₂, arith, nat_le, nat_lt}
 use Rattle.std.proofs.lemmas.Bool.{le-leb, lt-ltb}
 use Rattle.run_loading.specs.machine_semantics.Cells.{Release}

@@ -1,4 +1,4 @@
--- Which cells aren't released, and at which places they stand.
+-- Which cells aren't released, and at which places they are.
 use Rattle.std.proofs.Common.{◌≡◌, ◌≢◌, ◌∙◌, ℕ, zero, suc, ◌+◌, ◌<◌, ◌≤◌, Bool, true, false, List, [], ◌∷◌, ◌++◌, length, map, Some, None, slice_get, refl, sym, ap, subst, arith, inl, inr}
 use Rattle.std.specs.Prelude.{◌⊎◌, ◌==◌, slice_set, replicate, if◌then◌else◌}
 use Rattle.std.proofs.lemmas.Bool.{eqb-true, eq-eqb, cases_lt}
@@ -25,7 +25,7 @@ in_order least (x ∷ cs) (suc i) (suc j) a b h e f lt = in_order (suc x.place) 
 
 -- ---- what is left
 
--- none of these cells stands at a place
+-- none of these cells is at a place
 abbrev pub Nowhere : ℕ → List Loaded → Type 0
 Nowhere place cs = (k : ℕ) (c : Loaded) → slice_get cs k ≡ Some c → c.place ≢ place
 

@@ -135,7 +135,7 @@ abbrev size_shown : ℕ → List Shown → Option ℕ
 size_shown q [] = None
 size_shown q (x ∷ xs) = if x.cell.place == q then (if x.gone then None else Some (length x.cell.fields)) else size_shown q xs
 
--- no cell stands there
+-- no cell is there
 Above : ℕ → List Shown → Type 0
 Above q xs = Rising (suc q) xs
 

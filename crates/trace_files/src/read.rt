@@ -20,7 +20,7 @@ const HEAD: &[u8] = b"FP2T\x00\x01";
 // The operation of an event that releases a cell; that of one that gives a cell its words is 0.
 const RELEASE: u8 = 1;
 
-/// The trace that the bytes spell. BadTrace with the least place at which they go wrong. Memory grows with the bytes
+/// The trace that the bytes encode. BadTrace with the least place at which they go wrong. Memory grows with the bytes
 /// that are read.
 pub fn read_trace(alloc: Global, bytes: &[u8]) -> Result<Trace, ReadTraceError>
     ensures got { IfOk result (λ t. (end : ℕ) × (S.read_trace bytes.now ≡ S.Got (plain_trace t) end [])) }

@@ -44,7 +44,7 @@ fn put_u64(text: &mut Vec<u8>, number: u64) -> Result<(), NoMemory>
     Ok(())
 }
 
-// A count, of which there are never more than 32 bits can tell.
+// A count, which never is more than 32 bits can hold.
 fn put_count(text: &mut Vec<u8>, count: usize) -> Result<(), NoMemory>
     ensures text { IfOk result (λ _. text.new.items ≡ text.old.items ++ big_endian 4 count) }
 {

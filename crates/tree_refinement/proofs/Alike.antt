@@ -1,4 +1,4 @@
--- Two gauges tell the same of cells, since each is said by trees.
+-- Two gauges report the same of cells, since each is said by trees.
 use Rattle.std.proofs.Common.{◌≡◌, ◌∙◌, ℕ, ◌+◌, ◌≤◌, List, [], sym, ap}
 use Rattle.std.proofs.lemmas.Option.{same_Some}
 use Rattle.tree_semantics.specs.fip_language.Gauge.{lowest, highest}

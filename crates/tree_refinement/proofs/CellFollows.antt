@@ -1,4 +1,4 @@
--- Rows that change cells: Put, Free, Drop. On trees the same comes of them.
+-- Instructions that change cells: Put, Free, Drop. On trees the same comes of them.
 use Rattle.std.proofs.Common.{◌≡◌, ℕ, suc, ◌+◌, ◌<◌, ◌≤◌, true, ◌&&◌, List, [], ◌∷◌, length, map, Option, Some, None, slice_get, refl, sym, ap, ◌∙◌, subst, true≢false, arith, nat_lt, ◌==◌}
 use Rattle.std.specs.Prelude.{option_and_then, option_map, is_some}
 use Rattle.tree_semantics.specs.fip_language.Values.{Node}

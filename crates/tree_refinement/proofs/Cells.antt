@@ -36,7 +36,7 @@ scalar_cells k tb s t (PlacedInt i) e g = refl
 scalar_cells k tb s t (Bare c) e g = refl
 scalar_cells k tb s t (At p c xs) e g = let none = scalar_bare tb s t (At p c xs) e g p in let one = one_here p p refl in absurd (omega (arith, none, one))
 
--- those of lent words are those of the lent values
+-- those of borrowed words are those of the borrowed values
 lent_cells : (k : ℕ) (tb : Table) (s : Store) (ps : List Param) (xs : Parts) (rest : List ℕ) (zs : List Placed) → StandAll tb s (map (λ p. p.ty) ps) xs → AreTrees tb s (lent_words tb ps (words_of xs ++ rest)) zs → cells_of_trees k zs ≡ cells_of_all k (lent_values ps (values_of xs))
 lent_cells k tb s [] NoParts rest [] g h = refl
 lent_cells k tb s [] NoParts rest (z ∷ zs) g h = absurd h
@@ -84,7 +84,7 @@ highest_by_trees c before waits n s vs calls steps size t b some =
 
 -- ---- the last state
 
--- the lent arguments, as they are at first
+-- the borrowed arguments, as they are at first
 lent_first : (c : PlainCode) (before waits : Kinds) (n : ℕ) (s : State) (vs : Values) (size : ℕ) (t : IsStart c before waits n [] s) → BeginsWith c n s vs → (zs : List Placed) → AreTrees c.types s.store s.lent zs → cells_of_trees size zs ≡ cells_of_all size (lent_values t.function.params vs)
 lent_first c before waits n s vs size t b zs h =
     let lent : s.lent ≡ lent_words c.types t.function.params t.words = ap (λ (u : State). u.lent) (loaded_is c n t.function s.store t.words t.free s t.is t.loaded) in

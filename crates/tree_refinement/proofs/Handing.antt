@@ -23,7 +23,7 @@ use Rattle.separation_bounds.proofs.separation.Calling.{arguments_are}
 use Rattle.tree_refinement.specs.Agreement.{IsWordOf, type_in, Shows, AreShown}
 use Rattle.tree_refinement.proofs.Values.{used_up_shown, gone_shown}
 
--- a parameter that is asked before the lent ones
+-- a parameter that is checked before the borrowed ones
 abbrev pub is_passed : Table → Param → Bool
 is_passed tb p = is_scalar_type tb p.ty || not p.lent
 
@@ -78,7 +78,7 @@ all_handed_on tb s ws cs ks left (size ∷ sizes) [] e m = absurd (none-some lef
 all_handed_on tb s ws cs ks left (size ∷ sizes) (a ∷ rs) e m = option_and_then_some (λ next. hand_all next sizes rs) (hand ks size a) left e (λ next is rest.
     all_handed_on tb s ws cs next left sizes rs rest (handed_one tb s ws cs ks next size a is m))
 
--- ---- those that are lent
+-- ---- those that are borrowed
 
 lendable_type : (tail : Bool) (u : ℕ) (k : Kind) → is_lendable tail u k ≡ true → type_in k ≡ Some u
 lendable_type tail u Gone e = absurd (true≢false (sym e))

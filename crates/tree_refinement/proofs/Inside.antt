@@ -1,4 +1,4 @@
--- A step inside a frame comes to the same on cells and on trees.
+-- A step inside a frame ends in the same on cells and on trees.
 use Rattle.std.proofs.Common.{◌≡◌, inl, inr, ℕ, ◌<◌, List, [], ◌∷◌, length, Some, refl, sym, ap, ◌∙◌, subst, arith}
 use Rattle.std.proofs.lemmas.Option.{same_Some, none-some}
 use Rattle.tree_semantics.specs.fip_language.declared.Operator.{Operator}

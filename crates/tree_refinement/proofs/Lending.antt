@@ -1,5 +1,5 @@
--- The trees of the entry's lent arguments stay through a run.
--- The idea: a step changes only cells that the running frame owns, and the lent arguments' cells are none of these.
+-- The trees of the entry's borrowed arguments stay through a run.
+-- The idea: a step changes only cells that the running frame owns, and the borrowed arguments' cells are none of these.
 use Rattle.std.proofs.Common.{◌≡◌, inl, inr, ℕ, zero, suc, ◌<◌, List, [], ◌∷◌, length, Option, Some, None, refl, sym, ap, ap₂, ◌∙◌, subst, arith}
 use Rattle.tree_semantics.specs.fip_language.declared.Operator.{Operator}
 use Rattle.tree_semantics.specs.fip_language.Store.{Placed}
@@ -44,7 +44,7 @@ trees_once tb s (t ∷ ts) (x ∷ xs) (y ∷ ys) g h = ap₂ (λ z zs. z ∷ zs)
 
 -- ---- a step
 
--- The state has these lent words, which stand for these trees.
+-- The state has these borrowed words, which stand for these trees.
 abbrev pub Lends : PlainCode → List Typed → List Placed → State → Type 0
 Lends c ts xs s = (s.lent ≡ ts) × AreTrees c.types s.store ts xs
 

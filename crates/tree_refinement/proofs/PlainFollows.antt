@@ -1,4 +1,5 @@
--- Rows that change no cell and read no tree: Const, Atom, Move, Jump, TestInt, Arith. On trees the same comes of them.
+-- Instructions that change no cell and read no tree: Const, Atom, Move, Jump, TestInt, Arith. On trees the same comes
+-- of them.
 use Rattle.std.proofs.Common.{◌≡◌, ◌⊎◌, inl, inr, ℕ, suc, ◌+◌, ◌<◌, ℤ, Bool, true, false, ◌&&◌, List, [], ◌∷◌, length, Some, None, slice_get, slice_set, refl, sym, ap, ap₂, ◌∙◌, subst, arith, nat_lt, FitsSigned}
 use Rattle.std.specs.Prelude.{option_and_then, option_map}
 use Rattle.std.specs.Int.{w64}

@@ -1,4 +1,4 @@
--- A Ret comes to the same on cells and on trees.
+-- A Ret ends in the same on cells and on trees.
 use Rattle.std.proofs.Common.{◌≡◌, inl, ℕ, suc, ◌+◌, ◌<◌, true, List, [], ◌∷◌, length, Some, slice_set, refl, sym, ap, ◌∙◌, subst, arith, nat_lt, ◌==◌}
 use Rattle.std.specs.Prelude.{is_some, option_and_then}
 use Rattle.tree_semantics.specs.fip_language.Table.{Table}

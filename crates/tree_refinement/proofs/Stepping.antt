@@ -1,4 +1,4 @@
--- Every step of a state that is alive comes to the same on cells and on trees.
+-- Every step of a state that is alive ends in the same on cells and on trees.
 use Rattle.std.proofs.Common.{◌≡◌, ℕ, List, Some, sym, ap₂, subst}
 use Rattle.separation_bounds.specs.cell_code.declared.code.Instr.{Instr}
 use Rattle.separation_bounds.specs.cell_code.declared.code.Instr.TheVariants as I

@@ -42,7 +42,7 @@ use Rattle.tree_semantics.proofs.machine_semantics.cell_code.fip_base.fip_langua
 
 -- ---- the parts
 
--- a tree that is taken apart: its parts, which stand in its cell where there is one
+-- a tree that is taken apart: its parts, which are in its cell where there is one
 record ComesApart (tb : Table) (s : Store) (w : ℕ) (y : Placed) (ts : List ℕ) : Type 0 where
   parts : Parts
   part : (i : ℕ) → part_of y i ≡ part_in parts i

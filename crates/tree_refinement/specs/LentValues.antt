@@ -1,4 +1,4 @@
--- The values of lent parameters, which a run gives back as they were.
+-- The values of borrowed parameters, which a run gives back as they were.
 --
 -- Where the parameters are ^xs and n, those of Cons(1, Nil) and 2 are Cons(1, Nil) alone.
 use Rattle.std.specs.Prelude.{List, [], ◌∷◌, if◌then◌else◌}

@@ -82,7 +82,7 @@ pub fn a_run_on_cells_ends_as_the_run_on_trees()
 {}
 
 /// The reversal of Cons(1, Cons(2, Nil)) and Nil, whose words are 3 and 0, ends after 11 steps with a word that stands
-/// for Cons(2, Cons(1, Nil)), since it does so on trees. For who wants to see that what is asked can be met.
+/// for Cons(2, Cons(1, Nil)), since it does so on trees. For who wants to see that what is required can be met.
 pub fn an_example_ends_as_on_trees()
     ensures begins { (before waits : Kinds) → AreKinds reversal before waits →
         IsStart reversal before waits 0 [] (first listed 3)

@@ -15,8 +15,9 @@ ghost use Rattle.tree_refinement.specs.Alike.{IsAlike};
 ghost use Rattle.tree_refinement.specs.LentValues.{lent_values};
 
 /// Two runs of a function of sound code on the same values, with the same calls and free frames, end alike, wherever
-/// the cells of each lie: with the same calls left, after the same steps. And both gauges tell the same: of the stack,
-/// and where no other cells are kept, of the cells too, of a run that gives values. For who loads a run elsewhere.
+/// the cells of each lie: with the same calls left, after the same steps. And both gauges report the same: of the
+/// stack, and where no other cells are kept, of the cells too, of a run that gives values. For who loads a run
+/// elsewhere.
 pub fn a_run_is_the_same_wherever_its_cells_lie()
     ensures ends { (c : PlainCode) (before waits first other : Kinds) (n : ℕ) (kept more : List ℕ) (s u : State)
         (vs : Values) (calls : ℕ) (e d : End) (last end : State) (left rest steps done : ℕ) →
@@ -54,7 +55,7 @@ pub fn a_run_is_the_same_wherever_its_cells_lie()
 
 /// What the gauge of a run of sound code reports of the cells of each size, by trees: as the highest number that of the
 /// arguments' cells and the credits, and where the run gives values, as the lowest that of the results' cells and the
-/// lent arguments'. For who computes it without a run.
+/// borrowed arguments'. For who computes it without a run.
 pub fn a_gauge_of_cells_is_said_by_trees()
     ensures highest { (c : PlainCode) (before waits : Kinds) (n : ℕ) (s : State) (vs : Values)
         (calls steps size : ℕ) → (t : IsStart c before waits n [] s) → BeginsWith c n s vs → 1 ≤ size →

@@ -2,7 +2,7 @@
 -- data ints { Nil; Cons(int, ints) }
 -- fip fun rev(xs: ints, acc: ints): ints { match! xs { Nil -> acc; Cons(x, t) -> rev(t, Cons(x, acc)) } }
 -- fbip fun inc(xs: ints): ints { match! xs { Nil -> Nil; Cons(x, t) -> Cons(x + 1, inc(t)) } }
--- where the `+` stands at 3:77. Function 0 is rev and function 1 is inc.
+-- where the `+` is at 3:77. Function 0 is rev and function 1 is inc.
 use Rattle.std.specs.Prelude.{pos, List, [], ◌∷◌, codes, replicate}
 use Rattle.machine_semantics.specs.cell_code.declared.code.CodeKind.TheVariants.{Fbip}
 use Rattle.machine_semantics.specs.fip_language.declared.Operator.TheVariants.{Add}

@@ -13,7 +13,7 @@ pub record Frame : Type 0 where
   pub at : ℕ
   pub contents : Contents
 
--- the frames that wait stand from the caller of the running one down to the entry's
+-- the frames that wait are from the caller of the running one down to the entry's
 pub record State : Type 0 where
   pub running : Frame
   pub waiting : List Frame

@@ -57,7 +57,8 @@ two_broken = refl
 no_second : instance_faults lists 4 (body (0 ∷ []) (Let (binder 0 None ∷ []) (Give (unknown 30)) (Last (Operation Add (at 41) (Variable (Some 0) [] (at 40)) (Literal (pos 1) (at 42)))))) ≡ broken E31 (at 30) 4 (122 ∷ []) ∷ []
 no_second = refl
 
--- Nil where two results are wanted: E34 for the number, and no E32, since types are expected; Nil(0) there breaks E33 too
+-- Nil where two results are expected: E34 for the number, and no E32, since types are expected; Nil(0) there breaks E33
+-- too
 two_wanted : instance_faults lists 4 (body (2 ∷ 2 ∷ []) (Last (Give nil))) ≡ broken E34 (at 33) 4 [] ∷ []
 two_wanted = refl
 

@@ -1,4 +1,4 @@
--- A let without what stands after it: its bound expression and its binders.
+-- A let without what is after it: its bound expression and its binders.
 use Rattle.std.specs.Prelude.{ℕ, List, ◌++◌, Option}
 use Rattle.fip_trees.specs.declared.least.Violation.{Violation}
 use Rattle.fip_trees.specs.Tree.{Expression}

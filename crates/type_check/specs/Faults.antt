@@ -1,7 +1,7 @@
 -- What breaks the rules on types, as one list in the order of a walk; the types that are found on the way; and the tree
 -- with its slots filled. What has no type because of a violation has a hidden type (none), with which nothing differs.
 --
--- An expression wants as many results as `ts` has, and where `b` these types.
+-- An expression is expected to have as many results as `ts` has, and where `b` these types.
 use Rattle.std.specs.Prelude.{ℕ, suc, Bool, true, false, not, ◌&&◌, List, [], ◌∷◌, ◌++◌, map, length}
 use Rattle.std.specs.Prelude.{Option, Some, None}
 use Rattle.std.specs.Prelude.{is_none, ◌==◌, nat_lt}
@@ -104,7 +104,7 @@ abbrev mutual
   patterns_faults w i ts (MorePatterns p ps) =
       pattern_faults w i (first_type ts) p ++ patterns_faults w i (others ts) ps
 
--- results of known types, where `us` are wanted
+-- results of known types, where `us` are expected
 abbrev pub results_faults : ℕ → Place → Bool → List (Option ℕ) → List ℕ → List Violation
 results_faults i p b us ts =
     when (not (length ts == length us)) (broken E34 p i []) ++

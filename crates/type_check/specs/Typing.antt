@@ -1,5 +1,5 @@
 -- It serves proofs: which bodies are typed, as a relation. A program is typed just where it breaks no rule on types
--- (`typed_exactly`), and the report asks that.
+-- (`typed_exactly`), and the report requires that.
 --
 -- Every type is known from headers, annotations and constructors: the types expected come from a function's results,
 -- from parameters, from fields and from operators, which expect int. A let whose binders all have annotations expects
@@ -7,7 +7,7 @@
 -- expression, and a match to its clauses; where nothing is expected of a match, its first clause's types are expected
 -- of the others. A constructor of a data type with parameters has a type only where one is expected.
 --
--- In each relation `f` reports whether the slots are asked to be filled, and `b` whether the types are expected: if not,
+-- In each relation `f` says whether the slots must be filled, and `b` whether the types are expected: if not,
 -- they are only found. So with `f` false these are the rules, and with `f` true the same rules say that a tree is well
 -- typed by the types in its slots.
 use Rattle.std.specs.Prelude.{◌≡◌, ◌≤◌, ℕ, Bool, true, false, List, [], ◌∷◌, ◌++◌, map, length, Option, Some, None}
@@ -25,7 +25,7 @@ use Rattle.type_check.specs.Scope.{Scope, of_binder}
 use Rattle.type_check.specs.World.{World, world, is_of, plain_type, fields_of, head, result_of}
 pub use Rattle.type_check.specs.BoundVariables.{bound_by, bound_by_all, parameter_entries, parameter_scope}
 
--- a slot that is asked to be filled holds the type
+-- a slot that must be filled holds the type
 abbrev pub Slot : Bool → ℕ → ℕ → Type 0
 Slot false u t = Unit {0}
 Slot true u t = u ≡ t

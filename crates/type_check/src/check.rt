@@ -29,7 +29,7 @@ use std::alloc::Global;
 /// - E30: an argument, a call, an operator or a pattern has another type than the one expected, or a binder of a let of
 ///   which only some binders have annotations has another than the type found;
 /// - E31: a variable isn't in scope;
-/// - E32: a constructor of a data type with parameters stands where no type is expected;
+/// - E32: a constructor of a data type with parameters occurs where no type is expected;
 /// - E33: a call, a constructor or a pattern has the wrong number of parts;
 /// - E34: a tuple or a header has more than eight results, or there are more or fewer results than expected.
 ///

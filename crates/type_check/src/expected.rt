@@ -93,7 +93,7 @@ fn known_at(types: &[u32], index: usize) -> Found
     }
 }
 
-/// What a slot holds: int stands where no type was found, and then the program is refused.
+/// What a slot holds: int is put where no type was found, and then the program is refused.
 pub(crate) fn slot(found: Found) -> u32
     ensures { result ≡ slot found }
 {

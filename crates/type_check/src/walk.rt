@@ -49,7 +49,7 @@ impl Walk<'_> {
         Ok(())
     }
 
-    /// Notes where there are more or fewer parts than wanted.
+    /// Notes where there are more or fewer parts than expected.
     pub(crate) fn note_count(
         &self,
         count: usize,

@@ -103,7 +103,7 @@ module _ (w : World) where
     matching_all_same ts (MorePatterns q ps) End = refl
     matching_all_same ts (MorePatterns q ps) (More v vs) = both_same _ _ _ _ (matching_same (first_type ts) q v) (matching_all_same (others ts) ps vs)
 
-  -- a clause with its types filled in, where the bodies and what stands after them are the same
+  -- a clause with its types filled in, where the bodies and what is after them are the same
   clause_same : (t : Option ℕ) (q : Pattern) (v : Value) (go go' : List Binding → Run) (r r' : Run) → ((bs : List Binding) → go bs ≡ go' bs) → r ≡ r' → if_matches (matching (fill_pattern w t q) v) go r ≡ if_matches (matching q v) go' r'
   clause_same t q v go go' r r' same e =
       ap (λ o. if_matches o go r) (matching_same t q v) ∙ if_matches-same (matching q v) go go' r r' same e

@@ -1,5 +1,5 @@
 -- What a typed program gives is of its types, whether or not its matches have a clause for each value: by induction on
--- the calls that stand above one another, and then on the trees.
+-- the calls that are nested, and then on the trees.
 use Rattle.std.proofs.Common.{◌≡◌, ◌<◌, ℕ, zero, suc, Bool, true, false, List, [], ◌∷◌, ◌++◌, map, length, Option, Some, None, slice_get, refl, sym, ap, ◌∙◌, subst}
 use Rattle.match_cover.specs.fip_language.declared.Place.{Place}
 use Rattle.match_cover.specs.fip_language.declared.Operator.{Operator}

@@ -1,5 +1,5 @@
 -- A typed program, whose matches have a clause for each value, is never stuck, and what it gives is of its type: by
--- induction on the calls that stand above one another, and then on the trees.
+-- induction on the calls that are nested, and then on the trees.
 use Rattle.std.proofs.Common.{◌≡◌, ◌<◌, ℕ, zero, suc, Bool, true, false, List, [], ◌∷◌, ◌++◌, map, length, is_some, Option, Some, None, slice_get, if◌then◌else◌, arith, refl, sym, ap, ◌∙◌, subst}
 use Rattle.match_cover.specs.fip_language.declared.Place.{Place}
 use Rattle.match_cover.specs.fip_language.declared.Operator.{Operator}

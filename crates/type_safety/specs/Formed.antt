@@ -1,6 +1,6 @@
--- What is asked of the numbers of a typed program, beside its types. Literals have 64 bits, a constructor's number is
--- that of a constructor of its type, and a call's that of an instance; an instance has as many binders as parameters;
--- type 1 is bool, whose constructors 0 and 1 have no fields.
+-- What is required of the numbers of a typed program, beside its types. Literals have 64 bits, a constructor's number
+-- is that of a constructor of its type, and a call's that of an instance; an instance has as many binders as
+-- parameters; type 1 is bool, whose constructors 0 and 1 have no fields.
 -- For example Cons(1, Nil), where Nil and Cons are the constructors 0 and 1 of its type, is formed so.
 use Rattle.std.specs.Prelude.{◌≡◌, ◌<◌, ℕ, List, [], ◌∷◌, length, Some, slice_get, FitsSigned}
 use Rattle.std.specs.Int.{w64}

@@ -1,4 +1,4 @@
--- The source without any text is accepted: each rule asks something of items that there aren't.
+-- The source without any text is accepted: each rule requires something of items that there aren't.
 use Rattle.std.proofs.Common.{◌≡◌, ℕ, zero, suc, ◌<◌, ◌≤◌, ◌⊎◌, [], ◌∷◌, Some, refl, inl, inr, arith}
 use Rattle.std.proofs.lemmas.Option.{none-some}
 use Rattle.source_report.specs.fip_language.declared.rule.Rule.{Rule}
@@ -82,7 +82,7 @@ flat = record { core = nothing; declared = declared; numbers = numbers; few = fe
 typed : IsTyped [] empty_program
 typed = record { untyped = empty_program; flat = flat; typed = refl; is = refl }
 
--- ---- what is asked of instances
+-- ---- what is required of instances
 
 pub matched : IsMatched [] empty_program
 matched = record {

@@ -1,5 +1,5 @@
--- The stack numbers of push and top: they solve what the one call asks, and each is a frame's words, so they are the
--- least.
+-- The stack numbers of push and top: they solve what the one call requires, and each is a frame's words, so they are
+-- the least.
 use Rattle.std.proofs.Common.{◌≡◌, ℕ, zero, suc, ◌+◌, ◌≤◌, Bool, false, List, [], ◌∷◌, Option, Some, refl, sym, ap, subst, arith, slice_get}
 use Rattle.source_report.specs.tail_groups.Registers.{registers}
 use Rattle.source_report.specs.tail_groups.Members.{frame}

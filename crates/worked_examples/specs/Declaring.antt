@@ -1,4 +1,4 @@
--- Declarations of the examples, each in a program without functions, with the places where they stand in its text.
+-- Declarations of the examples, each in a program without functions, with the places where they are in its text.
 use Rattle.std.specs.Prelude.{[], ◌∷◌, List, codes}
 use Rattle.source_report.specs.fip_language.declared.Place.{Place}
 use Rattle.source_report.specs.fip_language.Core.{Name, Written, WrittenName, NoWritten, MoreWritten, DataConstructor, Data}

@@ -1,4 +1,4 @@
-// A task that is laid aside without the code that it runs over.
+// A task that is put aside without the code that it runs over.
 ghost use Rattle.std.specs.Prelude.{◌≡◌, ◌<◌, [], length, take};
 ghost use Rattle.fip_machine.specs.Pausing.{CanResume, instrs_at, stand_of};
 
@@ -30,7 +30,7 @@ pub struct Paused {
 }
 
 impl<'a> TaskStack<'a> {
-    /// Lays the task aside. It takes no memory.
+    /// Puts the task aside. It takes no memory.
     pub fn pause(self) -> Paused
         ensures can { CanResume self.entry.code result }
         ensures same { stand_of self.entry.code result ≡ self.entry }

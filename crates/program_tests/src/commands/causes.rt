@@ -1,4 +1,4 @@
-// Which cause is named where several stand together, and what isn't read or stored then.
+// Which cause is named where several are together, and what isn't read or stored then.
 
 use crate::program::Fp2;
 use std::alloc::{AllocError, Global};

@@ -249,7 +249,8 @@ fn registers_and_matched_constructors_are_limited(rt: HostRuntime) -> Result<(),
     Ok(())
 }
 
-// A source whose code has 3,500 types with a constructor of 5,000 letters each, which no code file of 16 MiB can spell.
+// A source whose code has 3,500 types with a constructor of 5,000 letters each, which no code file of 16 MiB can
+// encode.
 fn long_code(alloc: Global) -> Result<String, AllocError> {
     let mut source = String::new(alloc);
     for number in 0..64 {

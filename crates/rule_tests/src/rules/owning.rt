@@ -8,7 +8,7 @@ use test_host::first_wrong_refusal;
 const TYPES: &str = "data ints { Nil; Cons(int, ints) } data list[a] { End; More(a, list[a]) }
 ";
 
-// Stands before each source that lends.
+// Stands before each source that borrows.
 const LENGTH: &str = "data ints { Nil; Cons(int, ints) } data list[a] { End; More(a, list[a]) }
 fip fun len(^xs: ints, n: int): int { match xs { Nil -> n; Cons(_, t) -> len(t, n + 1) } }
 ";

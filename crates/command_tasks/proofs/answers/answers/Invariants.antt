@@ -6,7 +6,7 @@ use Rattle.fip_tasks.specs.task_semantics.Schedules.{Shared}
 use Rattle.command_tasks.specs.Telling.{AreTaskLines, CanRun, EndAs, ShowsSome}
 use Rattle.command_tasks.proofs.answers.answers.Given as goal
 
--- the tasks stay as many, they stand where some schedule leads, and those before k have their lines
+-- the tasks stay as many, they are where some schedule leads, and those before k have their lines
 abbrev pub invariant-loop-k : goal.invariant-loop-k
 invariant-loop-k l = record {
   number : length l.tasks.tasks ≡ length l.starts;

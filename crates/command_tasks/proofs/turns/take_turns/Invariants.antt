@@ -5,7 +5,7 @@ use Rattle.fip_tasks.specs.task_semantics.Schedules.{Shared}
 use Rattle.command_tasks.specs.Telling.{CanRun, ShowsSome}
 use Rattle.command_tasks.proofs.turns.take_turns.Given as goal
 
--- the tasks stay as many, what is drawn has 31 bits, and they stand where some schedule leads
+-- the tasks stay as many, what is drawn has 31 bits, and they are where some schedule leads
 abbrev pub invariant-loop : goal.invariant-loop
 invariant-loop l = record {
   number : length l.tasks.tasks ≡ length l.initial.tasks.tasks;

@@ -1,4 +1,4 @@
--- The cells stay, at most one word was pushed for each field, and those of the fields so far stand on the stack.
+-- The cells stay, at most one word was pushed for each field, and those of the fields so far are on the stack.
 use Rattle.std.proofs.Common.{◌≡◌, ◌+◌, ◌≤◌, List, ◌++◌, Some, drop, length}
 use Rattle.fip_language.specs.Store.{Cell}
 use Rattle.cell_store.specs.Cells.{cell_at, number}

@@ -2,7 +2,7 @@ use Rattle.std.proofs.Common.{◌≡◌, ◌≤◌, drop}
 use Rattle.session_semantics.specs.Lines.{symbols, skip}
 use Rattle.session_lines.proofs.scan.after_blanks.Given as goal
 
--- what stood before is blanks
+-- what was before is blanks
 abbrev pub invariant-loop-i : goal.invariant-loop-i
 invariant-loop-i l = record {
   from : l.at ≤ l.i;
